@@ -1,0 +1,17 @@
+-- Numbers in bytes, high byte first.
+use Prim.Native.Nat.{ℕ, zero, suc, _+_, _*_, _/_, _%_}
+use mathlib.Core.List.{List, [], _∷_, _++_}
+
+-- the number that bytes make after a number of higher bytes
+abbrev pub beFrom : ℕ → List ℕ → ℕ
+beFrom a [] = a
+beFrom a (b ∷ bs) = beFrom (a * 256 + b) bs
+
+-- the number that bytes make
+abbrev pub beOf : List ℕ → ℕ
+beOf s = beFrom 0 s
+
+-- a number in n bytes
+abbrev pub bytesOf : ℕ → ℕ → List ℕ
+bytesOf zero x = []
+bytesOf (suc n) x = bytesOf n (x / 256) ++ (x % 256 ∷ [])

@@ -1,0 +1,3 @@
+pub mod Order
+pub mod BigEndian
+pub mod Put
