@@ -1,3 +1,7 @@
 pub mod Order
 pub mod BigEndian
+pub mod Sign
+pub mod Sum
+pub mod Text
 pub mod Put
+pub mod Writer
