@@ -2,9 +2,9 @@
 use Prim.Native.Nat.{ℕ, _*_}
 use mathlib.Core.List.{List}
 use lib.Dec.{eqb, ltb}
-use lib.ListN.{getD, take, drop}
+use lib.ListN.{getD}
 use Rattle.wire.specs.Order.{_if_else_}
-use Rattle.wire.specs.BigEndian.{beOf}
+use Rattle.wire.specs.BigEndian.{beAt}
 use Rattle.field.specs.Types.{sizeOf, firstBitType}
 
 -- "Scalar: type 0, name 1 (34), units 35 (10), style 45, scale 46 (f32), transform 50 (f32), digits 54, category 55 (34)."
@@ -25,11 +25,11 @@ unitsLen = 10
 
 -- the pattern of the scale, an f32
 abbrev pub scaleBits : List ℕ → ℕ
-scaleBits d = beOf (take 4 (drop 46 d))
+scaleBits d = beAt 4 d 46
 
 -- the pattern of the transform, an f32
 abbrev pub transformBits : List ℕ → ℕ
-transformBits d = beOf (take 4 (drop 50 d))
+transformBits d = beAt 4 d 50
 
 abbrev pub categoryAt : ℕ
 categoryAt = 55
@@ -39,7 +39,7 @@ categoryLen = 34
 
 -- "Bit field: styles 45 and 46, names index 47 (32 bits), bits 51, filler 52 (3)."
 abbrev pub namesIndex : List ℕ → ℕ
-namesIndex d = beOf (take 4 (drop 47 d))
+namesIndex d = beAt 4 d 47
 
 abbrev pub bitsOf : List ℕ → ℕ
 bitsOf d = getD d 51 0

@@ -23,7 +23,11 @@ pub fn is_served(version: u16) -> bool
 pub fn layout_of(version: u16) -> Layout
     ensures { λ r. ⌜ r ≡ layoutOf version ⌝ }
 {
-    Layout { header: 24, info: 4, field: 89 }
+    Layout {
+        header: 24,
+        info: 4,
+        field: 89,
+    }
 }
 
 const SIZES: [u8; 13] = [1, 1, 2, 2, 4, 4, 8, 4, 0, 0, 1, 2, 4];

@@ -1,42 +1,39 @@
 use borrow.Author.Needs.{needs}
 use Rattle.field.proofs.type_number.Statement.{statement}
 use Rattle.field.proofs.type_number.Tie as tie
-use Rattle.field.proofs.type_number.Reads as reads
-use Rattle.field.proofs.type_number.Lts as lts
-use Rattle.field.proofs.byte_at.Reads as byte-at-reads
-use Rattle.field.proofs.size_of.Reads as size-of-reads
+use native.Mathlib.Omega.{arith}
+use lib.ListN.{getD}
+use Rattle.wire.proofs.Orders.{order}
+use Rattle.field.specs.Field.{typeNumber}
+use Rattle.field.proofs.Types.{size-most}
 
--- src/lib.rt:49:9
 byte-at-requires : tie.Need-byte-at-requires
 byte-at-requires c κs = search needs
 
--- src/lib.rt:50:9
 size-of-requires : tie.Need-size-of-requires
 size-of-requires c κs = search needs
 
--- src/lib.rt:52:9
 returns : tie.Need-returns
-returns c = ?
+unfolding typeNumber
+returns c = rw (← c .before .before .byte-at .ensures, ← c .before .size-of .ensures) (search order depth 12)
 
--- src/lib.rt:55:9
 returns-2 : tie.Need-returns-2
-returns-2 c = ?
+unfolding typeNumber
+returns-2 c = rw (← c .before .before .before .byte-at .ensures, ← c .before .before .size-of .ensures) (search order depth 12)
 
--- src/lib.rt:57:8
 mul-if3 : tie.Need-mul-if3
-mul-if3 c = ?
+mul-if3 c = omega (arith, size-most (c .before .before .before .byte-at .result))
 
--- src/lib.rt:57:19
 byte-at-requires-2 : tie.Need-byte-at-requires-2
 byte-at-requires-2 c κs = search needs
 
--- src/lib.rt:58:9
 returns-3 : tie.Need-returns-3
-returns-3 c = ?
+unfolding typeNumber
+returns-3 c = rw (← c .before .before .before .before .before .byte-at .ensures, ← c .before .before .before .before .size-of .ensures, ← c .before .byte-at2 .ensures) (search order depth 12)
 
--- src/lib.rt:46:1
 returns-4 : tie.Need-returns-4
-returns-4 c = ?
+unfolding typeNumber
+returns-4 c = rw (← c .before .before .before .before .before .byte-at .ensures, ← c .before .before .before .before .size-of .ensures, ← c .before .byte-at2 .ensures) (search order depth 12)
 
 pub type-number-spec : {M : Type 1} → statement M
 type-number-spec =
