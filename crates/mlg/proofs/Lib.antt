@@ -1,0 +1,4 @@
+pub mod Layouts
+pub mod EachField
+pub mod Areas
+pub mod Places

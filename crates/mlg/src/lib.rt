@@ -1,0 +1,361 @@
+// MLG files: reading and writing headers and blocks.
+ghost use mathlib.Core.Path.{_≡_};
+ghost use mathlib.Core.Bool.{Bool, true, false};
+ghost use Prim.Native.Nat.{ℕ, _+_, _*_, _-_, _<_, _≤_, _^_};
+ghost use lib.ListN.{length, take, drop};
+ghost use lib.Dec.{eqb, ltb, leb};
+ghost use Rattle.wire.specs.BigEndian.{beAt};
+ghost use Rattle.wire.specs.Text.{zeros};
+ghost use Rattle.field.specs.Layout.{headerLen, infoLen, fieldLen};
+ghost use Rattle.field.specs.Field.{fieldSize};
+ghost use Rattle.mlg.specs.Area.{ended, areaOf};
+ghost use Rattle.mlg.specs.Fields.{unended, textsNumber, namesNumber, fieldNumber, fieldsNumber, sizes};
+ghost use Rattle.mlg.specs.Header.{numbersOf, fieldsEnd, nameNumber, placesNumber, lastNumber, fieldsFrom, areaIn, headNumber, headerOf, headAnswer};
+
+// The numbers of a header: version, time, info start, data begin, record length, field count.
+pub struct Header {
+    pub version: u16,
+    pub time: u32,
+    pub info: u32,
+    pub begin: u32,
+    pub size: u16,
+    pub count: u16,
+}
+
+// What a file's header says, or the number that refuses it.
+pub enum Head {
+    Is(Header),
+    Refused(u8),
+}
+
+// The version's layout.
+
+fn header_len(version: u16) -> usize
+    ensures { λ r. ⌜ r ≡ headerLen version ⌝ }
+{
+    let l = field::layout_of(version);
+    l.header
+}
+
+fn info_len(version: u16) -> usize
+    ensures { λ r. ⌜ r ≡ infoLen version ⌝ }
+{
+    let l = field::layout_of(version);
+    l.info
+}
+
+fn field_len(version: u16) -> usize
+    ensures { λ r. ⌜ r ≡ fieldLen version ⌝ }
+{
+    let l = field::layout_of(version);
+    l.field
+}
+
+// A field.
+
+fn open_text(d: &[u8], at: usize, n: usize) -> bool
+    requires { ⌜ (at + n ≤ length (now d)) × (at + n < 2 ^ 64) ⌝ }
+    ensures { λ r. ⌜ r ≡ unended (now (d .entry)) at n ⌝ }
+{
+    n <= wire::text_len(&d[at..at + n])
+}
+
+fn texts_number(d: &[u8], version: u16) -> u8
+    requires { ⌜ length (now d) ≡ fieldLen version ⌝ }
+    ensures { λ r. ⌜ r ≡ textsNumber (now (d .entry)) ⌝ }
+{
+    if open_text(d, 1, 34) {
+        return 28;
+    }
+    if open_text(d, 35, 10) {
+        return 28;
+    }
+    if open_text(d, 55, 34) {
+        return 28;
+    }
+    0
+}
+
+// Whether a place is past the names and info with its zero.
+fn past_area(names: &[u8], info: &[u8], at: usize) -> bool
+    ensures { λ r. ⌜ r ≡ leb (length (areaOf (now (names .entry)) (now (info .entry)))) at ⌝ }
+{
+    if at < names.len() {
+        return false;
+    }
+    if info.len() == 0 {
+        return true;
+    }
+    info.len() < at - names.len()
+}
+
+// How many zeros info with its zero has from a place on.
+fn ended_zeros(info: &[u8], at: usize) -> usize
+    ensures { λ r. ⌜ (r ≡ zeros (drop at (ended (now (info .entry))))) × (r ≤ length (now (info .entry)) + 1) ⌝ }
+{
+    if info.len() == 0 {
+        return 0;
+    }
+    if info.len() < at {
+        return 0;
+    }
+    wire::zero_count(&info[at..]) + 1
+}
+
+// How many zeros the names and info with its zero have from a place on.
+fn area_zeros(names: &[u8], info: &[u8], at: usize) -> usize
+    ensures { λ r. ⌜ r ≡ zeros (drop at (areaOf (now (names .entry)) (now (info .entry)))) ⌝ }
+{
+    if names.len() <= at {
+        return ended_zeros(info, at - names.len());
+    }
+    let more = ended_zeros(info, 0);
+    wire::zero_count(&names[at..]) + more
+}
+
+fn names_number(base: usize, names: &[u8], info: &[u8], d: &[u8]) -> u8
+    requires { ⌜ 55 ≤ length (now d) ⌝ }
+    ensures { λ r. ⌜ r ≡ namesNumber base (areaOf (now (names .entry)) (now (info .entry))) (now (d .entry)) ⌝ }
+{
+    let t = d[0];
+    if t < 10 {
+        return 0;
+    }
+    let bits = d[51] as usize;
+    if bits == 0 {
+        return 0;
+    }
+    let index = wire::be32(d, 47) as usize;
+    if index < base {
+        return 23;
+    }
+    let at = index - base;
+    if past_area(names, info, at) {
+        return 23;
+    }
+    let count = area_zeros(names, info, at);
+    if count < bits {
+        return 28;
+    }
+    0
+}
+
+fn field_number(version: u16, base: usize, names: &[u8], info: &[u8], d: &[u8]) -> u8
+    requires { ⌜ length (now d) ≡ fieldLen version ⌝ }
+    ensures { λ r. ⌜ r ≡ fieldNumber base (areaOf (now (names .entry)) (now (info .entry))) (now (d .entry)) ⌝ }
+{
+    let a = field::type_number(d);
+    if a != 0 {
+        return a;
+    }
+    let b = texts_number(d, version);
+    if b != 0 {
+        return b;
+    }
+    names_number(base, names, info, d)
+}
+
+// A number that refuses fields, and the sum of their sizes.
+struct Checked {
+    number: u8,
+    total: usize,
+}
+
+// The number and the size of the field at a place of the fields' bytes.
+fn field_at(
+    version: u16,
+    fields: &[u8],
+    at: usize,
+    base: usize,
+    names: &[u8],
+    info: &[u8],
+) -> Checked
+    requires { ⌜ at + fieldLen version ≤ length (now fields) ⌝ }
+    ensures { λ r. ⌜ (r .number ≡ fieldNumber base (areaOf (now (names .entry)) (now (info .entry))) (take (fieldLen version) (drop at (now (fields .entry)))))
+        × (r .total ≡ fieldSize (take (fieldLen version) (drop at (now (fields .entry))))) ⌝ }
+{
+    let len = field_len(version);
+    let d = &fields[at..at + len];
+    let number = field_number(version, base, names, info, d);
+    let total = field::size_of(d[0]) as usize;
+    Checked { number, total }
+}
+
+// The first number that a field gives, and, where there is none, the sum of the fields' sizes.
+fn check_fields(
+    version: u16,
+    fields: &[u8],
+    count: u16,
+    base: usize,
+    names: &[u8],
+    info: &[u8],
+) -> Checked
+    requires { ⌜ fieldLen version * count ≤ length (now fields) ⌝ }
+    ensures { λ r. ⌜ (r .number ≡ fieldsNumber version base (areaOf (now (names .entry)) (now (info .entry))) count (now (fields .entry)))
+        × (r .number ≡ 0 → r .total ≡ sizes version count (now (fields .entry))) ⌝ }
+{
+    let len = field_len(version);
+    let mut at: usize = 0;
+    let mut left = count as usize;
+    let mut total: usize = 0;
+    while left != 0 {
+        let field = field_at(version, fields, at, base, names, info);
+        let number = field.number;
+        if number != 0 {
+            return Checked { number, total: 0 };
+        }
+        total += field.total;
+        at += len;
+        left -= 1;
+    }
+    Checked { number: 0, total }
+}
+
+// The header.
+
+fn info_at(file: &[u8], version: u16) -> u32
+    ensures { λ r. ⌜ r ≡ beAt (infoLen version) (now (file .entry)) 12 ⌝ }
+{
+    wire::be32(file, 12)
+}
+
+// The header's numbers, as they stand.
+fn numbers(file: &[u8]) -> Header
+    ensures { λ r. ⌜ r ≡ numbersOf (now (file .entry)) ⌝ }
+{
+    let version = wire::be16(file, 6);
+    let time = wire::be32(file, 8);
+    let info = info_at(file, version);
+    let w = info_len(version);
+    let begin = wire::be32(file, 12 + w);
+    let size = wire::be16(file, 16 + w);
+    let count = wire::be16(file, 18 + w);
+    Header {
+        version,
+        time,
+        info,
+        begin,
+        size,
+        count,
+    }
+}
+
+fn name_number(file: &[u8]) -> u8
+    ensures { λ r. ⌜ r ≡ nameNumber (now (file .entry)) ⌝ }
+{
+    if file.len() < header_len(2) {
+        return 20;
+    }
+    if wire::be48(file, 0) != 0x4D4C564C4700 {
+        return 21;
+    }
+    if field::is_served(wire::be16(file, 6)) {
+        0
+    } else {
+        22
+    }
+}
+
+fn fields_end(h: Header) -> usize
+    ensures { λ r. ⌜ r ≡ fieldsEnd h ⌝ }
+{
+    header_len(h.version) + field_len(h.version) * (h.count as usize)
+}
+
+fn places_number(n: usize, h: Header) -> u8
+    ensures { λ r. ⌜ r ≡ placesNumber n h ⌝ }
+{
+    let end = fields_end(h);
+    let begin = h.begin as usize;
+    let info = h.info as usize;
+    if n < end {
+        return 20;
+    }
+    if begin < end {
+        return 23;
+    }
+    if n < begin {
+        return 23;
+    }
+    if info == 0 {
+        return 0;
+    }
+    if info < end {
+        return 23;
+    }
+    if begin <= info {
+        return 23;
+    }
+    0
+}
+
+// What a file's fields give.
+fn file_fields(file: &[u8], h: Header) -> Checked
+    requires { ⌜ placesNumber (length (now file)) h ≡ 0 ⌝ }
+    ensures { λ r. ⌜ (r .number ≡ fieldsNumber (h .version) (fieldsEnd h) (areaIn (now (file .entry)) h) (h .count) (fieldsFrom (now (file .entry)) h))
+        × (r .number ≡ 0 → r .total ≡ sizes (h .version) (h .count) (fieldsFrom (now (file .entry)) h)) ⌝ }
+{
+    let end = fields_end(h);
+    let begin = h.begin as usize;
+    let start = header_len(h.version);
+    check_fields(
+        h.version,
+        &file[start..],
+        h.count,
+        end,
+        &file[end..begin],
+        &file[0..0],
+    )
+}
+
+fn last_number(file: &[u8], h: Header, total: usize) -> u8
+    requires { ⌜ (total ≡ sizes (h .version) (h .count) (fieldsFrom (now file) h)) × (placesNumber (length (now file)) h ≡ 0) ⌝ }
+    ensures { λ r. ⌜ r ≡ lastNumber h (fieldsFrom (now (file .entry)) h) (areaIn (now (file .entry)) h) ⌝ }
+{
+    let size = h.size as usize;
+    if total != size {
+        return 23;
+    }
+    let info = h.info as usize;
+    if info == 0 {
+        return 0;
+    }
+    let begin = h.begin as usize;
+    let zeros = wire::zero_count(&file[info..begin]);
+    if zeros == 0 {
+        return 28;
+    }
+    0
+}
+
+// The number that refuses a file's header, or 0.
+fn head_number(file: &[u8]) -> u8
+    ensures { λ r. ⌜ r ≡ headNumber (now (file .entry)) ⌝ }
+{
+    let a = name_number(file);
+    if a != 0 {
+        return a;
+    }
+    let h = numbers(file);
+    let b = places_number(file.len(), h);
+    if b != 0 {
+        return b;
+    }
+    let f = file_fields(file, h);
+    let c = f.number;
+    if c != 0 {
+        return c;
+    }
+    last_number(file, h, f.total)
+}
+
+// What a file's header says, or the number that refuses it.
+pub fn read_header(file: &[u8]) -> Head
+    ensures { λ r. ⌜ (r ≡ headerOf (now (file .entry))) × (headAnswer r .number ≡ headNumber (now (file .entry))) ⌝ }
+{
+    let number = head_number(file);
+    if number != 0 {
+        return Head::Refused(number);
+    }
+    Head::Is(numbers(file))
+}
