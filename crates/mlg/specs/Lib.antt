@@ -1,3 +1,4 @@
 pub mod Area
 pub mod Fields
 pub mod Header
+pub mod Block

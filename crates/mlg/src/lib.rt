@@ -2,7 +2,7 @@
 ghost use mathlib.Core.Path.{_≡_};
 ghost use mathlib.Core.Bool.{Bool, true, false};
 ghost use Prim.Native.Nat.{ℕ, _+_, _*_, _-_, _<_, _≤_, _^_};
-ghost use lib.ListN.{length, take, drop};
+ghost use lib.ListN.{length, getD, take, drop};
 ghost use lib.Dec.{eqb, ltb, leb};
 ghost use Rattle.wire.specs.BigEndian.{beAt};
 ghost use Rattle.wire.specs.Text.{zeros};
@@ -11,6 +11,7 @@ ghost use Rattle.field.specs.Field.{fieldSize};
 ghost use Rattle.mlg.specs.Area.{ended, areaOf};
 ghost use Rattle.mlg.specs.Fields.{unended, textsNumber, namesNumber, fieldNumber, fieldsNumber, sizes};
 ghost use Rattle.mlg.specs.Header.{numbersOf, fieldsEnd, nameNumber, placesNumber, lastNumber, fieldsFrom, areaIn, headNumber, headerOf, headAnswer};
+ghost use Rattle.mlg.specs.Block.{counterOf, blockLen, lastOf, blockNumber, partsOf, blockOf, blockAt, atNumber, blockAnswer};
 
 // The numbers of a header: version, time, info start, data begin, record length, field count.
 pub struct Header {
@@ -26,6 +27,28 @@ pub struct Header {
 pub enum Head {
     Is(Header),
     Refused(u8),
+}
+
+// What stands at a place of a log. `start` is the place of the record or text, `right` whether the counter is the expected one.
+pub enum Block {
+    Data {
+        counter: u8,
+        time: u16,
+        start: usize,
+        right: bool,
+    },
+    Mark {
+        counter: u8,
+        time: u16,
+        start: usize,
+        len: usize,
+        right: bool,
+    },
+    End,
+    Refused {
+        number: u8,
+        place: usize,
+    },
 }
 
 // The version's layout.
@@ -358,4 +381,122 @@ pub fn read_header(file: &[u8]) -> Head
         return Head::Refused(number);
     }
     Head::Is(numbers(file))
+}
+
+// Blocks.
+
+// The counter of a block after the given number of earlier blocks.
+fn counter_of(earlier: u64) -> u8
+    ensures { λ r. ⌜ r ≡ counterOf earlier ⌝ }
+{
+    (earlier % 255) as u8
+}
+
+// Bytes of a block of a type, 0 for a type that is unknown.
+fn block_len(kind: u8, size: u16) -> usize
+    ensures { λ r. ⌜ r ≡ blockLen size kind ⌝ }
+{
+    if kind == 0 {
+        return (size as usize) + 5;
+    }
+    if kind == 1 {
+        return 54;
+    }
+    0
+}
+
+fn sum_number(t: &[u8], size: u16) -> u8
+    requires { ⌜ size + 5 ≤ length (now t) ⌝ }
+    ensures { λ r. ⌜ r ≡ lastOf 0 size (now (t .entry)) ⌝ }
+{
+    let len = size as usize;
+    if wire::sum_of(&t[4..len + 4]) == t[len + 4] {
+        0
+    } else {
+        26
+    }
+}
+
+fn text_number(t: &[u8], size: u16) -> u8
+    requires { ⌜ 54 ≤ length (now t) ⌝ }
+    ensures { λ r. ⌜ r ≡ lastOf 1 size (now (t .entry)) ⌝ }
+{
+    if 50 <= wire::text_len(&t[4..54]) {
+        return 28;
+    }
+    0
+}
+
+// The number that refuses the block at the start of t, or 0.
+fn block_number(t: &[u8], size: u16) -> u8
+    requires { ⌜ 0 < length (now t) ⌝ }
+    ensures { λ r. ⌜ r ≡ blockNumber size (now (t .entry)) ⌝ }
+{
+    let kind = t[0];
+    let len = block_len(kind, size);
+    if len == 0 {
+        return 25;
+    }
+    if t.len() < len {
+        return 20;
+    }
+    if kind == 0 {
+        return sum_number(t, size);
+    }
+    text_number(t, size)
+}
+
+// The parts of the block at the start of t, which stands at a place of its file.
+fn block_parts(t: &[u8], size: u16, counter: u8, at: usize) -> Block
+    requires { ⌜ (0 < length (now t)) × (blockNumber size (now t) ≡ 0) × (at < 2 ^ 63) ⌝ }
+    ensures { λ r. ⌜ r ≡ partsOf (getD (now (t .entry)) 0 0) counter at (now (t .entry)) ⌝ }
+{
+    let own = t[1];
+    let time = wire::be16(t, 2);
+    let right = own == counter;
+    let kind = t[0];
+    if kind == 0 {
+        return Block::Data {
+            counter: own,
+            time,
+            start: at + 4,
+            right,
+        };
+    }
+    let len = wire::text_len(&t[4..54]);
+    Block::Mark {
+        counter: own,
+        time,
+        start: at + 4,
+        len,
+        right,
+    }
+}
+
+// What stands at the start of t, the rest of a file from a place on.
+fn block_of(t: &[u8], size: u16, counter: u8, at: usize) -> Block
+    requires { ⌜ at < 2 ^ 63 ⌝ }
+    ensures { λ r. ⌜ r ≡ blockOf size counter at (now (t .entry)) ⌝ }
+{
+    if t.len() == 0 {
+        return Block::End;
+    }
+    let number = block_number(t, size);
+    if number != 0 {
+        return Block::Refused { number, place: at };
+    }
+    block_parts(t, size, counter, at)
+}
+
+// The block at a place of a log whose records have the given length, after the given number of earlier blocks.
+pub fn read_block(file: &[u8], size: u16, earlier: u64, at: usize) -> Block
+    ensures { λ r. ⌜ (r ≡ blockAt size earlier (now (file .entry)) at) × (blockAnswer size r .number ≡ atNumber size (now (file .entry)) at) ⌝ }
+{
+    if file.len() < at {
+        return Block::Refused {
+            number: 23,
+            place: at,
+        };
+    }
+    block_of(&file[at..], size, counter_of(earlier), at)
 }
