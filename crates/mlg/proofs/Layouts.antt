@@ -1,5 +1,5 @@
 -- Laws of the version's layout and of the sizes of types, as the proofs of this crate cite them.
-use Prim.Native.Nat.{ℕ, zero, suc, _+_, _*_, _-_, _≤_, _<_}
+use Prim.Native.Nat.{ℕ, zero, suc, _+_, _*_, _-_, _/_, _%_, _≤_, _<_}
 use mathlib.Core.Path.{_≡_, refl, sym, ap, _∙_}
 use mathlib.Core.List.{List, [], _∷_}
 use native.Mathlib.Omega.{arith}
@@ -65,3 +65,21 @@ one-of len (suc m) h = rw (sub-one, mul-suc) (add-comm (len * m) len)
 -- fields take at most 89 bytes each
 pub fields-most : (v n : ℕ) → fieldLen v * n ≤ 89 * n
 fields-most v n = mul-le-mul-right n (field-most v)
+
+-- whole fields in n bytes
+pub fields-whole : (v n : ℕ) → n % fieldLen v ≡ 0 → fieldLen v * (n / fieldLen v) ≡ n
+unfolding layoutOf
+fields-whole v n h = omega arith
+
+pub fields-fit : (v n : ℕ) → fieldLen v * (n / fieldLen v) ≤ n
+unfolding layoutOf
+fields-fit v n = omega arith
+
+-- few fields have few bytes
+pub fields-few : (v n : ℕ) → n / fieldLen v ≤ 65535 → n ≤ 5832703
+unfolding layoutOf
+fields-few v n h = omega arith
+
+pub header-some : (v : ℕ) → 0 < headerLen v
+unfolding layoutOf
+header-some v = omega arith

@@ -2,3 +2,5 @@ pub mod Area
 pub mod Fields
 pub mod Header
 pub mod Block
+pub mod Writing
+pub mod Parts

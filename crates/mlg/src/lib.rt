@@ -12,6 +12,12 @@ ghost use Rattle.mlg.specs.Area.{ended, areaOf};
 ghost use Rattle.mlg.specs.Fields.{unended, textsNumber, namesNumber, fieldNumber, fieldsNumber, sizes};
 ghost use Rattle.mlg.specs.Header.{numbersOf, fieldsEnd, nameNumber, placesNumber, lastNumber, fieldsFrom, areaIn, headNumber, headerOf, headAnswer};
 ghost use Rattle.mlg.specs.Block.{counterOf, blockLen, lastOf, blockNumber, partsOf, blockOf, blockAt, atNumber, blockAnswer};
+ghost use Rattle.wire.specs.BigEndian.{bytesOf};
+ghost use Rattle.wire.specs.Put.{putOf};
+ghost use Rattle.wire.specs.Writer.{wrote, leaves};
+ghost use Rattle.mlg.specs.Area.{infoStart};
+ghost use Rattle.mlg.specs.Header.{bodyNumber};
+ghost use Rattle.mlg.specs.Writing.{numberBytes, headerFor, headerBytes, lengthsNumber, headerNumber, startBytes, dataBytes, padded, markBytes, dataNumber, markNumber};
 
 // The numbers of a header: version, time, info start, data begin, record length, field count.
 pub struct Header {
@@ -499,4 +505,313 @@ pub fn read_block(file: &[u8], size: u16, earlier: u64, at: usize) -> Block
         };
     }
     block_of(&file[at..], size, counter_of(earlier), at)
+}
+
+// Writing blocks.
+
+// The first four bytes of a block.
+fn start_bytes(kind: u8, counter: u8, time: u16) -> [u8; 4]
+    ensures { λ r. ⌜ r ≡ startBytes kind counter time ⌝ }
+{
+    let t = wire::two_bytes(time);
+    [kind, counter, t[0], t[1]]
+}
+
+fn data_number(size: u16, bytes: &[u8], room: usize) -> u8
+    ensures { λ r. ⌜ r ≡ dataNumber size (now (bytes .entry)) room ⌝ }
+{
+    if bytes.len() != size as usize {
+        return 23;
+    }
+    if room < bytes.len() + 5 {
+        return 27;
+    }
+    0
+}
+
+fn put_data(out: &mut [u8], counter: u8, time: u16, bytes: &[u8])
+    requires { ⌜ length (now bytes) + 5 ≤ length (now out) ⌝ }
+    ensures { λ _. ⌜ now (out .exit) ≡ leaves 0 (dataBytes counter time (now (bytes .entry))) (now (out .entry)) ⌝ }
+{
+    let head = start_bytes(0, counter, time);
+    wire::put(out, 0, &head);
+    wire::put(out, 4, bytes);
+    let last = [wire::sum_of(bytes)];
+    wire::put(out, bytes.len() + 4, &last);
+}
+
+// Writes a data block of the given record length after the given number of earlier blocks.
+pub fn write_data(out: &mut [u8], size: u16, earlier: u64, time: u16, bytes: &[u8]) -> wire::Written
+    ensures { λ r. ⌜ (r ≡ wrote (dataNumber size (now (bytes .entry)) (length (now (out .entry)))) (dataBytes (counterOf earlier) time (now (bytes .entry))))
+        × (now (out .exit) ≡ leaves (dataNumber size (now (bytes .entry)) (length (now (out .entry)))) (dataBytes (counterOf earlier) time (now (bytes .entry))) (now (out .entry))) ⌝ }
+{
+    let number = data_number(size, bytes, out.len());
+    if number != 0 {
+        return wire::Written { number, len: 0 };
+    }
+    put_data(out, counter_of(earlier), time, bytes);
+    wire::Written {
+        number: 0,
+        len: bytes.len() + 5,
+    }
+}
+
+// A mark's 50 bytes of text, zero-padded.
+fn padded_text(text: &[u8]) -> [u8; 50]
+    requires { ⌜ length (now text) ≤ 50 ⌝ }
+    ensures { λ r. ⌜ r ≡ padded (now (text .entry)) ⌝ }
+{
+    let mut pad = [0u8; 50];
+    wire::put(&mut pad, 0, text);
+    pad
+}
+
+fn mark_number(text: &[u8], room: usize) -> u8
+    ensures { λ r. ⌜ r ≡ markNumber (now (text .entry)) room ⌝ }
+{
+    if 49 < text.len() {
+        return 28;
+    }
+    if wire::text_len(text) < text.len() {
+        return 28;
+    }
+    if room < 54 {
+        return 27;
+    }
+    0
+}
+
+fn put_mark(out: &mut [u8], counter: u8, time: u16, text: &[u8])
+    requires { ⌜ (length (now text) ≤ 49) × (54 ≤ length (now out)) ⌝ }
+    ensures { λ _. ⌜ now (out .exit) ≡ leaves 0 (markBytes counter time (now (text .entry))) (now (out .entry)) ⌝ }
+{
+    let head = start_bytes(1, counter, time);
+    let pad = padded_text(text);
+    wire::put(out, 0, &head);
+    wire::put(out, 4, &pad);
+}
+
+// Writes a mark after the given number of earlier blocks.
+pub fn write_mark(out: &mut [u8], earlier: u64, time: u16, text: &[u8]) -> wire::Written
+    ensures { λ r. ⌜ (r ≡ wrote (markNumber (now (text .entry)) (length (now (out .entry)))) (markBytes (counterOf earlier) time (now (text .entry))))
+        × (now (out .exit) ≡ leaves (markNumber (now (text .entry)) (length (now (out .entry)))) (markBytes (counterOf earlier) time (now (text .entry))) (now (out .entry))) ⌝ }
+{
+    let number = mark_number(text, out.len());
+    if number != 0 {
+        return wire::Written { number, len: 0 };
+    }
+    put_mark(out, counter_of(earlier), time, text);
+    wire::Written { number: 0, len: 54 }
+}
+
+// Writing a header.
+
+fn info_start(at: usize, info: &[u8]) -> usize
+    ensures { λ r. ⌜ r ≡ infoStart at (now (info .entry)) ⌝ }
+{
+    if info.len() == 0 { 0 } else { at }
+}
+
+// Bytes of info with its zero, none where it is empty.
+fn ended_len(info: &[u8]) -> usize
+    ensures { λ r. ⌜ r ≡ length (ended (now (info .entry))) ⌝ }
+{
+    if info.len() == 0 {
+        return 0;
+    }
+    info.len() + 1
+}
+
+// The sum of the sizes of the first fields; a bad type counts 0.
+fn sizes_of(version: u16, fields: &[u8], count: u16) -> usize
+    requires { ⌜ fieldLen version * count ≤ length (now fields) ⌝ }
+    ensures { λ r. ⌜ r ≡ sizes version count (now (fields .entry)) ⌝ }
+{
+    let len = field_len(version);
+    let mut at: usize = 0;
+    let mut left = count as usize;
+    let mut total: usize = 0;
+    while left != 0 {
+        total += field::size_of(fields[at]) as usize;
+        at += len;
+        left -= 1;
+    }
+    total
+}
+
+fn lengths_number(version: u16, fields: &[u8], names: &[u8], info: &[u8]) -> u8
+    ensures { λ r. ⌜ r ≡ lengthsNumber version (now (fields .entry)) (now (names .entry)) (now (info .entry)) ⌝ }
+{
+    let len = fields.len();
+    let each = field_len(version);
+    if len % each != 0 {
+        return 23;
+    }
+    let count = len / each;
+    if 65535 < count {
+        return 23;
+    }
+    let size = sizes_of(version, fields, count as u16);
+    if 65535 < size {
+        return 23;
+    }
+    let area = names.len() + ended_len(info);
+    if 4294967295 - (header_len(version) + len) < area {
+        return 23;
+    }
+    if wire::text_len(info) < info.len() {
+        return 28;
+    }
+    0
+}
+
+// "Then as the reader".
+fn body_number(version: u16, time: u32, fields: &[u8], names: &[u8], info: &[u8]) -> u8
+    requires { ⌜ lengthsNumber version (now fields) (now names) (now info) ≡ 0 ⌝ }
+    ensures { λ r. ⌜ r ≡ bodyNumber (headerFor version time (now (fields .entry)) (now (names .entry)) (now (info .entry))) (now (fields .entry)) (areaOf (now (names .entry)) (now (info .entry))) ⌝ }
+{
+    let len = fields.len();
+    let count = (len / field_len(version)) as u16;
+    let end = header_len(version) + len;
+    let f = check_fields(version, fields, count, end, names, info);
+    f.number
+}
+
+// Bytes of the header with its fields, names and info.
+fn total_len(version: u16, fields: &[u8], names: &[u8], info: &[u8]) -> usize
+    requires { ⌜ lengthsNumber version (now fields) (now names) (now info) ≡ 0 ⌝ }
+    ensures { λ r. ⌜ (r ≡ headerLen version + length (now (fields .entry)) + length (areaOf (now (names .entry)) (now (info .entry)))) × (r ≤ 4294967295) ⌝ }
+{
+    header_len(version) + fields.len() + names.len() + ended_len(info)
+}
+
+fn header_number(
+    version: u16,
+    time: u32,
+    fields: &[u8],
+    names: &[u8],
+    info: &[u8],
+    room: usize,
+) -> u8
+    ensures { λ r. ⌜ r ≡ headerNumber version time (now (fields .entry)) (now (names .entry)) (now (info .entry)) room ⌝ }
+{
+    let a = lengths_number(version, fields, names, info);
+    if a != 0 {
+        return a;
+    }
+    let b = body_number(version, time, fields, names, info);
+    if b != 0 {
+        return b;
+    }
+    if room < total_len(version, fields, names, info) {
+        return 27;
+    }
+    0
+}
+
+// The numbers of the header with these fields, names and info.
+fn header_for(version: u16, time: u32, fields: &[u8], names: &[u8], info: &[u8]) -> Header
+    requires { ⌜ lengthsNumber version (now fields) (now names) (now info) ≡ 0 ⌝ }
+    ensures { λ r. ⌜ r ≡ headerFor version time (now (fields .entry)) (now (names .entry)) (now (info .entry)) ⌝ }
+{
+    let count = (fields.len() / field_len(version)) as u16;
+    let size = sizes_of(version, fields, count) as u16;
+    let at = header_len(version) + fields.len() + names.len();
+    let begin = total_len(version, fields, names, info) as u32;
+    let start = info_start(at, info) as u32;
+    Header {
+        version,
+        time,
+        info: start,
+        begin,
+        size,
+        count,
+    }
+}
+
+// A header's numbers in bytes.
+fn number_bytes(h: Header) -> [u8; 24]
+    ensures { λ r. ⌜ r ≡ numberBytes h ⌝ }
+{
+    let v = wire::two_bytes(h.version);
+    let t = wire::four_bytes(h.time);
+    let i = wire::four_bytes(h.info);
+    let b = wire::four_bytes(h.begin);
+    let s = wire::two_bytes(h.size);
+    let n = wire::two_bytes(h.count);
+    [
+        0x4D,
+        0x4C,
+        0x56,
+        0x4C,
+        0x47,
+        0,
+        v[0],
+        v[1],
+        t[0],
+        t[1],
+        t[2],
+        t[3],
+        i[0],
+        i[1],
+        i[2],
+        i[3],
+        b[0],
+        b[1],
+        b[2],
+        b[3],
+        s[0],
+        s[1],
+        n[0],
+        n[1],
+    ]
+}
+
+// Puts info with its zero at a place, and nothing where it is empty.
+fn put_ended(out: &mut [u8], at: usize, info: &[u8])
+    requires { ⌜ at + length (ended (now info)) ≤ length (now out) ⌝ }
+    ensures { λ _. ⌜ now (out .exit) ≡ putOf (now (out .entry)) at (ended (now (info .entry))) ⌝ }
+{
+    let len = info.len();
+    if len != 0 {
+        wire::put(out, at, info);
+        let last = [0u8];
+        wire::put(out, at + len, &last);
+    }
+}
+
+fn put_header(out: &mut [u8], version: u16, time: u32, fields: &[u8], names: &[u8], info: &[u8])
+    requires { ⌜ (lengthsNumber version (now fields) (now names) (now info) ≡ 0)
+        × (length (headerBytes version time (now fields) (now names) (now info)) ≤ length (now out)) ⌝ }
+    ensures { λ _. ⌜ now (out .exit) ≡ leaves 0 (headerBytes version time (now (fields .entry)) (now (names .entry)) (now (info .entry))) (now (out .entry)) ⌝ }
+{
+    let first = number_bytes(header_for(version, time, fields, names, info));
+    let start = header_len(version);
+    let end = start + fields.len();
+    wire::put(out, 0, &first);
+    wire::put(out, start, fields);
+    wire::put(out, end, names);
+    put_ended(out, end + names.len(), info);
+}
+
+// Writes a header with its fields, names area and info.
+pub fn write_header(
+    out: &mut [u8],
+    time: u32,
+    fields: &[u8],
+    names: &[u8],
+    info: &[u8],
+) -> wire::Written
+    ensures { λ r. ⌜ (r ≡ wrote (headerNumber 2 time (now (fields .entry)) (now (names .entry)) (now (info .entry)) (length (now (out .entry)))) (headerBytes 2 time (now (fields .entry)) (now (names .entry)) (now (info .entry))))
+        × (now (out .exit) ≡ leaves (headerNumber 2 time (now (fields .entry)) (now (names .entry)) (now (info .entry)) (length (now (out .entry)))) (headerBytes 2 time (now (fields .entry)) (now (names .entry)) (now (info .entry))) (now (out .entry))) ⌝ }
+{
+    let number = header_number(2, time, fields, names, info, out.len());
+    if number != 0 {
+        return wire::Written { number, len: 0 };
+    }
+    put_header(out, 2, time, fields, names, info);
+    wire::Written {
+        number: 0,
+        len: total_len(2, fields, names, info),
+    }
 }

@@ -1,8 +1,6 @@
 use borrow.Author.Needs.{needs}
 use Rattle.mlg.proofs.block_len.Statement.{statement}
 use Rattle.mlg.proofs.block_len.Tie as tie
-use Rattle.mlg.proofs.block_len.Reads as reads
-use Rattle.mlg.proofs.block_len.Lts as lts
 use mathlib.Core.Path.{sym}
 use Rattle.mlg.proofs.Cases.{len-data, len-mark, len-none}
 

@@ -1,18 +1,11 @@
 use borrow.Author.Needs.{needs}
 use Rattle.mlg.proofs.block_number.Statement.{statement}
 use Rattle.mlg.proofs.block_number.Tie as tie
-use Rattle.mlg.proofs.block_number.Reads as reads
-use Rattle.mlg.proofs.block_number.Lts as lts
-use Rattle.mlg.proofs.block_len.Reads as block-len-reads
-use Rattle.mlg.proofs.sum_number.Reads as sum-number-reads
-use Rattle.mlg.proofs.text_number.Reads as text-number-reads
 use mathlib.Core.Path.{_≡_, refl, sym, _∙_, ap}
 use native.Mathlib.Omega.{arith}
 use Rattle.wire.proofs.Orders.{order}
 use Rattle.mlg.specs.Block.{blockNumber, lastOf}
 use Rattle.mlg.proofs.Cases.{len-data, len-mark, known-mark}
-
-
 
 shared-slice-read-kind : tie.Need-shared-slice-read-kind
 shared-slice-read-kind c = search needs

@@ -1,10 +1,6 @@
 use borrow.Author.Needs.{needs}
 use Rattle.mlg.proofs.block_of.Statement.{statement}
 use Rattle.mlg.proofs.block_of.Tie as tie
-use Rattle.mlg.proofs.block_of.Reads as reads
-use Rattle.mlg.proofs.block_of.Lts as lts
-use Rattle.mlg.proofs.block_number.Reads as block-number-reads
-use Rattle.mlg.proofs.block_parts.Reads as block-parts-reads
 use mathlib.Core.Path.{_≡_, refl, sym, _∙_, ap}
 use native.Mathlib.Omega.{arith}
 use Rattle.mlg.proofs.Cases.{block-end, block-here, judged-no, judged-yes}

@@ -1,10 +1,6 @@
 use borrow.Author.Needs.{needs}
 use Rattle.mlg.proofs.block_parts.Statement.{statement}
 use Rattle.mlg.proofs.block_parts.Tie as tie
-use Rattle.mlg.proofs.block_parts.Reads as reads
-use Rattle.mlg.proofs.block_parts.Lts as lts
-use Rattle.wire.proofs.be16.Reads as be16-reads
-use Rattle.wire.proofs.text_len.Reads as text-len-reads
 use mathlib.Core.Path.{_≡_, refl, sym, _∙_, ap}
 use native.Mathlib.Omega.{arith}
 use Rattle.mlg.proofs.Cases.{parts-data, parts-mark, mark-whole, least}

@@ -1,8 +1,6 @@
 use borrow.Author.Needs.{needs}
 use Rattle.mlg.proofs.counter_of.Statement.{statement}
 use Rattle.mlg.proofs.counter_of.Tie as tie
-use Rattle.mlg.proofs.counter_of.Reads as reads
-use Rattle.mlg.proofs.counter_of.Lts as lts
 use mathlib.Core.Path.{refl}
 use Rattle.mlg.specs.Block.{counterOf}
 

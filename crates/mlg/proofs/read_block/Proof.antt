@@ -1,10 +1,6 @@
 use borrow.Author.Needs.{needs}
 use Rattle.mlg.proofs.read_block.Statement.{statement}
 use Rattle.mlg.proofs.read_block.Tie as tie
-use Rattle.mlg.proofs.read_block.Reads as reads
-use Rattle.mlg.proofs.read_block.Lts as lts
-use Rattle.mlg.proofs.block_of.Reads as block-of-reads
-use Rattle.mlg.proofs.counter_of.Reads as counter-of-reads
 use Prim.Native.Nat.{ℕ, _-_}
 use lib.ListN.{length, take, drop}
 use mathlib.Core.Path.{_≡_, refl, sym, _∙_, ap}

@@ -1,9 +1,6 @@
 use borrow.Author.Needs.{needs}
 use Rattle.mlg.proofs.sum_number.Statement.{statement}
 use Rattle.mlg.proofs.sum_number.Tie as tie
-use Rattle.mlg.proofs.sum_number.Reads as reads
-use Rattle.mlg.proofs.sum_number.Lts as lts
-use Rattle.wire.proofs.sum_of.Reads as sum-of-reads
 use Prim.Native.Nat.{ℕ, _+_, _-_}
 use mathlib.Core.Path.{_≡_, refl, sym, _∙_, ap}
 use native.Mathlib.Omega.{arith}

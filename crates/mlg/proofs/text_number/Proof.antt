@@ -1,9 +1,6 @@
 use borrow.Author.Needs.{needs}
 use Rattle.mlg.proofs.text_number.Statement.{statement}
 use Rattle.mlg.proofs.text_number.Tie as tie
-use Rattle.mlg.proofs.text_number.Reads as reads
-use Rattle.mlg.proofs.text_number.Lts as lts
-use Rattle.wire.proofs.text_len.Reads as text-len-reads
 use Rattle.wire.proofs.Orders.{order}
 use Rattle.mlg.specs.Block.{lastOf}
 
