@@ -10,7 +10,7 @@ use lib.ListN.{length, getD, take, drop}
 use Rattle.wire.specs.Order.{_if_else_}
 use Rattle.wire.specs.Sum.{sumOf}
 use Rattle.wire.specs.Text.{textLen}
-use Rattle.wire.proofs.Orders.{if-yes, if-no, if-zero}
+use Rattle.wire.proofs.Orders.{if-yes, if-no, if-zero, not-no}
 use Rattle.mlg.specs.Block.{counterOf, blockLen, kindIn, counterIn, timeIn, recordIn, sumIn, textIn, lastOf, blockNumber, partsOf, blockJudged, blockOf, placeNumber, blockAt, restNumber, atNumber, blockAnswer}
 use Rattle.mlg.specs.declared.Block.{Block}
 use Rattle.mlg.specs.declared.Block.the-variants.{Data, Mark, End, Refused}
@@ -130,3 +130,45 @@ mark-whole l t e k = rw (← len-mark l (kindIn t) (known-mark l (kindIn t) (who
 pub least : (l : ℕ) (t : List ℕ) (b : Bool) → eqb (kindIn t) 0 ≡ b → blockNumber l t ≡ 0 → 5 ≤ length t
 least l t true k e = omega (arith, data-whole l t e (eqb-true _ _ k))
 least l t false k e = omega (arith, mark-whole l t e (eqb-false _ _ k))
+
+-- the last test of a block, by its type
+pub last-data : (k l : ℕ) (t : List ℕ) → k ≡ 0 → sumOf (recordIn l t) ≡ sumIn l t → 0 ≡ lastOf k l t
+unfolding lastOf
+last-data zero l t e s = if-no 26 _ 0 0 (not-no _ (eq-eqb _ _ s)) refl
+last-data (suc k) l t e s = absurd (omega arith)
+
+pub last-mark : (k l : ℕ) (t : List ℕ) → k ≡ 1 → textLen (textIn t) < 50 → 0 ≡ lastOf k l t
+unfolding lastOf
+last-mark zero l t e s = absurd (omega arith)
+last-mark (suc k) l t e s = if-no 28 _ 0 0 (lt-leb _ _ s) refl
+
+-- a block that stands
+pub data-stands : (l : ℕ) (t : List ℕ) → kindIn t ≡ 0 → l + 5 ≤ length t → sumOf (recordIn l t) ≡ sumIn l t → blockNumber l t ≡ 0
+unfolding blockNumber
+data-stands l t k h s =
+    let e = len-data l (kindIn t) k in
+    sym (if-no 25 _ _ 0 (ne-eqb _ _ (λ (z : blockLen l (kindIn t) ≡ 0). omega arith)) (if-no 20 _ _ 0 (le-ltb (length t) (blockLen l (kindIn t)) (rw e h)) (last-data (kindIn t) l t k s)))
+
+pub mark-stands : (l : ℕ) (t : List ℕ) → kindIn t ≡ 1 → 54 ≤ length t → textLen (textIn t) < 50 → blockNumber l t ≡ 0
+unfolding blockNumber
+mark-stands l t k h s =
+    let e = len-mark l (kindIn t) k in
+    sym (if-no 25 _ _ 0 (ne-eqb _ _ (λ (z : blockLen l (kindIn t) ≡ 0). omega arith)) (if-no 20 _ _ 0 (le-ltb (length t) (blockLen l (kindIn t)) (rw e h)) (last-mark (kindIn t) l t k s)))
+
+pub here-stands : (l c at : ℕ) (t : List ℕ) → (length t ≡ 0 → ⊥) → blockNumber l t ≡ 0 → blockOf l c at t ≡ partsOf (kindIn t) c at t
+here-stands l c at t h z = block-here l c at t h ∙ judged-yes _ at _ z
+
+-- and what then holds of it
+not-false : (b : Bool) → not b ≡ false → b ≡ true
+not-false true e = refl
+not-false false e = let z : _≡_ {A = Bool} true false = e in cc
+
+pub sum-right : (k l : ℕ) (t : List ℕ) → k ≡ 0 → lastOf k l t ≡ 0 → sumOf (recordIn l t) ≡ sumIn l t
+unfolding lastOf
+sum-right zero l t e z = eqb-true _ _ (not-false _ (if-zero 25 _ _ z .0))
+sum-right (suc k) l t e z = absurd (omega arith)
+
+pub text-ends : (k l : ℕ) (t : List ℕ) → (k ≡ 0 → ⊥) → lastOf k l t ≡ 0 → textLen (textIn t) < 50
+unfolding lastOf
+text-ends zero l t e z = absurd (e refl)
+text-ends (suc k) l t e z = leb-false _ _ (if-zero 27 _ _ z .0)

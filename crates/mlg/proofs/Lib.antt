@@ -6,3 +6,6 @@ pub mod Cases
 pub mod BlockBytes
 pub mod Fits
 pub mod HeaderBytes
+pub mod BlockBack
+pub mod Alone
+pub mod Rewrite

@@ -4,3 +4,6 @@ pub mod Header
 pub mod Block
 pub mod Writing
 pub mod Parts
+pub mod Log
+pub mod Entries
+pub mod RoundTrip
