@@ -9,3 +9,5 @@ pub mod HeaderBytes
 pub mod BlockBack
 pub mod Alone
 pub mod Rewrite
+pub mod HeaderBack
+pub mod Logs
