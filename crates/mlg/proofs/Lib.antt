@@ -11,3 +11,4 @@ pub mod Alone
 pub mod Rewrite
 pub mod HeaderBack
 pub mod Logs
+pub mod LogBack

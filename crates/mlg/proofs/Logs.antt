@@ -85,3 +85,17 @@ stop-end at next = refl
 pub stop-refused : (at m p : ℕ) (next : Log) → ahead at (Refused m p) next ≡ record { blocks = []; ending = Refused m p; place = at }
 unfolding ahead
 stop-refused at m p next = refl
+
+-- a log at a place where a block, or the end, stands
+pub log-end : (k l n : ℕ) (f : List ℕ) (at : ℕ) → blockAt l n f at ≡ End → logFrom (suc k) l n f at ≡ record { blocks = []; ending = End; place = at }
+log-end k l n f at e = rw e (stop-end at (logFrom k l (n + 1) f (at + lengthOf l End)))
+
+pub log-refused : (k l n : ℕ) (f : List ℕ) (at m p : ℕ) → blockAt l n f at ≡ Refused m p → logFrom (suc k) l n f at ≡ record { blocks = []; ending = Refused m p; place = at }
+log-refused k l n f at m p e = rw e (stop-refused at m p (logFrom k l (n + 1) f (at + lengthOf l (Refused m p))))
+
+abbrev pub Next : Log → ℕ → Block → Log → Type 0
+Next log at b next = (log .blocks ≡ (at, b) ∷ next .blocks) × (log .ending ≡ next .ending) × (log .place ≡ next .place)
+
+pub log-go : (k l n : ℕ) (f : List ℕ) (at : ℕ) (b : Block) → blockAt l n f at ≡ b → Goes b
+    → Next (logFrom (suc k) l n f at) at b (logFrom k l (n + 1) f (at + lengthOf l b))
+log-go k l n f at b e g = rw e (go at b (logFrom k l (n + 1) f (at + lengthOf l b)) g)
