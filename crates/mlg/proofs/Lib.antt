@@ -12,3 +12,4 @@ pub mod Rewrite
 pub mod HeaderBack
 pub mod Logs
 pub mod LogBack
+pub mod LogSame
