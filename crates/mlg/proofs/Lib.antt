@@ -13,3 +13,4 @@ pub mod HeaderBack
 pub mod Logs
 pub mod LogBack
 pub mod LogSame
+pub mod HeaderSame

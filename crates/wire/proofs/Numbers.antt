@@ -4,7 +4,8 @@ use mathlib.Core.Path.{_≡_, refl, sym, ap, _∙_}
 use mathlib.Core.List.{List, [], _∷_, _++_, append-assoc, append-nil}
 use native.Mathlib.Omega.{arith}
 use native.Mathlib.Nat.{pow-suc, lt-of-lt-of-le}
-use lib.ListN.{length, getD, take, length-append}
+use lib.ListN.{length, getD, take, drop, length-append, length-drop}
+use lib.Seq.{getD-drop, length-take-le}
 use lib.Pow.{pow-add, pow-mono}
 use Rattle.wire.proofs.Parts.{take-length-le}
 use Rattle.wire.specs.BigEndian.{beOf, beFrom, bytesOf}
@@ -46,6 +47,18 @@ Bytes l = (i : ℕ) → getD l i 0 < 256
 pub bytes-tail : (b : ℕ) (l : List ℕ) → Bytes (b ∷ l) → Bytes l
 bytes-tail b l h = λ i. h (suc i)
 
+byte-cons : (b : ℕ) (l : List ℕ) → b < 256 → Bytes l → (i : ℕ) → getD (b ∷ l) i 0 < 256
+byte-cons b l h k zero = h
+byte-cons b l h k (suc i) = k i
+
+pub bytes-take : (n : ℕ) (l : List ℕ) → Bytes l → Bytes (take n l)
+bytes-take zero l h = λ i. omega arith
+bytes-take (suc n) [] h = λ i. omega arith
+bytes-take (suc n) (b ∷ l) h = byte-cons b (take n l) (h 0) (bytes-take n l (bytes-tail b l h))
+
+pub bytes-drop : (n : ℕ) (l : List ℕ) → Bytes l → Bytes (drop n l)
+bytes-drop n l h = λ i. rw (getD-drop n l i 0) (h (n + i))
+
 bytes-from : (n a : ℕ) (l : List ℕ) → Bytes l → bytesOf (n + length l) (beFrom a l) ≡ bytesOf n a ++ l
 bytes-from n a [] h = let e : n + 0 ≡ n = omega arith in rw e (sym (append-nil (bytesOf n a)))
 bytes-from n a (b ∷ l) h =
@@ -59,3 +72,8 @@ bytes-from n a (b ∷ l) h =
 -- bytes read as a number, and written again at their length
 pub bytes-back : (n : ℕ) (l : List ℕ) → length l ≡ n → Bytes l → bytesOf n (beOf l) ≡ l
 bytes-back n l e h = let k : 0 + length l ≡ n = omega arith in rw k at (bytes-from 0 0 l h)
+
+-- so with a part of a file
+pub part-back : (n : ℕ) (f : List ℕ) (at : ℕ) → at + n ≤ length f → Bytes f → bytesOf n (beOf (take n (drop at f))) ≡ take n (drop at f)
+part-back n f at h b =
+    bytes-back n (take n (drop at f)) (length-take-le n (drop at f) (rw (length-drop at f) (omega arith))) (bytes-take n (drop at f) (bytes-drop at f b))

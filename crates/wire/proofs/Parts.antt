@@ -6,7 +6,7 @@ use native.Mathlib.Numerals.{add-one}
 use native.Mathlib.Nat.{le-refl}
 use native.Mathlib.Omega.{arith}
 use lib.ListN.{length, getD, take, drop, drop-of-length-le, length-take, length-drop}
-use lib.Seq.{drop-cons, take-all, take-nil, take-append-le, drop-append-le}
+use lib.Seq.{drop-cons, take-all, take-nil, take-append-le, drop-append-le, take-add, drop-drop}
 
 -- what is left of a list at a place: its element there, and what is left after it
 pub rest : (s : List ℕ) (i : ℕ) → i < length s → drop i s ≡ getD s i 0 ∷ drop (i + 1) s
@@ -48,3 +48,7 @@ part-append n at t r h =
     let a : at ≤ length t = omega arith in
     let b : n ≤ length (drop at t) = rw (length-drop at t) (omega arith) in
     rw (drop-append-le at t r a, take-append-le n (drop at t) r b)
+
+-- a part, in two
+pub part-in-two : (at n m : ℕ) (f : List ℕ) → take (n + m) (drop at f) ≡ take n (drop at f) ++ take m (drop (at + n) f)
+part-in-two at n m f = take-add n m (drop at f) ∙ ap (λ (r : List ℕ). take n (drop at f) ++ take m r) (drop-drop n at f)

@@ -3,7 +3,7 @@ use Prim.Native.Nat.{ℕ, zero, suc, _+_, _≤_, _<_}
 use mathlib.Core.Path.{_≡_, refl, ap}
 use mathlib.Core.List.{List, [], _∷_, _++_}
 use native.Mathlib.Omega.{arith}
-use lib.ListN.{length}
+use lib.ListN.{length, getD}
 use Rattle.wire.specs.Text.{textLen, zeros}
 
 pub textLen-at : (b : ℕ) (bs : List ℕ) → (b ≡ 0 → ⊥) → textLen (b ∷ bs) ≡ 1 + textLen bs
@@ -55,3 +55,9 @@ pub zeros-most : (l : List ℕ) → zeros l ≤ length l
 zeros-most [] = omega arith
 zeros-most (zero ∷ l) = omega (arith, zeros-most l)
 zeros-most (suc b ∷ l) = omega (arith, zeros-most l)
+
+-- a text that ends has a zero there
+pub text-zero : (l : List ℕ) → textLen l < length l → getD l (textLen l) 0 ≡ 0
+text-zero [] h = absurd (omega arith)
+text-zero (zero ∷ l) h = refl
+text-zero (suc b ∷ l) h = text-zero l (omega arith)
