@@ -209,3 +209,36 @@ module _ (f : List ℕ) (h : Header) (ok : Sound f h) where
         let a : 24 + (end - 24) ≡ end = omega (arith, end-is) in
         let b : end - 24 + (h .begin - end) ≡ h .begin - 24 = omega (arith, end-is, ok .places .after-fields) in
         rw area-is (sym (rw (b, a) at (part-in-two 24 (end - 24) (h .begin - end) f)))
+
+    size-is : sizes 2 (length fields / 89) fields ≡ h .size
+    unfolding layoutOf
+    size-is =
+        let split : fields ++ drop (end - 24) (drop 24 f) ≡ drop 24 f = take-append-drop (end - 24) (drop 24 f) in
+        let k : 89 * h .count ≤ length fields = omega (arith, fields-length) in
+        rw count-is (sym (sizes-alone 2 (h .count) fields (drop (end - 24) (drop 24 f)) k) ∙ ap (sizes 2 (h .count)) split ∙ rw (ok .version) at (ok .size))
+
+same-header : (h : Header) (v i b s n : ℕ) → v ≡ h .version → i ≡ h .info → b ≡ h .begin → s ≡ h .size → n ≡ h .count
+    → _≡_ {A = Header} (record { version = v; time = h .time; info = i; begin = b; size = s; count = n }) h
+same-header h v i b s n p q r t u = rw (p, q, r, t, u)
+
+module _ (f : List ℕ) (h : Header) (bytes : Bytes f) (ok : Sound f h) (lay : InLayout f h) where
+  header-is : headerFor 2 (h .time) (fields f h ok) (namesIn f h) (infoIn f h) ≡ h
+  unfolding headerFor layoutOf
+  header-is =
+      same-header h 2 _ _ _ _ (sym (ok .version)) (sym (info-is f h ok lay)) (begin-is f h ok lay) (size-is f h ok lay) (count-is f h ok lay)
+
+  header-same : headerBytes 2 (h .time) (fieldsIn f h) (namesIn f h) (infoIn f h) ≡ take (h .begin) f
+  unfolding headerBytes
+  header-same =
+      let a : 24 + (h .begin - 24) ≡ h .begin = omega (arith, end-is f h ok, ok .places .after-fields) in
+      let n = numbers-same f bytes (ok .long) (ok .name) in
+      rw (fields-are f h ok)
+      (glue (ap numberBytes (header-is ∙ sym (ok .numbers)) ∙ n) (rest-is f h ok lay)
+      ∙ sym (rw a at (part-in-two 0 24 (h .begin - 24) f)))
+
+pub log-same : LogSame
+unfolding LogSame logBytes logOf
+log-same f h bytes e lay z r p =
+    let ok = sound f h e in
+    let s = same-from (h .size) f bytes (suc (length f)) 0 (h .begin) (ok .places .data-begins) (omega arith) z r p in
+    glue (header-same f h bytes ok lay) s ∙ take-append-drop (h .begin) f
