@@ -19,7 +19,7 @@ use Rattle.mlg.specs.Area.{ended, areaOf, infoStart}
 use Rattle.mlg.specs.Fields.{sizes, fieldsNumber}
 use Rattle.mlg.specs.Header.{numbersOf, fieldsEnd, nameNumber, placesNumber, lastNumber, bodyNumber, areaIn, headNumber, headJudged, headerOf}
 use Rattle.mlg.specs.Writing.{numberBytes, headerFor, headerBytes, headerNumber, lengthsNumber}
-use Rattle.mlg.specs.Parts.{fieldsIn, namesIn, infoIn}
+use Rattle.mlg.specs.Parts.{fieldsIn, namesEnd, namesIn, infoLength, infoIn}
 use Rattle.mlg.specs.RoundTrip.{HeaderReads, HeaderBack}
 use Rattle.mlg.specs.declared.Header.{Header}
 use Rattle.mlg.specs.declared.Head.the-variants.{Is}
@@ -84,8 +84,8 @@ module _ (v time : ℕ) (fields names : List ℕ) (n : ℕ) (h : length fields %
 
 -- the names stop where info starts, or at data begin
 stop-at : (time : ℕ) (fields names info : List ℕ)
-    → cond (eqb (headerFor 2 time fields names info .info) 0) (headerFor 2 time fields names info .begin) (headerFor 2 time fields names info .info) ≡ headerLen 2 + length fields + length names
-unfolding headerFor
+    → namesEnd (headerFor 2 time fields names info) ≡ headerLen 2 + length fields + length names
+unfolding headerFor namesEnd
 stop-at time fields names [] = omega (arith, area-length names [])
 stop-at time fields names (b ∷ bs) =
     let z : eqb (headerLen 2 + length fields + length names) 0 ≡ false = ne-eqb (headerLen 2 + length fields + length names) 0 (λ w. omega (arith, header-two)) in
@@ -188,7 +188,7 @@ text-at l info rest p h t =
     rw (e, text-back info rest t) (take-at info (0 ∷ rest) (length info) refl)
 
 info-back : (time : ℕ) (fields names info rest : List ℕ) → Fit 2 fields names info → infoIn (log time fields names info rest) (headerFor 2 time fields names info) ≡ info
-unfolding infoIn headerFor
+unfolding infoIn infoLength headerFor
 info-back time fields names [] rest f = refl
 info-back time fields names (b ∷ bs) rest f =
     let z : eqb (headerLen 2 + length fields + length names) 0 ≡ false = ne-eqb (headerLen 2 + length fields + length names) 0 (λ w. omega (arith, header-two)) in

@@ -20,7 +20,7 @@ use Rattle.mlg.specs.Area.{ended, areaOf, infoStart}
 use Rattle.mlg.specs.Fields.{sizes}
 use Rattle.mlg.specs.Header.{logName, versionIn, numbersOf, fieldsEnd, fieldsFrom, nameNumber, placesNumber, lastNumber, bodyNumber, areaIn, headNumber, headJudged, headerOf}
 use Rattle.mlg.specs.Writing.{numberBytes, headerFor, headerBytes}
-use Rattle.mlg.specs.Parts.{fieldsIn, namesIn, infoIn}
+use Rattle.mlg.specs.Parts.{fieldsIn, namesEnd, namesIn, infoLength, infoIn}
 use Rattle.mlg.specs.Log.{logOf}
 use Rattle.mlg.specs.Entries.{entriesBytes, entriesIn}
 use Rattle.mlg.specs.RoundTrip.{InLayout, LogSame, logBytes}
@@ -119,20 +119,20 @@ module _ (f : List ℕ) (h : Header) (ok : Sound f h) where
 
   -- the area, where there is no info
   bare : h .info ≡ 0 → namesIn f h ≡ take (h .begin - end) (drop end f)
-  unfolding namesIn
+  unfolding namesIn namesEnd
   bare z = rw (eq-eqb (h .info) 0 z)
 
   no-info : h .info ≡ 0 → infoIn f h ≡ []
-  unfolding infoIn
+  unfolding infoIn infoLength
   no-info z = rw (eq-eqb (h .info) 0 z)
 
   -- and where there is
   some-names : (h .info ≡ 0 → ⊥) → namesIn f h ≡ take (h .info - end) (drop end f)
-  unfolding namesIn
+  unfolding namesIn namesEnd
   some-names z = rw (ne-eqb (h .info) 0 z)
 
   some-info : (h .info ≡ 0 → ⊥) → infoIn f h ≡ take (textLen (drop (h .info) f)) (drop (h .info) f)
-  unfolding infoIn
+  unfolding infoIn infoLength
   some-info z = rw (ne-eqb (h .info) 0 z)
 
   abbrev m : ℕ

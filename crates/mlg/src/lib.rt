@@ -13,6 +13,9 @@ ghost use Rattle.mlg.specs.Fields.{unended, textsNumber, namesNumber, fi
 ghost use Rattle.mlg.specs.Header.{numbersOf, fieldsEnd, nameNumber, placesNumber, lastNumber, fieldsFrom, areaIn, headNumber, headerOf, headAnswer};
 ghost use Rattle.mlg.specs.Block.{counterOf, blockLen, lastOf, blockNumber, partsOf, blockOf, blockAt, atNumber, blockAnswer};
 ghost use Rattle.wire.specs.BigEndian.{bytesOf};
+ghost use Rattle.mlg.specs.Log.{lengthOf, logOf, tallyOf, tallyIn};
+ghost use Rattle.mlg.specs.Parts.{namesEnd, infoLength, spanOf, fieldSpan, namesSpan, infoSpan};
+ghost use Rattle.mlg.specs.RoundTrip.{DataBack, MarkBack, BlockAlone, BlockSame, HeaderBack, LogBack, LogSame};
 ghost use Rattle.wire.specs.Put.{putOf};
 ghost use Rattle.wire.specs.Writer.{wrote, leaves};
 ghost use Rattle.mlg.specs.Area.{infoStart};
@@ -55,6 +58,20 @@ pub enum Block {
         number: u8,
         place: usize,
     },
+}
+
+// How many blocks a log has, the number that ended them (0 for the end of the file), and the place where.
+pub struct Tally {
+    pub blocks: u64,
+    pub number: u8,
+    pub place: usize,
+}
+
+// A part of a file: a number, and where the part starts and how long it is.
+pub struct Span {
+    pub number: u8,
+    pub start: usize,
+    pub len: usize,
 }
 
 // The version's layout.
@@ -497,6 +514,7 @@ fn block_of(t: &[u8], size: u16, counter: u8, at: usize) -> Block
 // The block at a place of a log whose records have the given length, after the given number of earlier blocks.
 pub fn read_block(file: &[u8], size: u16, earlier: u64, at: usize) -> Block
     ensures { λ r. ⌜ (r ≡ blockAt size earlier (now (file .entry)) at) × (blockAnswer size r .number ≡ atNumber size (now (file .entry)) at) ⌝ }
+    ensures alone { λ _. ⌜ BlockAlone ⌝ }
 {
     if file.len() < at {
         return Block::Refused {
@@ -505,6 +523,189 @@ pub fn read_block(file: &[u8], size: u16, earlier: u64, at: usize) -> Block
         };
     }
     block_of(&file[at..], size, counter_of(earlier), at)
+}
+
+// The whole log.
+
+fn length_of(b: Block, size: u16) -> usize
+    ensures { λ r. ⌜ r ≡ lengthOf size b ⌝ }
+{
+    match b {
+        Block::Data {
+            counter: _,
+            time: _,
+            start: _,
+            right: _,
+        } => block_len(0, size),
+        Block::Mark {
+            counter: _,
+            time: _,
+            start: _,
+            len: _,
+            right: _,
+        } => block_len(1, size),
+        Block::End => 0,
+        Block::Refused {
+            number: _,
+            place: _,
+        } => 0,
+    }
+}
+
+fn stop_number(b: Block) -> u8
+    ensures { λ r. ⌜ ((l : ℕ) → r ≡ blockAnswer l b .number) ⌝ }
+{
+    match b {
+        Block::Data {
+            counter: _,
+            time: _,
+            start: _,
+            right: _,
+        } => 0,
+        Block::Mark {
+            counter: _,
+            time: _,
+            start: _,
+            len: _,
+            right: _,
+        } => 0,
+        Block::End => 0,
+        Block::Refused { number, place: _ } => number,
+    }
+}
+
+fn count_from(file: &[u8], size: u16, begin: usize) -> Tally
+    ensures { λ r. ⌜ r ≡ tallyOf size (logOf size (now (file .entry)) begin) ⌝ }
+{
+    let mut left = file.len() + 1;
+    let mut at = begin;
+    let mut n: u64 = 0;
+    while left != 0 {
+        let b = read_block(file, size, n, at);
+        let (Block::Data {
+            counter: _,
+            time: _,
+            start: _,
+            right: _,
+        }
+        | Block::Mark {
+            counter: _,
+            time: _,
+            start: _,
+            len: _,
+            right: _,
+        }) = b
+        else {
+            return Tally {
+                blocks: n,
+                number: stop_number(b),
+                place: at,
+            };
+        };
+        at += length_of(b, size);
+        n += 1;
+        left -= 1;
+    }
+    Tally {
+        blocks: n,
+        number: 0,
+        place: at,
+    }
+}
+
+fn refusal(head: Head) -> u8
+    ensures { λ r. ⌜ r ≡ headAnswer head .number ⌝ }
+{
+    match head {
+        Head::Is(_) => 0,
+        Head::Refused(number) => number,
+    }
+}
+
+// How many blocks a file has, and what ends them; a refused header ends them at place 0.
+pub fn count_blocks(file: &[u8]) -> Tally
+    ensures { λ r. ⌜ r ≡ tallyIn (now (file .entry)) ⌝ }
+{
+    let head = read_header(file);
+    let Head::Is(h) = head else {
+        return Tally {
+            blocks: 0,
+            number: refusal(head),
+            place: 0,
+        };
+    };
+    count_from(file, h.size, h.begin as usize)
+}
+
+// A file's parts.
+
+fn part(number: u8, start: usize, len: usize) -> Span
+    ensures { λ r. ⌜ r ≡ spanOf number start len ⌝ }
+{
+    if number != 0 {
+        return Span {
+            number,
+            start: 0,
+            len: 0,
+        };
+    }
+    Span {
+        number: 0,
+        start,
+        len,
+    }
+}
+
+fn names_end(h: Header) -> usize
+    ensures { λ r. ⌜ r ≡ namesEnd h ⌝ }
+{
+    let info = h.info as usize;
+    if info == 0 { h.begin as usize } else { info }
+}
+
+// Where field i stands.
+pub fn field_span(file: &[u8], index: u16) -> Span
+    ensures { λ r. ⌜ (r ≡ fieldSpan (now (file .entry)) index) × (r .start + r .len ≤ length (now (file .entry))) ⌝ }
+{
+    let number = head_number(file);
+    if number != 0 {
+        return part(number, 0, 0);
+    }
+    let h = numbers(file);
+    if h.count <= index {
+        return part(23, 0, 0);
+    }
+    let len = field_len(h.version);
+    part(0, header_len(h.version) + len * (index as usize), len)
+}
+
+// Where the names area stands.
+pub fn names_span(file: &[u8]) -> Span
+    ensures { λ r. ⌜ (r ≡ namesSpan (now (file .entry))) × (r .start + r .len ≤ length (now (file .entry))) ⌝ }
+{
+    let number = head_number(file);
+    if number != 0 {
+        return part(number, 0, 0);
+    }
+    let h = numbers(file);
+    let end = fields_end(h);
+    part(0, end, names_end(h) - end)
+}
+
+// Where the info text stands, without its zero.
+pub fn info_span(file: &[u8]) -> Span
+    ensures { λ r. ⌜ (r ≡ infoSpan (now (file .entry))) × (r .start + r .len ≤ length (now (file .entry))) ⌝ }
+{
+    let number = head_number(file);
+    if number != 0 {
+        return part(number, 0, 0);
+    }
+    let h = numbers(file);
+    let info = h.info as usize;
+    if info == 0 {
+        return part(0, 0, 0);
+    }
+    part(0, info, wire::text_len(&file[info..]))
 }
 
 // Writing blocks.
@@ -544,6 +745,7 @@ fn put_data(out: &mut [u8], counter: u8, time: u16, bytes: &[u8])
 pub fn write_data(out: &mut [u8], size: u16, earlier: u64, time: u16, bytes: &[u8]) -> wire::Written
     ensures { λ r. ⌜ (r ≡ wrote (dataNumber size (now (bytes .entry)) (length (now (out .entry)))) (dataBytes (counterOf earlier) time (now (bytes .entry))))
         × (now (out .exit) ≡ leaves (dataNumber size (now (bytes .entry)) (length (now (out .entry)))) (dataBytes (counterOf earlier) time (now (bytes .entry))) (now (out .entry))) ⌝ }
+    ensures back { λ _. ⌜ DataBack ⌝ }
 {
     let number = data_number(size, bytes, out.len());
     if number != 0 {
@@ -595,6 +797,8 @@ fn put_mark(out: &mut [u8], counter: u8, time: u16, text: &[u8])
 pub fn write_mark(out: &mut [u8], earlier: u64, time: u16, text: &[u8]) -> wire::Written
     ensures { λ r. ⌜ (r ≡ wrote (markNumber (now (text .entry)) (length (now (out .entry)))) (markBytes (counterOf earlier) time (now (text .entry))))
         × (now (out .exit) ≡ leaves (markNumber (now (text .entry)) (length (now (out .entry)))) (markBytes (counterOf earlier) time (now (text .entry))) (now (out .entry))) ⌝ }
+    ensures back { λ _. ⌜ MarkBack ⌝ }
+    ensures same { λ _. ⌜ BlockSame ⌝ }
 {
     let number = mark_number(text, out.len());
     if number != 0 {
@@ -804,6 +1008,9 @@ pub fn write_header(
 ) -> wire::Written
     ensures { λ r. ⌜ (r ≡ wrote (headerNumber 2 time (now (fields .entry)) (now (names .entry)) (now (info .entry)) (length (now (out .entry)))) (headerBytes 2 time (now (fields .entry)) (now (names .entry)) (now (info .entry))))
         × (now (out .exit) ≡ leaves (headerNumber 2 time (now (fields .entry)) (now (names .entry)) (now (info .entry)) (length (now (out .entry)))) (headerBytes 2 time (now (fields .entry)) (now (names .entry)) (now (info .entry))) (now (out .entry))) ⌝ }
+    ensures back { λ _. ⌜ HeaderBack ⌝ }
+    ensures log { λ _. ⌜ LogBack ⌝ }
+    ensures same { λ _. ⌜ LogSame ⌝ }
 {
     let number = header_number(2, time, fields, names, info, out.len());
     if number != 0 {
