@@ -1,7 +1,8 @@
 -- Laws of the layout, at every version.
 use Prim.Native.Nat.{ℕ, _+_, _≤_}
-use mathlib.Core.Path.{_≡_}
+use mathlib.Core.Path.{_≡_, ap}
 use native.Mathlib.Omega.{arith}
+use Rattle.field.specs.declared.Layout.{Layout}
 use Rattle.field.specs.Layout.{layoutOf, headerLen, infoLen, fieldLen}
 
 -- a field holds its parts up to the category, which starts at 55
@@ -21,3 +22,13 @@ info-most v = omega arith
 pub header-is : (v : ℕ) → headerLen v ≡ 20 + infoLen v
 unfolding layoutOf
 header-is v = omega arith
+
+-- the parts of the layout that a call handed back
+pub header-of : (v : ℕ) (l : Layout) → l ≡ layoutOf v → l .header ≡ headerLen v
+header-of v l e = ap (λ (k : Layout). k .header) e
+
+pub info-of : (v : ℕ) (l : Layout) → l ≡ layoutOf v → l .info ≡ infoLen v
+info-of v l e = ap (λ (k : Layout). k .info) e
+
+pub field-of : (v : ℕ) (l : Layout) → l ≡ layoutOf v → l .field ≡ fieldLen v
+field-of v l e = ap (λ (k : Layout). k .field) e

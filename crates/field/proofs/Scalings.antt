@@ -1,0 +1,76 @@
+-- Laws of shown values.
+use Prim.Native.Nat.{ℕ}
+use mathlib.Core.Path.{_≡_, refl, sym, ap, _∙_}
+use mathlib.Core.Bool.{Bool, true, false, not}
+use mathlib.Core.List.{List}
+use lib.Ieee.{Float}
+use borrow.Author.Tests.{not-false}
+use Rattle.wire.specs.Order.{_if_else_, _orElse_}
+use Rattle.wire.proofs.Orders.{if-yes, if-no, not-yes, not-no, if-zero, else-zero}
+use Rattle.field.specs.Field.{typeOf}
+use Rattle.field.specs.Shown.{shows, finite, scalingIn, scalingNumber, shifted, scaled, scaledNumber, applied, appliedResult, shownAt, shownResult, shownAnswer, scalingAt, scalingResult, scalingAnswer, zeroFloat, zeroScaling}
+use Rattle.field.proofs.Answers.{means}
+use Rattle.field.proofs.Finite.{sum-finite, product-finite}
+use Rattle.field.specs.declared.Scaling.{Scaling}
+use Rattle.field.specs.declared.FieldScaling.{FieldScaling}
+use Rattle.field.specs.declared.FieldScaling.the-variants as F
+use Rattle.field.specs.declared.ShownValue.{ShownValue}
+use Rattle.field.specs.declared.ShownValue.the-variants as S
+
+-- the same number in any case
+pub either : (n : ℕ) (b : Bool) (r : ℕ) → n ≡ r → n ≡ (n if b else r)
+unfolding _if_else_
+either n true r e = refl
+either n false r e = e
+
+module _ (s : Scaling) (x : Float) where
+  pub by-raw : finite x ≡ false → 30 ≡ scaledNumber s x
+  unfolding scaledNumber
+  by-raw h = if-yes 30 _ _ (not-yes _ h)
+
+  pub by-transform : finite (s .transform) ≡ false → 30 ≡ scaledNumber s x
+  unfolding scaledNumber
+  by-transform h = either 30 _ _ (if-yes 30 _ _ (not-yes _ h))
+
+  pub by-sum : finite (shifted s x) ≡ false → 30 ≡ scaledNumber s x
+  unfolding scaledNumber
+  by-sum h = either 30 _ _ (either 30 _ _ (if-yes 30 _ _ (not-yes _ h)))
+
+  pub by-scale : finite (s .scale) ≡ false → 30 ≡ scaledNumber s x
+  unfolding scaledNumber
+  by-scale h = either 30 _ _ (either 30 _ _ (either 30 _ _ (if-yes 30 _ _ (not-yes _ h))))
+
+  pub by-product : finite (scaled s x) ≡ false → 30 ≡ scaledNumber s x
+  unfolding scaledNumber
+  by-product h = either 30 _ _ (either 30 _ _ (either 30 _ _ (either 30 _ _ (if-yes 30 _ _ (not-yes _ h)))))
+
+  -- where sum and product are finite, all is
+  pub all-finite : finite (shifted s x) ≡ true → finite (scaled s x) ≡ true → 0 ≡ scaledNumber s x
+  unfolding scaledNumber
+  all-finite h k =
+      let p = sum-finite x (s .transform) h in
+      if-no 30 _ _ _ (not-no _ (p .0))
+      (if-no 30 _ _ _ (not-no _ (p .1))
+      (if-no 30 _ _ _ (not-no _ h)
+      (if-no 30 _ _ _ (not-no _ (product-finite (shifted s x) (s .scale) k))
+      (if-no 30 _ _ _ (not-no _ k) refl))))
+
+  pub applied-means : (r : ShownValue) → r ≡ applied s x → (r ≡ applied s x) × (shownAnswer r ≡ appliedResult s x)
+  unfolding applied shownAnswer appliedResult
+  applied-means r = means S.Is S.Refused zeroFloat shownAnswer (λ y. refl) (λ n. refl) r _ _
+
+pub shown-means : (v : ℕ) (d b : List ℕ) (r : ShownValue) → r ≡ shownAt v d b → (r ≡ shownAt v d b) × (shownAnswer r ≡ shownResult v d b)
+unfolding shownAt shownAnswer shownResult
+shown-means v d b r = means S.Is S.Refused zeroFloat shownAnswer (λ y. refl) (λ n. refl) r _ _
+
+pub scaling-means : (v : ℕ) (d : List ℕ) (r : FieldScaling) → r ≡ scalingAt v d → (r ≡ scalingAt v d) × (scalingAnswer r ≡ scalingResult v d)
+unfolding scalingAt scalingAnswer scalingResult
+scaling-means v d r = means F.Is F.Refused zeroScaling scalingAnswer (λ s. refl) (λ n. refl) r _ _
+
+-- what holds where no number refuses
+pub scaling-stands : (v : ℕ) (d : List ℕ) → scalingNumber v d ≡ 0 → (shows (typeOf d) ≡ true) × ((finite (scalingIn d .transform) ≡ true) × (finite (scalingIn d .scale) ≡ true))
+unfolding scalingNumber
+scaling-stands v d e =
+    let p = if-zero 29 _ _ (else-zero _ _ e .1) in
+    let q = if-zero 29 _ _ (p .1) in
+    (not-false _ (p .0), (not-false _ (q .0), not-false _ (if-zero 29 _ _ (q .1) .0)))
