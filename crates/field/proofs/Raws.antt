@@ -49,6 +49,10 @@ pub sized : (v : ℕ) (d b : List ℕ) → valueNumber v d b ≡ 0 → length b 
 unfolding valueNumber
 sized v d b e = eqb-true _ _ (not-false _ (if-zero 22 _ _ (else-zero _ _ e .1) .0))
 
+pub sound-field : (v : ℕ) (d b : List ℕ) → valueNumber v d b ≡ 0 → fieldNumber v d ≡ 0
+unfolding valueNumber
+sound-field v d b e = else-zero _ _ e .0
+
 pub raw-means : (v : ℕ) (d b : List ℕ) (r : RawValue) → r ≡ rawAt v d b → (r ≡ rawAt v d b) × (rawAnswer r ≡ rawResult v d b)
 unfolding rawAt rawAnswer rawResult
 raw-means v d b r = means R.Is R.Refused (pos 0) rawAnswer (λ z. refl) (λ n. refl) r _ _

@@ -273,9 +273,10 @@ pub fn shown_value(field: &[u8], raw: &[u8]) -> ShownValue
     if number != 0 {
         return ShownValue::Refused(number);
     }
-    let FieldScaling::Is(scaling) = scaling_of(field) else {
+    if scaling_number(2, field) != 0 {
         return ShownValue::Refused(30);
-    };
+    }
+    let scaling = scaling_in(field);
     let kind = byte_at(field, 0);
     if kind == 7 {
         return shown_float(scaling, raw);

@@ -1,8 +1,6 @@
 use borrow.Author.Needs.{needs}
 use Rattle.field.proofs.as_float.Statement.{statement}
 use Rattle.field.proofs.as_float.Tie as tie
-use Rattle.field.proofs.as_float.Reads as reads
-use Rattle.field.proofs.as_float.Lts as lts
 use mir.Syntax.{w64}
 use mir.ValLaws.{toZ-ofZ}
 use Rattle.field.proofs.Raws.{in-float}

@@ -1,10 +1,6 @@
 use borrow.Author.Needs.{needs}
 use Rattle.field.proofs.field_number.Statement.{statement}
 use Rattle.field.proofs.field_number.Tie as tie
-use Rattle.field.proofs.field_number.Reads as reads
-use Rattle.field.proofs.field_number.Lts as lts
-use Rattle.field.proofs.layout_of.Reads as layout-of-reads
-use Rattle.field.proofs.type_number.Reads as type-number-reads
 use Rattle.wire.proofs.Orders.{order}
 use Rattle.field.proofs.Layouts.{field-of}
 use Rattle.field.specs.Raw.{fieldNumber}

@@ -1,7 +1,5 @@
 use Rattle.field.proofs.finite_bits.Statement.{statement}
 use Rattle.field.proofs.finite_bits.Tie as tie
-use Rattle.field.proofs.finite_bits.Reads as reads
-use Rattle.field.proofs.finite_bits.Lts as lts
 use Rattle.field.proofs.Finite.{finite-pattern}
 
 returns : tie.Need-returns

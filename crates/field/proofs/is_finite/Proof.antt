@@ -1,7 +1,5 @@
 use Rattle.field.proofs.is_finite.Statement.{statement}
 use Rattle.field.proofs.is_finite.Tie as tie
-use Rattle.field.proofs.is_finite.Reads as reads
-use Rattle.field.proofs.is_finite.Lts as lts
 use lib.Ieee.{ofBits, nanBits, lt}
 use Rattle.field.proofs.Finite.{between, not-below}
 

@@ -1,16 +1,6 @@
 use borrow.Author.Needs.{needs}
 use Rattle.field.proofs.raw_of.Statement.{statement}
 use Rattle.field.proofs.raw_of.Tie as tie
-use Rattle.field.proofs.raw_of.Reads as reads
-use Rattle.field.proofs.raw_of.Lts as lts
-use Rattle.field.proofs.byte_at.Reads as byte-at-reads
-use Rattle.wire.proofs.be16.Reads as be16-reads
-use Rattle.wire.proofs.be32.Reads as be32-reads
-use Rattle.wire.proofs.number.Reads as number-reads
-use Rattle.wire.proofs.s08.Reads as s08-reads
-use Rattle.wire.proofs.s16.Reads as s16-reads
-use Rattle.wire.proofs.s32.Reads as s32-reads
-use Rattle.wire.proofs.s64.Reads as s64-reads
 use mathlib.Core.Path.{_≡_, refl, sym, _∙_, ap}
 use native.Mathlib.Omega.{arith}
 use lib.ListN.{length}

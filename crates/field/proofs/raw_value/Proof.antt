@@ -1,11 +1,6 @@
 use borrow.Author.Needs.{needs}
 use Rattle.field.proofs.raw_value.Statement.{statement}
 use Rattle.field.proofs.raw_value.Tie as tie
-use Rattle.field.proofs.raw_value.Reads as reads
-use Rattle.field.proofs.raw_value.Lts as lts
-use Rattle.field.proofs.byte_at.Reads as byte-at-reads
-use Rattle.field.proofs.raw_of.Reads as raw-of-reads
-use Rattle.field.proofs.value_number.Reads as value-number-reads
 use Prim.Native.Nat.{ℕ}
 use mathlib.Core.Path.{_≡_, sym, _∙_, ap}
 use mir.Syntax.{w64}

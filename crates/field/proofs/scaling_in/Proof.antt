@@ -1,9 +1,6 @@
 use borrow.Author.Needs.{needs}
 use Rattle.field.proofs.scaling_in.Statement.{statement}
 use Rattle.field.proofs.scaling_in.Tie as tie
-use Rattle.field.proofs.scaling_in.Reads as reads
-use Rattle.field.proofs.scaling_in.Lts as lts
-use Rattle.wire.proofs.be32.Reads as be32-reads
 use mathlib.Core.Path.{_≡_, sym, _∙_, refl}
 use Rattle.field.proofs.Finite.{no-nan}
 

@@ -1,13 +1,6 @@
 use borrow.Author.Needs.{needs}
 use Rattle.field.proofs.scaling_number.Statement.{statement}
 use Rattle.field.proofs.scaling_number.Tie as tie
-use Rattle.field.proofs.scaling_number.Reads as reads
-use Rattle.field.proofs.scaling_number.Lts as lts
-use Rattle.field.proofs.byte_at.Reads as byte-at-reads
-use Rattle.field.proofs.field_number.Reads as field-number-reads
-use Rattle.field.proofs.finite_bits.Reads as finite-bits-reads
-use Rattle.field.proofs.is_shown.Reads as is-shown-reads
-use Rattle.wire.proofs.be32.Reads as be32-reads
 use Rattle.wire.proofs.Orders.{order}
 use Rattle.field.specs.Shown.{scalingNumber}
 

@@ -1,10 +1,6 @@
 use borrow.Author.Needs.{needs}
 use Rattle.field.proofs.scaling_of.Statement.{statement}
 use Rattle.field.proofs.scaling_of.Tie as tie
-use Rattle.field.proofs.scaling_of.Reads as reads
-use Rattle.field.proofs.scaling_of.Lts as lts
-use Rattle.field.proofs.scaling_in.Reads as scaling-in-reads
-use Rattle.field.proofs.scaling_number.Reads as scaling-number-reads
 use mathlib.Core.Path.{_≡_, sym, _∙_, refl}
 use Rattle.field.specs.Shown.{scalingAt}
 use Rattle.field.proofs.Answers.{refuses, stands}

@@ -1,57 +1,62 @@
 use borrow.Author.Needs.{needs}
 use Rattle.field.proofs.shown_value.Statement.{statement}
 use Rattle.field.proofs.shown_value.Tie as tie
-use Rattle.field.proofs.shown_value.Reads as reads
-use Rattle.field.proofs.shown_value.Lts as lts
-use Rattle.field.proofs.byte_at.Reads as byte-at-reads
-use Rattle.field.proofs.scaling_of.Reads as scaling-of-reads
-use Rattle.field.proofs.shown_float.Reads as shown-float-reads
-use Rattle.field.proofs.shown_whole.Reads as shown-whole-reads
-use Rattle.field.proofs.value_number.Reads as value-number-reads
+use mathlib.Core.Path.{_≡_, sym, _∙_, refl, ap}
+use native.Mathlib.Omega.{arith}
+use lib.Ieee.{Float, binary32, ofBits, ofInt}
+use Rattle.wire.proofs.Orders.{else-some}
+use Rattle.wire.specs.BigEndian.{beOf}
+use Rattle.field.specs.Types.{sizeOf}
+use Rattle.field.specs.Field.{typeOf}
+use Rattle.field.specs.Raw.{rawOf}
+use Rattle.field.specs.Shown.{scalingIn, applied, shownAt, shownNumber}
+use Rattle.field.proofs.Types.{size-at}
+use Rattle.field.proofs.Answers.{refuses}
+use Rattle.field.proofs.Raws.{sized}
+use Rattle.field.proofs.Scalings.{scaling-stands, no-scaling, float-bits, float-whole, shown-small, shown-applied, shown-means}
+use Rattle.field.specs.declared.Scaling.{Scaling}
+use Rattle.field.specs.declared.ShownValue.the-variants as S
 
--- src/lib.rt:272:9
 value-number-requires : tie.Need-value-number-requires
 value-number-requires c κs = search needs
 
--- src/lib.rt:274:9
 returns : tie.Need-returns
-returns c = ?
+unfolding shownAt shownNumber
+returns c = shown-means 2 (c .before .before .before .before .args .field .now) (c .before .before .before .before .args .raw .now) _ (refuses S.Is S.Refused _ _ _ (else-some _ _ _ (c .before .value-number .ensures) (c .if1 .taken)) (c .if1 .taken))
 
--- src/lib.rt:276:37
-scaling-of-requires : tie.Need-scaling-of-requires
-scaling-of-requires c κs = search needs
+scaling-number-requires : tie.Need-scaling-number-requires
+scaling-number-requires c κs = search needs
 
--- src/lib.rt:276:26
-enum-known-scaling : tie.Need-enum-known-scaling
-enum-known-scaling c = search needs
-
--- src/lib.rt:277:9
-enum-told : tie.Need-enum-told
-enum-told c = search needs
-
--- src/lib.rt:277:9
 returns-2 : tie.Need-returns-2
-returns-2 c = ?
+unfolding shownAt
+returns-2 c = shown-means 2 (c .before .before .before .before .before .before .args .field .now) (c .before .before .before .before .before .before .args .raw .now) _ (refuses S.Is S.Refused _ _ 30 (no-scaling 2 (c .before .before .before .before .before .before .args .field .now) (c .before .before .before .before .before .before .args .raw .now) (sym (c .before .before .before .value-number .ensures) ∙ c .before .before .if1 .left) (λ e. c .if2 .taken (c .before .scaling-number .ensures ∙ e))) (λ e. omega arith))
 
--- src/lib.rt:279:9
+scaling-in-requires : tie.Need-scaling-in-requires
+scaling-in-requires c κs = scaling-stands 2 _ (sym (c .before .scaling-number .ensures) ∙ c .if2 .left) .1
+
 byte-at-requires : tie.Need-byte-at-requires
 byte-at-requires c κs = search needs
 
--- src/lib.rt:281:9
 shown-float-requires : tie.Need-shown-float-requires
-shown-float-requires c κs = ?
+unfolding sizeOf
+shown-float-requires c κs = omega (arith, sized 2 (c .before .before .before .before .before .before .before .before .before .args .field .now) (c .before .before .before .before .before .before .before .before .before .args .raw .now) (sym (c .before .before .before .before .before .before .value-number .ensures) ∙ c .before .before .before .before .before .if1 .left), size-at (typeOf (c .before .before .before .before .before .before .before .before .before .args .field .now)) 7 4 (sym (c .before .byte-at .ensures) ∙ c .if3 .taken) refl)
 
--- src/lib.rt:281:9
 returns-3 : tie.Need-returns-3
-returns-3 c = ?
+returns-3 c = let d = c .before .before .before .before .before .before .before .before .before .before .args .field .now in let b = c .before .before .before .before .before .before .before .before .before .before .args .raw .now in
+    shown-means 2 d b _ (c .shown-float .ensures
+    ∙ ap (λ (s : Scaling). applied s (ofBits binary32 (beOf b))) (c .before .before .before .scaling-in .ensures)
+    ∙ ap (applied (scalingIn d)) (float-bits (typeOf d) b (sym (c .before .before .byte-at .ensures) ∙ c .before .if3 .taken))
+    ∙ shown-applied 2 d b (sym (c .before .before .before .before .before .before .before .value-number .ensures) ∙ c .before .before .before .before .before .before .if1 .left) (scaling-stands 2 d (sym (c .before .before .before .before .before .scaling-number .ensures) ∙ c .before .before .before .before .if2 .left) .0))
 
--- src/lib.rt:283:5
 shown-whole-requires : tie.Need-shown-whole-requires
-shown-whole-requires c κs = ?
+shown-whole-requires c κs = let d = c .before .before .before .before .before .before .before .before .before .args .field .now in let b = c .before .before .before .before .before .before .before .before .before .args .raw .now in
+    rw (c .before .byte-at .ensures) (sized 2 d b (sym (c .before .before .before .before .before .before .value-number .ensures) ∙ c .before .before .before .before .before .if1 .left), shown-small (typeOf d) (scaling-stands 2 d (sym (c .before .before .before .before .scaling-number .ensures) ∙ c .before .before .before .if2 .left) .0) (λ e. c .if3 .left (c .before .byte-at .ensures ∙ e)))
 
--- src/lib.rt:268:1
 returns-4 : tie.Need-returns-4
-returns-4 c = ?
+returns-4 c = let d = c .before .before .before .before .before .before .before .before .before .before .args .field .now in let b = c .before .before .before .before .before .before .before .before .before .before .args .raw .now in
+    shown-means 2 d b _ (rw (c .before .before .before .scaling-in .ensures, c .before .before .byte-at .ensures) at (c .shown-whole .ensures)
+    ∙ ap (applied (scalingIn d)) (float-whole (typeOf d) b (λ e. c .before .if3 .left (c .before .before .byte-at .ensures ∙ e)))
+    ∙ shown-applied 2 d b (sym (c .before .before .before .before .before .before .before .value-number .ensures) ∙ c .before .before .before .before .before .before .if1 .left) (scaling-stands 2 d (sym (c .before .before .before .before .before .scaling-number .ensures) ∙ c .before .before .before .before .if2 .left) .0))
 
 pub shown-value-spec : {M : Type 1} → statement M
 shown-value-spec =
@@ -59,10 +64,9 @@ shown-value-spec =
     (tie.spec
     value-number-requires
     returns
-    scaling-of-requires
-    enum-known-scaling
-    enum-told
+    scaling-number-requires
     returns-2
+    scaling-in-requires
     byte-at-requires
     shown-float-requires
     returns-3

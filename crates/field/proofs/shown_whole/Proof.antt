@@ -1,27 +1,26 @@
 use borrow.Author.Needs.{needs}
 use Rattle.field.proofs.shown_whole.Statement.{statement}
 use Rattle.field.proofs.shown_whole.Tie as tie
-use Rattle.field.proofs.shown_whole.Reads as reads
-use Rattle.field.proofs.shown_whole.Lts as lts
-use Rattle.field.proofs.Scaling.apply.Reads as apply-reads
-use Rattle.field.proofs.as_float.Reads as as-float-reads
-use Rattle.field.proofs.raw_of.Reads as raw-of-reads
+use mathlib.Core.Path.{_≡_, sym, _∙_, refl, ap}
+use native.Mathlib.Omega.{arith}
+use lib.IntN.{ℤ}
+use lib.Ieee.{Float, binary32, ofInt}
+use mir.Syntax.{w64}
+use mir.ValLaws.{toZ-ofZ}
+use Rattle.field.specs.Shown.{applied}
+use Rattle.field.proofs.Raws.{raw-small}
 
--- src/lib.rt:264:28
 raw-of-requires : tie.Need-raw-of-requires
 raw-of-requires c κs = search needs
 
--- src/lib.rt:264:19
 as-float-requires : tie.Need-as-float-requires
-as-float-requires c κs = ?
+as-float-requires c κs = rw (toZ-ofZ w64 _ (record { sfits = c .raw-of .ok }), c .raw-of .ensures) (raw-small _ _ (c .before .before .pre .1) (c .before .before .pre .0) (λ i. omega (arith, c .before .shared-slice-known .given i)))
 
--- src/lib.rt:264:5
 apply-requires : tie.Need-apply-requires
 apply-requires c κs = search needs
 
--- src/lib.rt:260:1
 returns : tie.Need-returns
-returns c = ?
+returns c = c .apply .ensures .0 ∙ ap (applied (c .before .before .before .before .args .scaling)) (c .before .as-float .ensures ∙ ap (ofInt binary32) (toZ-ofZ w64 _ (record { sfits = c .before .before .raw-of .ok }) ∙ c .before .before .raw-of .ensures))
 
 pub shown-whole-spec : {M : Type 1} → statement M
 shown-whole-spec = tie.close (tie.spec raw-of-requires as-float-requires apply-requires returns)

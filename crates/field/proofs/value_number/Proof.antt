@@ -1,11 +1,6 @@
 use borrow.Author.Needs.{needs}
 use Rattle.field.proofs.value_number.Statement.{statement}
 use Rattle.field.proofs.value_number.Tie as tie
-use Rattle.field.proofs.value_number.Reads as reads
-use Rattle.field.proofs.value_number.Lts as lts
-use Rattle.field.proofs.byte_at.Reads as byte-at-reads
-use Rattle.field.proofs.field_number.Reads as field-number-reads
-use Rattle.field.proofs.size_of.Reads as size-of-reads
 use Rattle.wire.proofs.Orders.{order}
 use Rattle.field.specs.Raw.{valueNumber}
 

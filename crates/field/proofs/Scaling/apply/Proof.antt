@@ -1,9 +1,6 @@
 use borrow.Author.Needs.{needs}
 use Rattle.field.proofs.Scaling.apply.Statement.{statement}
 use Rattle.field.proofs.Scaling.apply.Tie as tie
-use Rattle.field.proofs.Scaling.apply.Reads as reads
-use Rattle.field.proofs.Scaling.apply.Lts as lts
-use Rattle.field.proofs.is_finite.Reads as is-finite-reads
 use Prim.Native.Nat.{ℕ}
 use mathlib.Core.Path.{_≡_, sym, _∙_, refl}
 use native.Mathlib.Omega.{arith}
