@@ -1,6 +1,6 @@
 -- Laws of answers, for every answer enum.
 use Prim.Native.Nat.{ℕ, zero, suc}
-use mathlib.Core.Path.{_≡_, refl, ap, _∙_}
+use mathlib.Core.Path.{_≡_, ap, _∙_}
 use native.Mathlib.Omega.{arith}
 use Rattle.field.specs.Answer.{answer, result}
 

@@ -1,11 +1,10 @@
 -- When a float and a bit pattern are finite.
-use Prim.Native.Nat.{ℕ, zero, suc, _+_, _*_, _-_, _/_, _%_}
-use mathlib.Core.Path.{_≡_, refl, sym, ap, _∙_, subst}
-use mathlib.Core.Bool.{Bool, true, false, not, cond, _&&_}
+use Prim.Native.Nat.{ℕ, zero, suc, _+_, _-_, _/_, _%_}
+use mathlib.Core.Path.{_≡_, refl, sym, _∙_}
+use mathlib.Core.Bool.{Bool, true, false, not, cond}
 use lib.Dec.{T, eqb}
-use lib.IntN.{ℤ}
 use borrow.Author.Tests.{not-true}
-use lib.Ieee.{Float, nan, inf, fin, binary32, add, mul, lt, odd, ofFields, ofBits, nanBits, low, hid, top}
+use lib.Ieee.{Float, nan, inf, fin, binary32, add, mul, lt, odd, ofFields, ofBits, nanBits}
 use Rattle.field.specs.Shown.{finite}
 
 -- below +infinity and above -infinity

@@ -1,25 +1,24 @@
 -- Laws of raw values.
 use Prim.Native.Nat.{ℕ, zero, suc, _+_, _*_, _^_, _≤_, _<_}
-use mathlib.Core.Path.{_≡_, refl, sym, ap, _∙_}
-use mathlib.Core.Bool.{Bool, true, false, cond, not}
+use mathlib.Core.Path.{_≡_, refl, ap}
+use mathlib.Core.Bool.{Bool, true, false}
 use mathlib.Core.List.{List, [], _∷_}
 use native.Mathlib.Omega.{arith}
 use borrow.Author.Tests.{ltb-true, ltb-false, ne-eqb, eqb-true, not-false}
-use lib.Dec.{ltb, eqb, T, le→leb, lt→ltb}
-use lib.ListN.{length, getD, take, drop}
+use lib.Dec.{ltb, T, le→leb, lt→ltb}
+use lib.ListN.{length, getD, take}
 use lib.Seq.{take-all}
 use lib.IntN.{ℤ, pos, negsuc}
 use lib.Signed.{mag}
 use lib.Ieee.{binary32, inFloat}
-use Rattle.wire.specs.BigEndian.{beFrom, beOf, beAt}
+use Rattle.wire.specs.BigEndian.{beFrom, beOf}
 use Rattle.wire.specs.Sign.{signedOf, twos}
 use Rattle.wire.proofs.Numbers.{Bytes, bytes-tail, more-bytes}
 use Rattle.wire.proofs.Signs.{twos-low, twos-high}
 use Rattle.wire.proofs.Orders.{if-zero, else-zero}
-use Rattle.field.specs.Layout.{fieldLen}
 use Rattle.field.specs.Types.{sizeOf, S08, S16, S32, S64}
 use Rattle.field.specs.Field.{fieldSize}
-use Rattle.field.specs.Raw.{fieldNumber, valueNumber, rawOf, rawAt, rawResult, rawAnswer, signedType}
+use Rattle.field.specs.Raw.{valueNumber, rawOf, rawAt, rawResult, rawAnswer, signedType}
 use Rattle.field.proofs.Answers.{means}
 use Rattle.field.specs.declared.RawValue.{RawValue}
 use Rattle.field.specs.declared.RawValue.the-variants as R
@@ -48,10 +47,6 @@ single (x ∷ y ∷ b) h = absurd (omega arith)
 pub sized : (v : ℕ) (d b : List ℕ) → valueNumber v d b ≡ 0 → length b ≡ fieldSize d
 unfolding valueNumber
 sized v d b e = eqb-true _ _ (not-false _ (if-zero 22 _ _ (else-zero _ _ e .1) .0))
-
-pub sound-field : (v : ℕ) (d b : List ℕ) → valueNumber v d b ≡ 0 → fieldNumber v d ≡ 0
-unfolding valueNumber
-sound-field v d b e = else-zero _ _ e .0
 
 pub raw-means : (v : ℕ) (d b : List ℕ) (r : RawValue) → r ≡ rawAt v d b → (r ≡ rawAt v d b) × (rawAnswer r ≡ rawResult v d b)
 unfolding rawAt rawAnswer rawResult

@@ -1,22 +1,21 @@
 -- Laws of shown values.
-use Prim.Native.Nat.{ℕ, _≤_, _<_}
-use mathlib.Core.Path.{_≡_, refl, sym, ap, _∙_}
-use mathlib.Core.Bool.{Bool, true, false, not}
+use Prim.Native.Nat.{ℕ, _<_}
+use mathlib.Core.Path.{_≡_, refl, sym, ap}
+use mathlib.Core.Bool.{Bool, true, false}
 use mathlib.Core.List.{List}
 use native.Mathlib.Omega.{arith}
 use lib.Dec.{ltb}
 use lib.Ieee.{Float, binary32, ofBits, ofInt}
 use borrow.Author.Tests.{ltb-true, ltb-false, eq-eqb, ne-eqb, not-false}
-use Rattle.wire.specs.Order.{_if_else_, _orElse_}
+use Rattle.wire.specs.Order.{_if_else_}
 use Rattle.wire.proofs.Orders.{if-yes, if-no, not-yes, not-no, else-none, if-zero, else-zero}
 use Rattle.wire.specs.BigEndian.{beOf}
 use Rattle.field.specs.Types.{F32}
 use Rattle.field.specs.Field.{typeOf}
 use Rattle.field.specs.Raw.{valueNumber, rawOf}
 use Rattle.field.specs.Answer.{answer}
-use Rattle.field.specs.Shown.{shows, finite, scalingIn, scalingNumber, rawFloat, shownNumber, shifted, scaled, scaledNumber, applied, appliedResult, shownAt, shownResult, shownAnswer, scalingAt, scalingResult, scalingAnswer, zeroFloat, zeroScaling}
+use Rattle.field.specs.Shown.{shows, finite, scalingIn, partsNumber, scalingNumber, rawFloat, shownNumber, shifted, scaled, scaledNumber, applied, appliedResult, shownAt, shownResult, shownAnswer, scalingAt, scalingResult, scalingAnswer, zeroFloat, zeroScaling}
 use Rattle.field.proofs.Answers.{means}
-use Rattle.field.proofs.Raws.{sound-field}
 use Rattle.field.proofs.Finite.{sum-finite, product-finite}
 use Rattle.field.specs.declared.Scaling.{Scaling}
 use Rattle.field.specs.declared.FieldScaling.{FieldScaling}
@@ -75,25 +74,28 @@ unfolding scalingAt scalingAnswer scalingResult
 scaling-means v d r = means F.Is F.Refused zeroScaling scalingAnswer (λ s. refl) (λ n. refl) r _ _
 
 -- what holds where no number refuses
-pub scaling-stands : (v : ℕ) (d : List ℕ) → scalingNumber v d ≡ 0 → (shows (typeOf d) ≡ true) × ((finite (scalingIn d .transform) ≡ true) × (finite (scalingIn d .scale) ≡ true))
-unfolding scalingNumber
-scaling-stands v d e =
-    let p = if-zero 29 _ _ (else-zero _ _ e .1) in
+pub parts-stand : (d : List ℕ) → partsNumber d ≡ 0 → (shows (typeOf d) ≡ true) × ((finite (scalingIn d .transform) ≡ true) × (finite (scalingIn d .scale) ≡ true))
+unfolding partsNumber
+parts-stand d e =
+    let p = if-zero 29 _ _ e in
     let q = if-zero 29 _ _ (p .1) in
     (not-false _ (p .0), (not-false _ (q .0), not-false _ (if-zero 29 _ _ (q .1) .0)))
 
+pub scaling-stands : (v : ℕ) (d : List ℕ) → scalingNumber v d ≡ 0 → partsNumber d ≡ 0
+unfolding scalingNumber
+scaling-stands v d e = else-zero _ _ e .1
+
 module _ (v : ℕ) (d b : List ℕ) (ok : valueNumber v d b ≡ 0) where
-  -- a field with no scale and transform to apply has no shown value
-  by-parts : (t u w : Bool) → shows (typeOf d) ≡ t → finite (scalingIn d .transform) ≡ u → finite (scalingIn d .scale) ≡ w → (scalingNumber v d ≡ 0 → ⊥) → 30 ≡ shownNumber v d b
-  unfolding shownNumber scalingNumber
+  -- a field that is refused alone has no shown value
+  by-parts : (t u w : Bool) → shows (typeOf d) ≡ t → finite (scalingIn d .transform) ≡ u → finite (scalingIn d .scale) ≡ w → (partsNumber d ≡ 0 → ⊥) → 30 ≡ shownNumber v d b
+  unfolding shownNumber partsNumber
   by-parts false u w p q r h = else-none _ _ _ _ refl ok (if-yes 30 _ _ (not-yes _ p))
   by-parts true false w p q r h = else-none _ _ _ _ refl ok (if-no 30 _ _ _ (not-no _ p) (by-transform _ _ q))
   by-parts true true false p q r h = else-none _ _ _ _ refl ok (if-no 30 _ _ _ (not-no _ p) (by-scale _ _ r))
   by-parts true true true p q r h =
-      absurd (h (sym (else-none _ _ _ _ refl (sound-field v d b ok)
-      (if-no 30 _ _ _ (not-no _ p) (if-no 30 _ _ _ (not-no _ q) (if-no 30 _ _ _ (not-no _ r) refl))))))
+      absurd (h (sym (if-no 30 _ _ _ (not-no _ p) (if-no 30 _ _ _ (not-no _ q) (if-no 30 _ _ _ (not-no _ r) refl)))))
 
-  pub no-scaling : (scalingNumber v d ≡ 0 → ⊥) → 30 ≡ shownNumber v d b
+  pub no-scaling : (partsNumber d ≡ 0 → ⊥) → 30 ≡ shownNumber v d b
   no-scaling = by-parts _ _ _ refl refl refl
 
   -- where it has them, its shown value is theirs

@@ -17,12 +17,12 @@ use Rattle.field.specs.declared.RawValue.{RawValue}
 use Rattle.field.specs.declared.RawValue.the-variants as R
 
 -- "23 (not 89), 24"
-unfoldable pub fieldNumber : ℕ → List ℕ → ℕ
-fieldNumber v d = 23 if not (eqb (length d) (fieldLen v)) else typeNumber d
+unfoldable pub valueFieldNumber : ℕ → List ℕ → ℕ
+valueFieldNumber v d = 23 if not (eqb (length d) (fieldLen v)) else typeNumber d
 
 -- "23 (not 89), 24, 23 (raw length)"
 unfoldable pub valueNumber : ℕ → List ℕ → List ℕ → ℕ
-valueNumber v d b = fieldNumber v d orElse 23 if not (eqb (length b) (fieldSize d)) else 0
+valueNumber v d b = valueFieldNumber v d orElse 23 if not (eqb (length b) (fieldSize d)) else 0
 
 -- the signed types
 abbrev pub signedType : ℕ → Bool

@@ -11,7 +11,7 @@ use Rattle.wire.specs.BigEndian.{beOf}
 use Rattle.field.specs.Types.{U08, S08, U16, S16, F32}
 use Rattle.field.specs.Field.{typeOf, scaleBits, transformBits}
 use Rattle.field.specs.Answer.{answer, result}
-use Rattle.field.specs.Raw.{fieldNumber, valueNumber, rawOf}
+use Rattle.field.specs.Raw.{valueFieldNumber, valueNumber, rawOf}
 use Rattle.field.specs.declared.Scaling.{Scaling}
 use Rattle.field.specs.declared.FieldScaling.{FieldScaling}
 use Rattle.field.specs.declared.FieldScaling.the-variants as F
@@ -77,13 +77,16 @@ shownAt v d b = answer S.Is S.Refused (shownNumber v d b) (scaled (scalingIn d) 
 unfoldable pub shownResult : ℕ → List ℕ → List ℕ → ℕ × Float
 shownResult v d b = result zeroFloat (shownNumber v d b) (scaled (scalingIn d) (rawFloat (typeOf d) b))
 
--- the same judgement of a field alone, before there are raw bytes: 23, 24, and 30 where it has no scale and transform to apply
-unfoldable pub scalingNumber : ℕ → List ℕ → ℕ
-scalingNumber v d =
-    fieldNumber v d orElse
+-- 30 by the field alone: its type has no shown value, or its transform or scale is not finite
+unfoldable pub partsNumber : List ℕ → ℕ
+partsNumber d =
     30 if not (shows (typeOf d)) else
     30 if not (finite (scalingIn d .transform)) else
     30 if not (finite (scalingIn d .scale)) else 0
+
+-- the judgement of a field before there are raw bytes: 23 (not 89), 24, 30
+unfoldable pub scalingNumber : ℕ → List ℕ → ℕ
+scalingNumber v d = valueFieldNumber v d orElse partsNumber d
 
 -- a field's scale and transform
 unfoldable pub scalingAt : ℕ → List ℕ → FieldScaling

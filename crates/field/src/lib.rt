@@ -9,9 +9,9 @@ ghost use Rattle.wire.specs.BigEndian.{beOf};
 ghost use Rattle.field.specs.Layout.{served, layoutOf};
 ghost use Rattle.field.specs.Types.{sizeOf};
 ghost use Rattle.field.specs.Field.{typeNumber};
-ghost use Rattle.field.specs.Raw.{fieldNumber, valueNumber, rawOf, rawAt, rawResult, rawAnswer};
+ghost use Rattle.field.specs.Raw.{valueFieldNumber, valueNumber, rawOf, rawAt, rawResult, rawAnswer};
 ghost use Rattle.field.specs.Shown.{shows, finite, applied, appliedResult, shownAt, shownResult, shownAnswer};
-ghost use Rattle.field.specs.Shown.{scalingIn, scalingNumber, scalingAt, scalingResult, scalingAnswer};
+ghost use Rattle.field.specs.Shown.{scalingIn, partsNumber, scalingNumber, scalingAt, scalingResult, scalingAnswer};
 
 // Bytes of a header, of the info start in it, and of a field.
 pub struct Layout {
@@ -27,7 +27,7 @@ pub fn is_served(version: u16) -> bool
     version == 2
 }
 
-// The layout of a served version.
+// The layout of a served version; who calls judges the version first.
 pub fn layout_of(version: u16) -> Layout
     ensures { λ r. ⌜ r ≡ layoutOf version ⌝ }
 {
@@ -48,13 +48,14 @@ pub fn size_of(kind: u8) -> u8
     if k < 13 { SIZES[k] } else { 0 }
 }
 
+// The byte at a place, 0 where there is none.
 fn byte_at(s: &[u8], at: usize) -> u8
     ensures { λ r. ⌜ r ≡ getD (now (s .entry)) at 0 ⌝ }
 {
     if at < s.len() { s[at] } else { 0 }
 }
 
-// 24 for a field's type, 24 for a bit field's bits over its width, else 0.
+// 24 for a field's type, 24 for a bit field's bits over its width, else 0; bytes that are not there count as 0.
 pub fn type_number(field: &[u8]) -> u8
     ensures { λ r. ⌜ r ≡ typeNumber (now (field .entry)) ⌝ }
 {
@@ -72,7 +73,7 @@ pub fn type_number(field: &[u8]) -> u8
     0
 }
 
-// A field's raw value, exact; of an F32 its bits.
+// A field's raw value, exact; an F32's is its bits.
 pub enum RawValue {
     Is(i64),
     Refused(u8),
@@ -80,7 +81,7 @@ pub enum RawValue {
 
 // 23 for a field of another length than the version's, then its type's number.
 fn field_number(version: u16, field: &[u8]) -> u8
-    ensures { λ r. ⌜ r ≡ fieldNumber version (now (field .entry)) ⌝ }
+    ensures { λ r. ⌜ r ≡ valueFieldNumber version (now (field .entry)) ⌝ }
 {
     let layout = layout_of(version);
     if field.len() != layout.field {
@@ -142,11 +143,13 @@ pub struct Scaling {
     pub transform: f32,
 }
 
+// A field's scale and transform, or why it has none to apply.
 pub enum FieldScaling {
     Is(Scaling),
     Refused(u8),
 }
 
+// A field's shown value.
 pub enum ShownValue {
     Is(f32),
     Refused(u8),
@@ -177,14 +180,10 @@ fn is_finite(x: f32) -> bool
     }
 }
 
-// 23 or 24 for the field, then 30 where it has no scale and transform to apply.
-fn scaling_number(version: u16, field: &[u8]) -> u8
-    ensures { λ r. ⌜ r ≡ scalingNumber version (now (field .entry)) ⌝ }
+// 30 by the field alone: its type has no shown value, or its transform or scale is not finite.
+fn parts_number(field: &[u8]) -> u8
+    ensures { λ r. ⌜ r ≡ partsNumber (now (field .entry)) ⌝ }
 {
-    let number = field_number(version, field);
-    if number != 0 {
-        return number;
-    }
     if !is_shown(byte_at(field, 0)) {
         return 30;
     }
@@ -197,6 +196,7 @@ fn scaling_number(version: u16, field: &[u8]) -> u8
     0
 }
 
+// The scale and the transform in a field's bytes.
 fn scaling_in(field: &[u8]) -> Scaling
     requires { ⌜ (finite (scalingIn (now field) .transform) ≡ true) × (finite (scalingIn (now field) .scale) ≡ true) ⌝ }
     ensures { λ r. ⌜ r ≡ scalingIn (now (field .entry)) ⌝ }
@@ -207,7 +207,18 @@ fn scaling_in(field: &[u8]) -> Scaling
     }
 }
 
-// A field's scale and transform.
+// 23 or 24 for the field, then 30.
+fn scaling_number(version: u16, field: &[u8]) -> u8
+    ensures { λ r. ⌜ r ≡ scalingNumber version (now (field .entry)) ⌝ }
+{
+    let number = field_number(version, field);
+    if number != 0 {
+        return number;
+    }
+    parts_number(field)
+}
+
+// A field's scale and transform, by its bytes.
 pub fn scaling_of(field: &[u8]) -> FieldScaling
     ensures { λ r. ⌜ (r ≡ scalingAt 2 (now (field .entry)))
         × (scalingAnswer r ≡ scalingResult 2 (now (field .entry))) ⌝ }
@@ -273,7 +284,7 @@ pub fn shown_value(field: &[u8], raw: &[u8]) -> ShownValue
     if number != 0 {
         return ShownValue::Refused(number);
     }
-    if scaling_number(2, field) != 0 {
+    if parts_number(field) != 0 {
         return ShownValue::Refused(30);
     }
     let scaling = scaling_in(field);

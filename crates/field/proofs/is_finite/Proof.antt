@@ -1,6 +1,6 @@
 use Rattle.field.proofs.is_finite.Statement.{statement}
 use Rattle.field.proofs.is_finite.Tie as tie
-use lib.Ieee.{ofBits, nanBits, lt}
+use lib.Ieee.{ofBits, nanBits}
 use Rattle.field.proofs.Finite.{between, not-below}
 
 float-from-bits-if1 : tie.Need-float-from-bits-if1

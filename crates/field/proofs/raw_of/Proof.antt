@@ -1,9 +1,8 @@
 use borrow.Author.Needs.{needs}
 use Rattle.field.proofs.raw_of.Statement.{statement}
 use Rattle.field.proofs.raw_of.Tie as tie
-use mathlib.Core.Path.{_≡_, refl, sym, _∙_, ap}
+use mathlib.Core.Path.{refl, sym, _∙_, ap}
 use native.Mathlib.Omega.{arith}
-use lib.ListN.{length}
 use lib.IntN.{pos}
 use mir.Syntax.{w64}
 use mir.ValLaws.{toZ-ofZ, toZ-pos}

@@ -2,7 +2,7 @@ use borrow.Author.Needs.{needs}
 use Rattle.field.proofs.raw_value.Statement.{statement}
 use Rattle.field.proofs.raw_value.Tie as tie
 use Prim.Native.Nat.{ℕ}
-use mathlib.Core.Path.{_≡_, sym, _∙_, ap}
+use mathlib.Core.Path.{sym, _∙_, ap}
 use mir.Syntax.{w64}
 use mir.ValLaws.{toZ-ofZ}
 use Rattle.field.specs.Raw.{rawOf, rawAt}

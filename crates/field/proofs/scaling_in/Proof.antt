@@ -1,7 +1,7 @@
 use borrow.Author.Needs.{needs}
 use Rattle.field.proofs.scaling_in.Statement.{statement}
 use Rattle.field.proofs.scaling_in.Tie as tie
-use mathlib.Core.Path.{_≡_, sym, _∙_, refl}
+use mathlib.Core.Path.{refl}
 use Rattle.field.proofs.Finite.{no-nan}
 
 be32-requires : tie.Need-be32-requires

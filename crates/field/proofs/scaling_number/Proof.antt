@@ -11,53 +11,13 @@ returns : tie.Need-returns
 unfolding scalingNumber
 returns c = search order depth 12
 
-byte-at-requires : tie.Need-byte-at-requires
-byte-at-requires c κs = search needs
-
-is-shown-requires : tie.Need-is-shown-requires
-is-shown-requires c κs = search needs
+parts-number-requires : tie.Need-parts-number-requires
+parts-number-requires c κs = search needs
 
 returns-2 : tie.Need-returns-2
 unfolding scalingNumber
-returns-2 c = rw (← c .before .before .byte-at .ensures, ← c .before .is-shown .ensures) (search order depth 12)
-
-be32-requires : tie.Need-be32-requires
-be32-requires c κs = search needs
-
-finite-bits-requires : tie.Need-finite-bits-requires
-finite-bits-requires c κs = search needs
-
-returns-3 : tie.Need-returns-3
-unfolding scalingNumber
-returns-3 c = rw (← c .before .before .before .before .before .byte-at .ensures, ← c .before .before .before .before .is-shown .ensures, ← c .before .before .be32 .ensures, ← c .before .finite-bits .ensures) (search order depth 12)
-
-be32-requires-2 : tie.Need-be32-requires-2
-be32-requires-2 c κs = search needs
-
-finite-bits-requires-2 : tie.Need-finite-bits-requires-2
-finite-bits-requires-2 c κs = search needs
-
-returns-4 : tie.Need-returns-4
-unfolding scalingNumber
-returns-4 c = rw (← c .before .before .before .before .before .before .before .before .byte-at .ensures, ← c .before .before .before .before .before .before .before .is-shown .ensures, ← c .before .before .before .before .before .be32 .ensures, ← c .before .before .before .before .finite-bits .ensures, ← c .before .before .be322 .ensures, ← c .before .finite-bits2 .ensures) (search order depth 12)
-
-returns-5 : tie.Need-returns-5
-unfolding scalingNumber
-returns-5 c = rw (← c .before .before .before .before .before .before .before .before .byte-at .ensures, ← c .before .before .before .before .before .before .before .is-shown .ensures, ← c .before .before .before .before .before .be32 .ensures, ← c .before .before .before .before .finite-bits .ensures, ← c .before .before .be322 .ensures, ← c .before .finite-bits2 .ensures) (search order depth 12)
+returns-2 c = search order depth 12
 
 pub scaling-number-spec : {M : Type 1} → statement M
 scaling-number-spec =
-    tie.close
-    (tie.spec
-    field-number-requires
-    returns
-    byte-at-requires
-    is-shown-requires
-    returns-2
-    be32-requires
-    finite-bits-requires
-    returns-3
-    be32-requires-2
-    finite-bits-requires-2
-    returns-4
-    returns-5)
+    tie.close (tie.spec field-number-requires returns parts-number-requires returns-2)

@@ -2,7 +2,7 @@ use borrow.Author.Needs.{needs}
 use Rattle.field.proofs.shown_float.Statement.{statement}
 use Rattle.field.proofs.shown_float.Tie as tie
 use Prim.Native.Nat.{ℕ}
-use mathlib.Core.Path.{_≡_, sym, _∙_, refl, ap}
+use mathlib.Core.Path.{sym, _∙_, ap}
 use native.Mathlib.Omega.{arith}
 use borrow.Author.Tests.{not-true, not-false}
 use lib.Ieee.{binary32, ofBits}

@@ -1,10 +1,9 @@
 use borrow.Author.Needs.{needs}
 use Rattle.field.proofs.shown_whole.Statement.{statement}
 use Rattle.field.proofs.shown_whole.Tie as tie
-use mathlib.Core.Path.{_≡_, sym, _∙_, refl, ap}
+use mathlib.Core.Path.{_∙_, ap}
 use native.Mathlib.Omega.{arith}
-use lib.IntN.{ℤ}
-use lib.Ieee.{Float, binary32, ofInt}
+use lib.Ieee.{binary32, ofInt}
 use mir.Syntax.{w64}
 use mir.ValLaws.{toZ-ofZ}
 use Rattle.field.specs.Shown.{applied}

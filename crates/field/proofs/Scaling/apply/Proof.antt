@@ -1,8 +1,7 @@
 use borrow.Author.Needs.{needs}
 use Rattle.field.proofs.Scaling.apply.Statement.{statement}
 use Rattle.field.proofs.Scaling.apply.Tie as tie
-use Prim.Native.Nat.{ℕ}
-use mathlib.Core.Path.{_≡_, sym, _∙_, refl}
+use mathlib.Core.Path.{sym, _∙_, refl}
 use native.Mathlib.Omega.{arith}
 use borrow.Author.Tests.{not-true, not-false}
 use Rattle.field.specs.Shown.{applied}
