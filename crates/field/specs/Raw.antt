@@ -36,10 +36,11 @@ rawOf t b = cond (signedType t) (signedOf (8 * sizeOf t) (beOf b)) (pos (beOf b)
 unfoldable pub rawAt : ℕ → List ℕ → List ℕ → RawValue
 rawAt v d b = answer R.Is R.Refused (valueNumber v d b) (rawOf (typeOf d) b)
 
+-- its number and its value, which is 0 in a refusal
 unfoldable pub rawResult : ℕ → List ℕ → List ℕ → ℕ × ℤ
 rawResult v d b = result (pos 0) (valueNumber v d b) (rawOf (typeOf d) b)
 
--- the number and the value of each case
+-- the number and the value of each case of the enum
 unfoldable pub rawAnswer : RawValue → ℕ × ℤ
 rawAnswer (R.Is z) = (0, z)
 rawAnswer (R.Refused n) = (n, pos 0)

@@ -22,6 +22,7 @@ use Rattle.field.specs.declared.ShownValue.the-variants as S
 abbrev pub shows : ℕ → Bool
 shows t = eqb t U08 || (eqb t S08 || (eqb t U16 || (eqb t S16 || eqb t F32)))
 
+-- neither an infinity nor a NaN
 abbrev pub finite : Float → Bool
 finite nan = false
 finite (inf s) = false
@@ -60,6 +61,7 @@ applied s x = answer S.Is S.Refused (scaledNumber s x) (scaled s x)
 abbrev pub zeroFloat : Float
 zeroFloat = fin false 0 (pos 0)
 
+-- its number and its value, which is 0 in a refusal
 unfoldable pub appliedResult : Scaling → Float → ℕ × Float
 appliedResult s x = result zeroFloat (scaledNumber s x) (scaled s x)
 
@@ -74,6 +76,7 @@ shownNumber v d b =
 unfoldable pub shownAt : ℕ → List ℕ → List ℕ → ShownValue
 shownAt v d b = answer S.Is S.Refused (shownNumber v d b) (scaled (scalingIn d) (rawFloat (typeOf d) b))
 
+-- its number and its value, which is 0 in a refusal
 unfoldable pub shownResult : ℕ → List ℕ → List ℕ → ℕ × Float
 shownResult v d b = result zeroFloat (shownNumber v d b) (scaled (scalingIn d) (rawFloat (typeOf d) b))
 
@@ -96,10 +99,11 @@ scalingAt v d = answer F.Is F.Refused (scalingNumber v d) (scalingIn d)
 abbrev pub zeroScaling : Scaling
 zeroScaling = record { scale = zeroFloat; transform = zeroFloat }
 
+-- its number and its values, which are 0 in a refusal
 unfoldable pub scalingResult : ℕ → List ℕ → ℕ × Scaling
 scalingResult v d = result zeroScaling (scalingNumber v d) (scalingIn d)
 
--- the number and the values of each case
+-- the number and the values of each case of the enums
 unfoldable pub shownAnswer : ShownValue → ℕ × Float
 shownAnswer (S.Is x) = (0, x)
 shownAnswer (S.Refused n) = (n, zeroFloat)

@@ -138,6 +138,7 @@ pub fn raw_value(field: &[u8], raw: &[u8]) -> RawValue
 }
 
 // A field's scale and transform.
+#[repr(C)]
 pub struct Scaling {
     pub scale: f32,
     pub transform: f32,
