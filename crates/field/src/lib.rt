@@ -1,6 +1,5 @@
 // Fields of an MLG: the version's layout, types, raw values and shown values.
 ghost use mathlib.Core.Path.{_≡_};
-ghost use mathlib.Core.Bool.{true};
 ghost use Prim.Native.Nat.{_≤_, _<_};
 ghost use lib.ListN.{length, getD};
 ghost use lib.Signed.{mag};
@@ -8,9 +7,9 @@ ghost use lib.Ieee.{binary32, ofInt, ofBits};
 ghost use Rattle.wire.specs.BigEndian.{beOf};
 ghost use Rattle.field.specs.Layout.{served, layoutOf};
 ghost use Rattle.field.specs.Types.{sizeOf};
-ghost use Rattle.field.specs.Field.{typeNumber};
+ghost use Rattle.field.specs.Field.{typeNumber, typeOf, fieldSize};
 ghost use Rattle.field.specs.Raw.{valueFieldNumber, valueNumber, rawOf, rawAt, rawResult, rawAnswer};
-ghost use Rattle.field.specs.Shown.{shows, finite, applied, appliedResult, shownAt, shownResult, shownAnswer};
+ghost use Rattle.field.specs.Shown.{shows, finite, rawFloat, applied, appliedResult, shownAt, shownResult, shownAnswer};
 ghost use Rattle.field.specs.Shown.{scalingIn, partsNumber, scalingNumber, scalingAt, scalingResult, scalingAnswer};
 
 // Bytes of a header, of the info start in it, and of a field.
@@ -199,7 +198,7 @@ fn parts_number(field: &[u8]) -> u8
 
 // The scale and the transform in a field's bytes.
 fn scaling_in(field: &[u8]) -> Scaling
-    requires { ⌜ (finite (scalingIn (now field) .transform) ≡ true) × (finite (scalingIn (now field) .scale) ≡ true) ⌝ }
+    requires { ⌜ partsNumber (now field) ≡ 0 ⌝ }
     ensures { λ r. ⌜ r ≡ scalingIn (now (field .entry)) ⌝ }
 {
     Scaling {
@@ -276,6 +275,19 @@ fn shown_whole(scaling: Scaling, kind: u8, raw: &[u8]) -> ShownValue
     scaling.apply(as_float(raw_of(kind, raw)))
 }
 
+// The shown value of a field and raw bytes that no number refuses before sum and product.
+fn shown_of(field: &[u8], raw: &[u8]) -> ShownValue
+    requires { ⌜ (length (now raw) ≡ fieldSize (now field)) × (partsNumber (now field) ≡ 0) ⌝ }
+    ensures { λ r. ⌜ r ≡ applied (scalingIn (now (field .entry))) (rawFloat (typeOf (now (field .entry))) (now (raw .entry))) ⌝ }
+{
+    let scaling = scaling_in(field);
+    let kind = byte_at(field, 0);
+    if kind == 7 {
+        return shown_float(scaling, raw);
+    }
+    shown_whole(scaling, kind, raw)
+}
+
 // A field's shown value, by the field's bytes and its raw bytes.
 pub fn shown_value(field: &[u8], raw: &[u8]) -> ShownValue
     ensures { λ r. ⌜ (r ≡ shownAt 2 (now (field .entry)) (now (raw .entry)))
@@ -288,10 +300,5 @@ pub fn shown_value(field: &[u8], raw: &[u8]) -> ShownValue
     if parts_number(field) != 0 {
         return ShownValue::Refused(30);
     }
-    let scaling = scaling_in(field);
-    let kind = byte_at(field, 0);
-    if kind == 7 {
-        return shown_float(scaling, raw);
-    }
-    shown_whole(scaling, kind, raw)
+    shown_of(field, raw)
 }

@@ -3,18 +3,19 @@ use Rattle.field.proofs.scaling_in.Statement.{statement}
 use Rattle.field.proofs.scaling_in.Tie as tie
 use mathlib.Core.Path.{refl}
 use Rattle.field.proofs.Finite.{no-nan}
+use Rattle.field.proofs.Scalings.{parts-stand}
 
 be32-requires : tie.Need-be32-requires
 be32-requires c κs = search needs
 
 float-from-bits-t3 : tie.Need-float-from-bits-t3
-float-from-bits-t3 c = rw (c .be32 .ensures) (no-nan _ (c .before .before .pre .1))
+float-from-bits-t3 c = rw (c .be32 .ensures) (no-nan _ (parts-stand _ (c .before .before .pre) .1 .1))
 
 be32-requires-2 : tie.Need-be32-requires-2
 be32-requires-2 c κs = search needs
 
 float-from-bits-t5 : tie.Need-float-from-bits-t5
-float-from-bits-t5 c = rw (c .be322 .ensures) (no-nan _ (c .before .before .before .pre .0))
+float-from-bits-t5 c = rw (c .be322 .ensures) (no-nan _ (parts-stand _ (c .before .before .before .pre) .1 .0))
 
 returns : tie.Need-returns
 returns c = rw (c .before .be32 .ensures, c .be322 .ensures) refl

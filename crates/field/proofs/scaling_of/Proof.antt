@@ -4,7 +4,7 @@ use Rattle.field.proofs.scaling_of.Tie as tie
 use mathlib.Core.Path.{sym, _∙_}
 use Rattle.field.specs.Shown.{scalingAt}
 use Rattle.field.proofs.Answers.{refuses, stands}
-use Rattle.field.proofs.Scalings.{scaling-means, parts-stand, scaling-stands}
+use Rattle.field.proofs.Scalings.{scaling-means, scaling-stands}
 use Rattle.field.specs.declared.FieldScaling.the-variants as F
 
 scaling-number-requires : tie.Need-scaling-number-requires
@@ -15,7 +15,7 @@ unfolding scalingAt
 returns c = scaling-means 2 (c .before .before .before .args .field .now) _ (refuses F.Is F.Refused _ _ _ (c .before .scaling-number .ensures) (c .if1 .taken))
 
 scaling-in-requires : tie.Need-scaling-in-requires
-scaling-in-requires c κs = parts-stand _ (scaling-stands 2 _ (sym (c .before .scaling-number .ensures) ∙ c .if1 .left)) .1
+scaling-in-requires c κs = scaling-stands 2 _ (sym (c .before .scaling-number .ensures) ∙ c .if1 .left)
 
 returns-2 : tie.Need-returns-2
 unfolding scalingAt
