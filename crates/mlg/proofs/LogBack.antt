@@ -9,7 +9,7 @@ use lib.Seq.{drop-at}
 use Rattle.mlg.specs.Block.{counterOf, blockLen, blockOf, blockAt}
 use Rattle.mlg.specs.Writing.{headerFor, headerBytes, headerNumber, dataBytes, markBytes}
 use Rattle.mlg.specs.Log.{Log, lengthOf, logFrom, logOf}
-use Rattle.mlg.specs.Entries.{Entry, aRecord, aMark, entryBytes, entriesBytes, entryIn, entriesIn, Writable, AllRight}
+use Rattle.mlg.specs.Entries.{Entry, aRecord, aMark, entriesBytes, entryIn, entriesIn, Writable, AllRight}
 use Rattle.mlg.specs.RoundTrip.{DataBack, MarkBack, HeaderBack, LogBack, LogReads, logBytes}
 use Rattle.mlg.specs.declared.Block.{Block}
 use Rattle.mlg.specs.declared.Block.the-variants.{Data, Mark, End}

@@ -13,7 +13,7 @@ use Rattle.wire.proofs.Texts.{text-most}
 use Rattle.mlg.specs.Block.{counterOf, blockLen, kindIn, counterIn, timeIn, recordIn, textIn, blockNumber, partsOf, blockAt}
 use Rattle.mlg.specs.Writing.{dataBytes, padded, markBytes}
 use Rattle.mlg.specs.Log.{Log, lengthOf, logFrom, logOf}
-use Rattle.mlg.specs.Entries.{Entry, aRecord, aMark, entryBytes, entriesBytes, entryIn, entriesIn, Right, Padded, AllRight, AllPadded, rewritten, PaddedHere}
+use Rattle.mlg.specs.Entries.{Entry, aRecord, aMark, entriesBytes, entryIn, entriesIn, Right, Padded, AllRight, AllPadded, rewritten, PaddedHere}
 use Rattle.mlg.specs.RoundTrip.{BlockSame}
 use Rattle.mlg.specs.declared.Block.{Block}
 use Rattle.mlg.specs.declared.Block.the-variants.{Data, Mark, End, Refused}
