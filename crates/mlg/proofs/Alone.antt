@@ -1,15 +1,14 @@
 -- A whole block does not depend on what follows it.
-use Prim.Native.Nat.{ℕ, zero, suc, _+_, _-_, _≤_, _<_}
+use Prim.Native.Nat.{ℕ, zero, suc, _+_, _-_, _≤_}
 use mathlib.Core.Path.{_≡_, refl, sym, ap, _∙_}
-use mathlib.Core.List.{List, [], _∷_, _++_}
+use mathlib.Core.List.{List, _++_}
 use native.Mathlib.Omega.{arith}
 use native.Mathlib.Nat.{le-trans}
 use borrow.Author.Tests.{le-ltb, eq-eqb}
-use lib.ListN.{length, getD, take, drop, length-append, List·getD-append}
-use Rattle.wire.specs.Order.{_if_else_}
+use lib.ListN.{length, length-append, List·getD-append}
 use Rattle.wire.proofs.Orders.{if-yes}
 use Rattle.wire.proofs.Parts.{part-append}
-use Rattle.mlg.specs.Block.{blockLen, kindIn, lastOf, blockNumber, partsOf, blockJudged, blockOf}
+use Rattle.mlg.specs.Block.{blockLen, kindIn, lastOf, blockNumber, partsOf, blockJudged}
 use Rattle.mlg.specs.RoundTrip.{BlockAlone}
 use Rattle.mlg.proofs.Cases.{block-here}
 

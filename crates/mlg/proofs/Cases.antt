@@ -4,13 +4,12 @@ use mathlib.Core.Path.{_≡_, refl, sym, ap, _∙_}
 use mathlib.Core.Bool.{Bool, true, false, not}
 use mathlib.Core.List.{List, [], _∷_}
 use native.Mathlib.Omega.{arith}
-use borrow.Author.Tests.{le-leb, lt-leb, lt-ltb, le-ltb, eq-eqb, ne-eqb, eqb-true, eqb-false, ltb-true, ltb-false, leb-true, leb-false}
-use lib.Dec.{eqb, ltb, leb}
-use lib.ListN.{length, getD, take, drop}
-use Rattle.wire.specs.Order.{_if_else_}
+use borrow.Author.Tests.{lt-leb, lt-ltb, le-ltb, eq-eqb, ne-eqb, eqb-true, eqb-false, ltb-true, ltb-false, leb-false}
+use lib.Dec.{eqb, ltb}
+use lib.ListN.{length, drop}
 use Rattle.wire.specs.Sum.{sumOf}
 use Rattle.wire.specs.Text.{textLen}
-use Rattle.wire.proofs.Orders.{if-yes, if-no, if-zero, not-no}
+use Rattle.wire.proofs.Orders.{if-yes, if-no, if-zero, not-no, not-false}
 use Rattle.mlg.specs.Block.{counterOf, blockLen, kindIn, counterIn, timeIn, recordIn, sumIn, textIn, lastOf, blockNumber, partsOf, blockJudged, blockOf, placeNumber, blockAt, restNumber, atNumber, blockAnswer}
 use Rattle.mlg.specs.declared.Block.{Block}
 use Rattle.mlg.specs.declared.Block.the-variants.{Data, Mark, End, Refused}
@@ -159,10 +158,6 @@ pub here-stands : (l c at : ℕ) (t : List ℕ) → (length t ≡ 0 → ⊥) →
 here-stands l c at t h z = block-here l c at t h ∙ judged-yes _ at _ z
 
 -- and what then holds of it
-not-false : (b : Bool) → not b ≡ false → b ≡ true
-not-false true e = refl
-not-false false e = let z : _≡_ {A = Bool} true false = e in cc
-
 pub sum-right : (k l : ℕ) (t : List ℕ) → k ≡ 0 → lastOf k l t ≡ 0 → sumOf (recordIn l t) ≡ sumIn l t
 unfolding lastOf
 sum-right zero l t e z = eqb-true _ _ (not-false _ (if-zero 25 _ _ z .0))

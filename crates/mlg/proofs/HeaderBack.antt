@@ -1,14 +1,13 @@
 -- A header that was written, followed by any bytes, reads back as given.
-use Prim.Native.Nat.{ℕ, zero, suc, _+_, _*_, _-_, _/_, _%_, _^_, _≤_, _<_}
+use Prim.Native.Nat.{ℕ, _+_, _*_, _-_, _/_, _%_, _^_, _≤_, _<_}
 use mathlib.Core.Path.{_≡_, refl, sym, ap, _∙_}
-use mathlib.Core.Bool.{Bool, true, false, not, cond}
+use mathlib.Core.Bool.{Bool, true, false}
 use mathlib.Core.List.{List, [], _∷_, _++_, append-assoc}
 use native.Mathlib.Omega.{arith}
 use borrow.Author.Tests.{le-ltb, lt-leb, eq-eqb, ne-eqb}
-use lib.Dec.{eqb, ltb, leb}
+use lib.Dec.{eqb}
 use lib.ListN.{length, take, drop, length-append}
 use lib.Seq.{take-at, drop-at, drop-drop}
-use Rattle.wire.specs.BigEndian.{beAt, bytesOf}
 use Rattle.wire.specs.Order.{_if_else_}
 use Rattle.wire.specs.Text.{textLen}
 use Rattle.wire.proofs.Numbers.{be-back}
@@ -16,18 +15,18 @@ use Rattle.wire.proofs.Orders.{if-yes, if-no, not-no, else-none}
 use Rattle.wire.proofs.Texts.{text-back, text-most}
 use Rattle.field.specs.Layout.{served, layoutOf, headerLen, fieldLen}
 use Rattle.mlg.specs.Area.{ended, areaOf, infoStart}
-use Rattle.mlg.specs.Fields.{sizes, fieldsNumber}
-use Rattle.mlg.specs.Header.{numbersOf, fieldsEnd, nameNumber, placesNumber, lastNumber, bodyNumber, areaIn, headNumber, headJudged, headerOf}
-use Rattle.mlg.specs.Writing.{numberBytes, headerFor, headerBytes, headerNumber, lengthsNumber}
+use Rattle.mlg.specs.Fields.{sizes}
+use Rattle.mlg.specs.Header.{numbersOf, fieldsEnd, nameNumber, placesNumber, lastNumber, bodyNumber, areaIn, headNumber, headerOf}
+use Rattle.mlg.specs.Writing.{numberBytes, headerFor, headerBytes}
 use Rattle.mlg.specs.Parts.{fieldsIn, namesEnd, namesIn, infoLength, infoIn}
-use Rattle.mlg.specs.RoundTrip.{HeaderReads, HeaderBack}
+use Rattle.mlg.specs.RoundTrip.{HeaderBack}
 use Rattle.mlg.specs.declared.Header.{Header}
 use Rattle.mlg.specs.declared.Head.the-variants.{Is}
 use Rattle.mlg.proofs.Areas.{area-length, ended-some}
 use Rattle.mlg.proofs.EachField.{fields-alone, sizes-alone}
 use Rattle.mlg.proofs.Fits.{Fit, fit, fields-end}
 use Rattle.mlg.proofs.HeaderBytes.{first-length, number-length, header-length, header-fits, start-most}
-use Rattle.mlg.proofs.Layouts.{header-two, field-two, fields-fit}
+use Rattle.mlg.proofs.Layouts.{header-two, fields-fit}
 use Rattle.mlg.proofs.Places.{stands}
 
 -- the numbers

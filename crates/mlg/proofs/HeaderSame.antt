@@ -1,33 +1,29 @@
 -- A file in the writer's layout, rewritten from what was read.
-use Prim.Native.Nat.{ℕ, zero, suc, _+_, _*_, _-_, _/_, _%_, _≤_, _<_}
+use Prim.Native.Nat.{ℕ, zero, suc, _+_, _*_, _-_, _/_, _≤_, _<_}
 use mathlib.Core.Path.{_≡_, refl, sym, ap, _∙_}
-use mathlib.Core.Bool.{Bool, true, false, not, cond}
 use mathlib.Core.Logic.{_⊎_, inl, inr}
-use mathlib.Core.List.{List, [], _∷_, _++_, append-assoc, append-nil}
+use mathlib.Core.List.{List, [], _∷_, _++_, append-nil}
 use native.Mathlib.Omega.{arith}
 use borrow.Author.Tests.{eq-eqb, ne-eqb, eqb-true, ltb-false}
-use lib.Dec.{eqb}
-use lib.ListN.{length, getD, take, drop, length-drop, take-append-drop}
-use lib.Seq.{length-take-le, take-suc, drop-drop}
+use lib.ListN.{length, take, drop, length-drop, take-append-drop}
+use lib.Seq.{length-take-le, take-suc}
 use Rattle.wire.specs.BigEndian.{beOf, beAt, bytesOf}
 use Rattle.wire.specs.Text.{textLen}
 use Rattle.wire.proofs.Numbers.{Bytes, part-back}
-use Rattle.wire.proofs.Orders.{if-zero, else-zero}
+use Rattle.wire.proofs.Orders.{if-zero, else-zero, not-false}
 use Rattle.wire.proofs.Parts.{part-in-two}
 use Rattle.wire.proofs.Texts.{text-zero}
-use Rattle.field.specs.Layout.{served, layoutOf, headerLen, fieldLen}
+use Rattle.field.specs.Layout.{served, layoutOf}
 use Rattle.mlg.specs.Area.{ended, areaOf, infoStart}
 use Rattle.mlg.specs.Fields.{sizes}
-use Rattle.mlg.specs.Header.{logName, versionIn, numbersOf, fieldsEnd, fieldsFrom, nameNumber, placesNumber, lastNumber, bodyNumber, areaIn, headNumber, headJudged, headerOf}
+use Rattle.mlg.specs.Header.{logName, versionIn, numbersOf, fieldsEnd, fieldsFrom, nameNumber, lastNumber, bodyNumber, headNumber, headJudged, headerOf}
 use Rattle.mlg.specs.Writing.{numberBytes, headerFor, headerBytes}
 use Rattle.mlg.specs.Parts.{fieldsIn, namesEnd, namesIn, infoLength, infoIn}
 use Rattle.mlg.specs.Log.{logOf}
-use Rattle.mlg.specs.Entries.{entriesBytes, entriesIn}
 use Rattle.mlg.specs.RoundTrip.{InLayout, LogSame, logBytes}
 use Rattle.mlg.specs.declared.Header.{Header}
-use Rattle.mlg.specs.declared.Head.the-variants.{Is, Refused}
+use Rattle.mlg.specs.declared.Head.the-variants.{Is}
 use Rattle.mlg.proofs.Areas.{ended-some}
-use Rattle.mlg.proofs.BlockBytes.{not-false}
 use Rattle.mlg.proofs.EachField.{sizes-alone}
 use Rattle.mlg.proofs.HeaderBytes.{start-some}
 use Rattle.mlg.proofs.LogSame.{same-from}

@@ -2,16 +2,16 @@
 use Prim.Native.Nat.{ℕ, zero, suc, _+_, _-_, _≤_, _<_}
 use mathlib.Core.Path.{_≡_, refl, sym, ap, _∙_}
 use mathlib.Core.Bool.{Bool, true, false}
-use mathlib.Core.List.{List, [], _∷_, _++_}
+use mathlib.Core.List.{List, [], _∷_}
 use native.Mathlib.Omega.{arith}
 use borrow.Author.Tests.{ltb-true, ltb-false}
 use lib.Dec.{ltb}
-use lib.ListN.{length, getD, take, drop, length-drop}
-use Rattle.mlg.specs.Block.{counterOf, blockLen, kindIn, blockNumber, partsOf, blockJudged, blockOf, blockAt}
-use Rattle.mlg.specs.Log.{Log, lengthOf, ahead, logFrom, logOf}
+use lib.ListN.{length, drop, length-drop}
+use Rattle.mlg.specs.Block.{counterOf, blockLen, kindIn, blockNumber, partsOf, blockAt}
+use Rattle.mlg.specs.Log.{Log, lengthOf, ahead, logFrom}
 use Rattle.mlg.specs.declared.Block.{Block}
 use Rattle.mlg.specs.declared.Block.the-variants.{Data, Mark, End, Refused}
-use Rattle.mlg.proofs.Cases.{at-past, at-within, block-end, block-here, judged-no, judged-yes, whole, known-mark}
+use Rattle.mlg.proofs.Cases.{at-past, at-within, block-end, block-here, judged-no, judged-yes, whole}
 
 -- data and marks are passed over
 abbrev pub Goes : Block → Type 0

@@ -1,18 +1,16 @@
 -- Parts of a file as places and lengths.
-use Prim.Native.Nat.{ℕ, zero, suc, _+_, _*_, _-_, _≤_, _<_}
+use Prim.Native.Nat.{ℕ, zero, suc, _+_, _-_, _≤_, _<_}
 use mathlib.Core.Path.{_≡_, refl, sym, ap, _∙_}
-use mathlib.Core.Bool.{Bool, true, false, cond}
-use mathlib.Core.List.{List, []}
+use mathlib.Core.List.{List}
 use native.Mathlib.Omega.{arith}
 use native.Mathlib.Nat.{mul-le-mul-left, mul-suc}
 use borrow.Author.Tests.{eq-eqb, ne-eqb}
-use lib.Dec.{eqb}
 use lib.ListN.{length, drop, length-drop}
 use Rattle.wire.specs.Text.{textLen}
 use Rattle.wire.proofs.Orders.{else-zero}
 use Rattle.wire.proofs.Texts.{text-most}
-use Rattle.field.specs.Layout.{headerLen, fieldLen}
-use Rattle.mlg.specs.Header.{numbersOf, fieldsEnd, placesNumber, headNumber}
+use Rattle.field.specs.Layout.{fieldLen}
+use Rattle.mlg.specs.Header.{numbersOf, fieldsEnd, headNumber}
 use Rattle.mlg.specs.Parts.{fieldPlace, namesEnd, infoLength, spanOf}
 use Rattle.mlg.specs.declared.Header.{Header}
 use Rattle.mlg.specs.declared.Span.{Span}

@@ -1,6 +1,6 @@
 -- Blocks counted one by one, and what the arms of a `match` on them know.
-use Prim.Native.Nat.{ℕ, zero, suc, _+_, _-_, _≤_, _<_}
-use mathlib.Core.Path.{_≡_, refl, sym, ap, _∙_}
+use Prim.Native.Nat.{ℕ, zero, suc, _+_, _-_, _≤_}
+use mathlib.Core.Path.{_≡_, refl, ap}
 use mathlib.Core.List.{List, [], _∷_}
 use mathlib.Core.Logic.{_⊎_, ⊎-elim}
 use native.Mathlib.Omega.{arith}
@@ -8,7 +8,7 @@ use types.Run.{OneOf}
 use denote.Enum.Declared.{tagOf}
 use lib.ListN.{length}
 use Rattle.mlg.specs.Header.{headerOf, headAnswer}
-use Rattle.mlg.specs.Block.{counterOf, blockLen, kindIn, partsOf, blockAt, blockAnswer}
+use Rattle.mlg.specs.Block.{counterOf, kindIn, blockAt, blockAnswer}
 use Rattle.mlg.specs.Log.{Log, lengthOf, logFrom, logOf, tallyOf, tallyHead, tallyIn}
 use Rattle.mlg.specs.declared.Block.{Block}
 use Rattle.mlg.specs.declared.Head.{Head}

@@ -5,7 +5,7 @@ use mathlib.Core.Bool.{true}
 use mathlib.Core.List.{List, [], _∷_, _++_}
 use lib.ListN.{take, drop}
 use Rattle.wire.specs.Text.{textLen}
-use Rattle.mlg.specs.Block.{counterOf, kindIn, counterIn, timeIn, recordIn, textIn}
+use Rattle.mlg.specs.Block.{counterOf, timeIn, recordIn, textIn}
 use Rattle.mlg.specs.Writing.{dataBytes, padded, markBytes, dataNumber, markNumber}
 use Rattle.mlg.specs.declared.Block.{Block}
 use Rattle.mlg.specs.declared.Block.the-variants.{Data, Mark, End, Refused}

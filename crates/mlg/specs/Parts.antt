@@ -1,7 +1,7 @@
 -- The parts of a file whose header reads as h, and the calls that hand them out as places and lengths.
 use Prim.Native.Nat.{ℕ, zero, suc, _+_, _*_, _-_}
 use mathlib.Core.Bool.{cond}
-use mathlib.Core.List.{List, []}
+use mathlib.Core.List.{List}
 use lib.Dec.{eqb, leb}
 use lib.ListN.{take, drop}
 use Rattle.wire.specs.Order.{_if_else_, _orElse_}

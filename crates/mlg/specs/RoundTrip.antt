@@ -1,9 +1,9 @@
 -- What the writers promise together with the readers. Each statement is a type; the writers' contracts name it, and proofs/ proves it.
-use Prim.Native.Nat.{ℕ, zero, suc, _+_, _-_, _^_, _≤_, _<_}
+use Prim.Native.Nat.{ℕ, _+_, _-_, _^_, _≤_, _<_}
 use mathlib.Core.Path.{_≡_}
 use mathlib.Core.Bool.{true}
 use mathlib.Core.Logic.{_⊎_}
-use mathlib.Core.List.{List, [], _∷_, _++_}
+use mathlib.Core.List.{List, _++_}
 use lib.ListN.{length, getD, take, drop}
 use Rattle.wire.specs.Text.{textLen}
 use Rattle.mlg.specs.Header.{headerOf}

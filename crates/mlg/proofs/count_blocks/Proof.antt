@@ -1,7 +1,7 @@
 use borrow.Author.Needs.{needs}
 use Rattle.mlg.proofs.count_blocks.Statement.{statement}
 use Rattle.mlg.proofs.count_blocks.Tie as tie
-use mathlib.Core.Path.{_≡_, refl, sym, _∙_, ap}
+use mathlib.Core.Path.{sym, _∙_}
 use Rattle.mlg.proofs.Tallies.{head-stop, head-go}
 
 read-header-requires : tie.Need-read-header-requires

@@ -1,10 +1,9 @@
 use borrow.Author.Needs.{needs}
 use Rattle.mlg.proofs.info_span.Statement.{statement}
 use Rattle.mlg.proofs.info_span.Tie as tie
-use mathlib.Core.Path.{_≡_, refl, sym, _∙_, ap}
-use Prim.Native.Nat.{ℕ, _-_}
+use mathlib.Core.Path.{sym, _∙_, ap}
+use Prim.Native.Nat.{_-_}
 use native.Mathlib.Omega.{arith}
-use lib.ListN.{length, drop}
 use Rattle.wire.specs.Text.{textLen}
 use Rattle.wire.proofs.Parts.{tail-part}
 use Rattle.mlg.specs.declared.Header.{Header}

@@ -1,10 +1,9 @@
 use borrow.Author.Needs.{needs}
 use Rattle.mlg.proofs.names_span.Statement.{statement}
 use Rattle.mlg.proofs.names_span.Tie as tie
-use mathlib.Core.Path.{_≡_, refl, sym, _∙_, ap}
+use mathlib.Core.Path.{sym, _∙_, ap}
 use native.Mathlib.Omega.{arith}
-use lib.ListN.{length}
-use Rattle.mlg.specs.Parts.{namesSpan, namesEnd}
+use Rattle.mlg.specs.Parts.{namesSpan}
 use Rattle.mlg.specs.Header.{fieldsEnd}
 use Rattle.mlg.proofs.Spans.{refused, given, placed-in, names-fit}
 

@@ -4,8 +4,7 @@ use Rattle.mlg.proofs.read_block.Tie as tie
 use Rattle.mlg.proofs.Alone.{block-alone}
 use Prim.Native.Nat.{ℕ, _-_}
 use lib.ListN.{length, take, drop}
-use mathlib.Core.Path.{_≡_, refl, sym, _∙_, ap}
-use native.Mathlib.Omega.{arith}
+use mathlib.Core.Path.{sym, _∙_, ap}
 use Rattle.wire.proofs.Parts.{tail-part}
 use Rattle.mlg.specs.Block.{blockOf, counterOf}
 use Rattle.mlg.proofs.Cases.{at-past, at-within, block-said}

@@ -1,8 +1,8 @@
 use borrow.Author.Needs.{needs}
 use Rattle.mlg.proofs.read_header.Statement.{statement}
 use Rattle.mlg.proofs.read_header.Tie as tie
-use mathlib.Core.Path.{_≡_, sym, _∙_, refl}
-use Rattle.mlg.specs.Header.{headerOf, numbersOf, headNumber}
+use mathlib.Core.Path.{sym, _∙_}
+use Rattle.mlg.specs.Header.{headerOf, numbersOf}
 use Rattle.mlg.proofs.Places.{head-refused, head-stands}
 
 head-number-requires : tie.Need-head-number-requires

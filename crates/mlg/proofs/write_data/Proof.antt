@@ -1,7 +1,7 @@
 use borrow.Author.Needs.{needs}
 use Rattle.mlg.proofs.write_data.Statement.{statement}
 use Rattle.mlg.proofs.write_data.Tie as tie
-use mathlib.Core.Path.{_≡_, refl, sym, _∙_, ap}
+use mathlib.Core.Path.{refl, sym, _∙_, ap}
 use Rattle.mlg.proofs.BlockBack.{data-back}
 use Prim.Native.Nat.{ℕ}
 use lib.ListN.{length}

@@ -1,7 +1,7 @@
 use borrow.Author.Needs.{needs}
 use Rattle.mlg.proofs.write_header.Statement.{statement}
 use Rattle.mlg.proofs.write_header.Tie as tie
-use mathlib.Core.Path.{_≡_, refl, sym, _∙_, ap}
+use mathlib.Core.Path.{refl, sym, _∙_}
 use Rattle.mlg.proofs.HeaderBack.{header-back}
 use Rattle.mlg.proofs.LogBack.{log-back}
 use Rattle.mlg.proofs.HeaderSame.{log-same}

@@ -1,7 +1,7 @@
 use borrow.Author.Needs.{needs}
 use Rattle.mlg.proofs.write_mark.Statement.{statement}
 use Rattle.mlg.proofs.write_mark.Tie as tie
-use mathlib.Core.Path.{_≡_, refl, sym, _∙_, ap}
+use mathlib.Core.Path.{refl, sym, _∙_, ap}
 use Rattle.mlg.proofs.BlockBack.{mark-back}
 use Rattle.mlg.proofs.Rewrite.{block-same}
 use Prim.Native.Nat.{ℕ}

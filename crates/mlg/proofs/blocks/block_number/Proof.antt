@@ -1,10 +1,10 @@
 use borrow.Author.Needs.{needs}
 use Rattle.mlg.proofs.blocks.block_number.Statement.{statement}
 use Rattle.mlg.proofs.blocks.block_number.Tie as tie
-use mathlib.Core.Path.{_≡_, refl, sym, _∙_, ap}
+use mathlib.Core.Path.{_∙_}
 use native.Mathlib.Omega.{arith}
 use Rattle.wire.proofs.Orders.{order}
-use Rattle.mlg.specs.Block.{blockNumber, lastOf}
+use Rattle.mlg.specs.Block.{blockNumber}
 use Rattle.mlg.proofs.Cases.{len-data, len-mark, known-mark}
 
 shared-slice-read-kind : tie.Need-shared-slice-read-kind

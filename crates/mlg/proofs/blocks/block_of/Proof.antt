@@ -1,7 +1,7 @@
 use borrow.Author.Needs.{needs}
 use Rattle.mlg.proofs.blocks.block_of.Statement.{statement}
 use Rattle.mlg.proofs.blocks.block_of.Tie as tie
-use mathlib.Core.Path.{_≡_, refl, sym, _∙_, ap}
+use mathlib.Core.Path.{sym, _∙_}
 use native.Mathlib.Omega.{arith}
 use Rattle.mlg.proofs.Cases.{block-end, block-here, judged-no, judged-yes}
 

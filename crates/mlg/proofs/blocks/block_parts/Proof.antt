@@ -1,7 +1,7 @@
 use borrow.Author.Needs.{needs}
 use Rattle.mlg.proofs.blocks.block_parts.Statement.{statement}
 use Rattle.mlg.proofs.blocks.block_parts.Tie as tie
-use mathlib.Core.Path.{_≡_, refl, sym, _∙_, ap}
+use mathlib.Core.Path.{refl, sym}
 use native.Mathlib.Omega.{arith}
 use Rattle.mlg.proofs.Cases.{parts-data, parts-mark, mark-whole, least}
 

@@ -2,7 +2,7 @@ use borrow.Author.Needs.{needs}
 use Rattle.mlg.proofs.blocks.sum_number.Statement.{statement}
 use Rattle.mlg.proofs.blocks.sum_number.Tie as tie
 use Prim.Native.Nat.{ℕ, _+_, _-_}
-use mathlib.Core.Path.{_≡_, refl, sym, _∙_, ap}
+use mathlib.Core.Path.{sym, _∙_, ap}
 use native.Mathlib.Omega.{arith}
 use lib.ListN.{take, drop}
 use Rattle.wire.specs.Sum.{sumOf}

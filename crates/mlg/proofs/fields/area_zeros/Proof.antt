@@ -1,11 +1,9 @@
 use borrow.Author.Needs.{needs}
 use Rattle.mlg.proofs.fields.area_zeros.Statement.{statement}
 use Rattle.mlg.proofs.fields.area_zeros.Tie as tie
-use Prim.Native.Nat.{ℕ, _+_, _-_, _≤_}
-use mathlib.Core.Path.{_≡_, refl, sym, _∙_, ap}
-use mathlib.Core.List.{List}
+use Prim.Native.Nat.{_-_}
+use mathlib.Core.Path.{_∙_, ap}
 use native.Mathlib.Omega.{arith}
-use lib.ListN.{length, take, drop, length-drop}
 use Rattle.wire.specs.Text.{zeros}
 use Rattle.mlg.proofs.Areas.{counted, area-past, area-from}
 

@@ -1,14 +1,16 @@
 use Rattle.mlg.proofs.fields.check_fields.Statement.{statement}
 use Rattle.mlg.proofs.fields.check_fields.Tie as tie
-use Prim.Native.Nat.{ℕ, _+_, _*_, _-_, _≤_, _<_}
-use mathlib.Core.Path.{_≡_, refl, sym, _∙_, ap}
+use Prim.Native.Nat.{_+_, _*_, _-_, _≤_}
+use mathlib.Core.Path.{_≡_, refl, sym, _∙_}
 use native.Mathlib.Omega.{arith}
 use lib.ListN.{length, drop, take, getD}
-use Rattle.field.specs.Layout.{headerLen, fieldLen, infoLen}
+use Rattle.field.specs.Layout.{fieldLen}
 use Rattle.mlg.specs.Area.{areaOf}
-use Rattle.mlg.specs.Fields.{fieldsNumber, sizes, fieldNumber}
-use Rattle.wire.proofs.Orders.{else-some, else-none}
-use Rattle.mlg.proofs.Layouts.{field-least, field-most, info-most, one-of, size-most}
+use Rattle.mlg.specs.Fields.{fieldsNumber, sizes}
+use Rattle.wire.proofs.Orders.{else-some}
+use Rattle.field.proofs.Layouts.{field-least}
+use Rattle.field.proofs.Types.{size-most}
+use Rattle.mlg.proofs.Layouts.{one-of}
 use Rattle.mlg.proofs.EachField.{fields-at, fields-next, sizes-next, fields-done, sizes-done}
 
 abbrev Inv-loop : tie.InvT-loop

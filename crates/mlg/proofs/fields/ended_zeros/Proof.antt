@@ -2,12 +2,9 @@ use borrow.Author.Needs.{needs}
 use Rattle.mlg.proofs.fields.ended_zeros.Statement.{statement}
 use Rattle.mlg.proofs.fields.ended_zeros.Tie as tie
 use Prim.Native.Nat.{ℕ, _+_}
-use mathlib.Core.Path.{_≡_, refl, sym, _∙_, ap}
+use mathlib.Core.Path.{sym, _∙_, ap}
 use native.Mathlib.Omega.{arith}
-use mathlib.Core.List.{List}
-use lib.ListN.{length, take, drop, length-drop}
-use Prim.Native.Nat.{_-_, _≤_}
-use Rattle.wire.specs.Text.{zeros}
+use Prim.Native.Nat.{_-_}
 use Rattle.mlg.proofs.Areas.{counted, ended-from, ended-past, ended-empty}
 
 returns : tie.Need-returns

@@ -2,16 +2,15 @@ use borrow.Author.Needs.{needs}
 use Rattle.mlg.proofs.fields.field_at.Statement.{statement}
 use Rattle.mlg.proofs.fields.field_at.Tie as tie
 use Rattle.mlg.specs.Area.{areaOf}
-use Prim.Native.Nat.{ℕ, _+_, _*_, _-_, _≤_, _<_}
-use mathlib.Core.Path.{_≡_, refl, sym, _∙_, ap}
-use mathlib.Core.List.{List}
+use Prim.Native.Nat.{_-_}
+use mathlib.Core.Path.{_∙_, ap}
 use native.Mathlib.Omega.{arith}
-use lib.ListN.{length, drop, take, getD, length-drop}
+use lib.ListN.{length, drop, length-drop}
 use lib.Seq.{length-take-le}
 use Rattle.field.specs.Layout.{fieldLen}
 use Rattle.mlg.specs.Fields.{fieldNumber}
 use Rattle.field.specs.Field.{fieldSize}
-use Rattle.mlg.proofs.Layouts.{field-least, field-most}
+use Rattle.field.proofs.Layouts.{field-least}
 use Rattle.wire.proofs.Parts.{part-is}
 
 field-len-requires : tie.Need-field-len-requires

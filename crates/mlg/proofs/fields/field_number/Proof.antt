@@ -4,7 +4,7 @@ use Rattle.mlg.proofs.fields.field_number.Tie as tie
 use native.Mathlib.Omega.{arith}
 use Rattle.mlg.specs.Fields.{fieldNumber}
 use Rattle.wire.proofs.Orders.{order}
-use Rattle.mlg.proofs.Layouts.{field-least}
+use Rattle.field.proofs.Layouts.{field-least}
 
 type-number-requires : tie.Need-type-number-requires
 type-number-requires c κs = omega (arith, field-least (c .before .before .before .args .version))

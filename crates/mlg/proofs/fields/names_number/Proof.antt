@@ -2,7 +2,6 @@ use borrow.Author.Needs.{needs}
 use Rattle.mlg.proofs.fields.names_number.Statement.{statement}
 use Rattle.mlg.proofs.fields.names_number.Tie as tie
 use native.Mathlib.Omega.{arith}
-use mathlib.Core.Path.{sym, _∙_}
 use Rattle.mlg.specs.Fields.{namesNumber}
 use Rattle.wire.proofs.Orders.{order}
 

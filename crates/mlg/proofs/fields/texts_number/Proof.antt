@@ -3,7 +3,8 @@ use Rattle.mlg.proofs.fields.texts_number.Tie as tie
 use native.Mathlib.Omega.{arith}
 use Rattle.mlg.specs.Fields.{textsNumber}
 use Rattle.wire.proofs.Orders.{order}
-use Rattle.mlg.proofs.Layouts.{field-least, category-least}
+use Rattle.field.proofs.Layouts.{field-least}
+use Rattle.mlg.proofs.Layouts.{category-least}
 
 open-text-requires : tie.Need-open-text-requires
 open-text-requires c κs = omega (arith, field-least (c .before .args .version))

@@ -1,7 +1,6 @@
 use borrow.Author.Needs.{needs}
 use Rattle.mlg.proofs.marks.put_data.Statement.{statement}
 use Rattle.mlg.proofs.marks.put_data.Tie as tie
-use native.Mathlib.Omega.{arith}
 use Rattle.mlg.proofs.BlockBytes.{data-put}
 
 start-bytes-requires : tie.Need-start-bytes-requires

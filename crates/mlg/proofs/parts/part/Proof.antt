@@ -1,6 +1,6 @@
 use Rattle.mlg.proofs.parts.part.Statement.{statement}
 use Rattle.mlg.proofs.parts.part.Tie as tie
-use mathlib.Core.Path.{_≡_, refl, sym, _∙_, ap}
+use mathlib.Core.Path.{refl}
 use Rattle.mlg.proofs.Spans.{span-no, span-yes}
 
 returns : tie.Need-returns

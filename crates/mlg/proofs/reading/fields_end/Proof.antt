@@ -1,9 +1,7 @@
 use borrow.Author.Needs.{needs}
 use Rattle.mlg.proofs.reading.fields_end.Statement.{statement}
 use Rattle.mlg.proofs.reading.fields_end.Tie as tie
-use mathlib.Core.Path.{_≡_}
 use native.Mathlib.Omega.{arith}
-use Rattle.field.specs.Layout.{fieldLen}
 use Rattle.mlg.specs.Header.{fieldsEnd}
 use Rattle.mlg.proofs.Layouts.{fields-most, header-most}
 

@@ -1,14 +1,13 @@
 use borrow.Author.Needs.{needs}
 use Rattle.mlg.proofs.reading.file_fields.Statement.{statement}
 use Rattle.mlg.proofs.reading.file_fields.Tie as tie
-use Prim.Native.Nat.{ℕ, _+_, _*_, _-_, _≤_}
-use mathlib.Core.Path.{_≡_, refl, sym, _∙_, ap}
+use Prim.Native.Nat.{_-_}
+use mathlib.Core.Path.{_∙_, ap}
 use native.Mathlib.Omega.{arith}
-use lib.ListN.{length, take, drop, length-drop}
+use lib.ListN.{length-drop}
 use Rattle.mlg.specs.Header.{fieldsEnd}
 use Rattle.field.specs.Layout.{headerLen}
 use Rattle.mlg.specs.Fields.{sizes}
-use Rattle.mlg.proofs.Layouts.{header-most}
 use Rattle.mlg.proofs.Places.{placed}
 use Rattle.mlg.proofs.Areas.{file-area, file-rest, same-fields}
 

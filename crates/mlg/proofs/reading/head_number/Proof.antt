@@ -1,10 +1,9 @@
 use borrow.Author.Needs.{needs}
 use Rattle.mlg.proofs.reading.head_number.Statement.{statement}
 use Rattle.mlg.proofs.reading.head_number.Tie as tie
-use mathlib.Core.Path.{_≡_, sym, _∙_, refl}
-use lib.ListN.{length}
+use mathlib.Core.Path.{sym, _∙_}
 use Rattle.mlg.specs.Header.{headNumber, bodyNumber}
-use Rattle.wire.proofs.Orders.{order, none}
+use Rattle.wire.proofs.Orders.{order}
 
 name-number-requires : tie.Need-name-number-requires
 name-number-requires c κs = search needs

@@ -2,7 +2,7 @@ use borrow.Author.Needs.{needs}
 use Rattle.mlg.proofs.reading.last_number.Statement.{statement}
 use Rattle.mlg.proofs.reading.last_number.Tie as tie
 use native.Mathlib.Omega.{arith}
-use mathlib.Core.Path.{ap, sym, _∙_}
+use mathlib.Core.Path.{ap, _∙_}
 use Rattle.wire.specs.Text.{zeros}
 use Rattle.mlg.specs.Header.{lastNumber, areaIn, fieldsEnd}
 use Rattle.mlg.proofs.Areas.{area-part}

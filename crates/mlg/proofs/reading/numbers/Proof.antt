@@ -1,10 +1,9 @@
 use borrow.Author.Needs.{needs}
 use Rattle.mlg.proofs.reading.numbers.Statement.{statement}
 use Rattle.mlg.proofs.reading.numbers.Tie as tie
-use mathlib.Core.Path.{sym}
 use native.Mathlib.Omega.{arith}
 use Rattle.mlg.specs.Header.{numbersOf}
-use Rattle.mlg.proofs.Layouts.{info-most}
+use Rattle.field.proofs.Layouts.{info-most}
 
 be16-requires : tie.Need-be16-requires
 be16-requires c κs = search needs

@@ -1,7 +1,7 @@
 use Rattle.mlg.proofs.whole.count_from.Statement.{statement}
 use Rattle.mlg.proofs.whole.count_from.Tie as tie
-use Prim.Native.Nat.{ℕ, _+_, _-_, _≤_, _<_, _^_}
-use mathlib.Core.Path.{_≡_, refl, sym, _∙_, ap}
+use Prim.Native.Nat.{_+_, _-_, _≤_, _<_, _^_}
+use mathlib.Core.Path.{_≡_, refl, sym, _∙_}
 use native.Mathlib.Omega.{arith}
 use lib.ListN.{length}
 use Rattle.mlg.specs.Log.{logFrom, logOf, tallyOf}

@@ -1,7 +1,7 @@
 use borrow.Author.Needs.{needs}
 use Rattle.mlg.proofs.whole.length_of.Statement.{statement}
 use Rattle.mlg.proofs.whole.length_of.Tie as tie
-use mathlib.Core.Path.{_≡_, refl, sym, _∙_, ap}
+use mathlib.Core.Path.{sym, _∙_, ap}
 use Rattle.mlg.specs.Log.{lengthOf}
 
 enum-told : tie.Need-enum-told

@@ -1,7 +1,7 @@
 use borrow.Author.Needs.{needs}
 use Rattle.mlg.proofs.whole.stop_number.Statement.{statement}
 use Rattle.mlg.proofs.whole.stop_number.Tie as tie
-use mathlib.Core.Path.{_≡_, refl, sym, _∙_, ap}
+use mathlib.Core.Path.{sym, ap}
 use Rattle.mlg.specs.Block.{blockAnswer}
 use Rattle.mlg.specs.declared.Block.{Block}
 

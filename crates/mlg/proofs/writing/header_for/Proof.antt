@@ -1,16 +1,15 @@
 use borrow.Author.Needs.{needs}
 use Rattle.mlg.proofs.writing.header_for.Statement.{statement}
 use Rattle.mlg.proofs.writing.header_for.Tie as tie
-use mathlib.Core.Path.{_≡_, refl, sym, _∙_, ap}
-use Prim.Native.Nat.{ℕ, _+_}
+use Prim.Native.Nat.{_+_}
 use native.Mathlib.Omega.{arith}
 use lib.ListN.{length}
-use Rattle.field.specs.Layout.{headerLen}
 use Rattle.mlg.specs.Writing.{headerFor}
 use Rattle.mlg.proofs.Areas.{area-length}
 use Rattle.mlg.proofs.Fits.{fit}
 use Rattle.mlg.proofs.HeaderBytes.{start-most}
-use Rattle.mlg.proofs.Layouts.{field-least, fields-fit}
+use Rattle.field.proofs.Layouts.{field-least}
+use Rattle.mlg.proofs.Layouts.{fields-fit}
 
 field-len-requires : tie.Need-field-len-requires
 field-len-requires c κs = search needs

@@ -1,9 +1,8 @@
 use borrow.Author.Needs.{needs}
 use Rattle.mlg.proofs.writing.header_number.Statement.{statement}
 use Rattle.mlg.proofs.writing.header_number.Tie as tie
-use mathlib.Core.Path.{_≡_, refl, sym, _∙_, ap}
+use mathlib.Core.Path.{refl, sym, _∙_}
 use borrow.Author.Tests.{lt-ltb, le-ltb}
-use native.Mathlib.Omega.{arith}
 use Rattle.wire.proofs.Orders.{else-some, else-none, if-yes, if-no}
 use Rattle.mlg.specs.Writing.{headerNumber}
 use Rattle.mlg.proofs.HeaderBytes.{header-length}

@@ -1,13 +1,13 @@
 use borrow.Author.Needs.{needs}
 use Rattle.mlg.proofs.writing.lengths_number.Statement.{statement}
 use Rattle.mlg.proofs.writing.lengths_number.Tie as tie
-use mathlib.Core.Path.{_≡_, refl, sym, _∙_, ap}
 use native.Mathlib.Omega.{arith}
 use borrow.Author.Tests.{lt-ltb, le-ltb, eq-eqb}
 use Rattle.wire.proofs.Orders.{order, if-yes, if-no, not-no}
 use Rattle.mlg.specs.Writing.{lengthsNumber}
 use Rattle.mlg.proofs.Fits.{too-long, not-long, ended-most}
-use Rattle.mlg.proofs.Layouts.{field-least, fields-fit, fields-few, header-most}
+use Rattle.field.proofs.Layouts.{field-least}
+use Rattle.mlg.proofs.Layouts.{fields-fit, fields-few, header-most}
 
 field-len-requires : tie.Need-field-len-requires
 field-len-requires c κs = search needs

@@ -1,7 +1,7 @@
 use borrow.Author.Needs.{needs}
 use Rattle.mlg.proofs.writing.put_header.Statement.{statement}
 use Rattle.mlg.proofs.writing.put_header.Tie as tie
-use mathlib.Core.Path.{_≡_, refl, sym, _∙_, ap}
+use mathlib.Core.Path.{_∙_, ap}
 use native.Mathlib.Omega.{arith}
 use Rattle.mlg.specs.Writing.{numberBytes}
 use Rattle.mlg.proofs.Areas.{area-length}

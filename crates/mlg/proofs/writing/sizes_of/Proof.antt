@@ -1,12 +1,14 @@
 use Rattle.mlg.proofs.writing.sizes_of.Statement.{statement}
 use Rattle.mlg.proofs.writing.sizes_of.Tie as tie
-use Prim.Native.Nat.{ℕ, _+_, _*_, _-_, _≤_, _<_}
-use mathlib.Core.Path.{_≡_, refl, sym, _∙_, ap}
+use Prim.Native.Nat.{_+_, _*_, _-_, _≤_}
+use mathlib.Core.Path.{_≡_}
 use native.Mathlib.Omega.{arith}
-use lib.ListN.{length, drop, take, getD}
+use lib.ListN.{length, drop, getD}
 use Rattle.field.specs.Layout.{fieldLen}
 use Rattle.mlg.specs.Fields.{sizes}
-use Rattle.mlg.proofs.Layouts.{field-least, one-of, size-most}
+use Rattle.field.proofs.Layouts.{field-least}
+use Rattle.field.proofs.Types.{size-most}
+use Rattle.mlg.proofs.Layouts.{one-of}
 use Rattle.mlg.proofs.EachField.{sizes-first, sizes-done}
 
 abbrev Inv-loop : tie.InvT-loop
