@@ -1,3 +1,4 @@
 pub mod Orders
+pub mod Firsts
 pub mod Numbers
 pub mod Puts
