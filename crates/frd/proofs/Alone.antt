@@ -1,15 +1,13 @@
 -- What is read of a whole block does not change with what follows it.
-use Prim.Native.Nat.{ℕ, zero, suc, _+_, _-_, _≤_, _<_}
-use mathlib.Core.Path.{_≡_, refl, sym, ap, _∙_}
-use mathlib.Core.List.{List, [], _∷_, _++_}
+use Prim.Native.Nat.{ℕ, _<_}
+use mathlib.Core.Path.{_≡_, sym, ap, _∙_}
+use mathlib.Core.List.{List, _++_}
 use native.Mathlib.Omega.{arith}
-use lib.Dec.{eqb, ltb}
-use borrow.Author.Tests.{le-ltb, eq-eqb}
-use lib.ListN.{length, getD, take, drop, length-append, List·getD-append}
-use Rattle.wire.specs.Order.{_if_else_}
-use Rattle.wire.proofs.Orders.{if-yes, if-no}
+use borrow.Author.Tests.{eq-eqb}
+use lib.ListN.{length, length-append, List·getD-append}
+use Rattle.wire.proofs.Orders.{if-yes}
 use Rattle.wire.proofs.Parts.{part-append}
-use Rattle.frd.specs.Blocks.{blockLen, kindIn, counterIn, restNumber, wholeOf, judged, blockOf}
+use Rattle.frd.specs.Blocks.{blockLen, kindIn, restNumber, wholeOf, blockOf}
 use Rattle.frd.specs.RoundTrip.{BlockAlone}
 use Rattle.frd.specs.declared.Block.the-variants.{Refused}
 use Rattle.frd.proofs.Cases.{Kind, is-data, is-time, is-none, kind-of, data-len, time-len, no-len, block-some, block-stands, block-refused, whole-data, whole-time, rest-whole}

@@ -1,22 +1,20 @@
 -- What the writers write, the readers read back as given, whatever stands before and follows.
-use Prim.Native.Nat.{ℕ, zero, suc, _+_, _*_, _/_, _%_, _^_, _≤_, _<_}
+use Prim.Native.Nat.{ℕ, _+_, _^_, _≤_, _<_}
 use mathlib.Core.Path.{_≡_, refl, sym, ap, _∙_}
-use mathlib.Core.Bool.{true, false, not}
-use mathlib.Core.List.{List, [], _∷_, _++_, append-assoc}
+use mathlib.Core.Bool.{true}
+use mathlib.Core.List.{List, _∷_, _++_, append-assoc}
 use native.Mathlib.Omega.{arith}
 use borrow.Author.Tests.{eq-eqb, le-ltb}
-use lib.Dec.{eqb, ltb}
-use lib.ListN.{length, getD, take, drop, length-append}
+use lib.ListN.{length, take, drop, length-append}
 use lib.Seq.{take-at, drop-at, drop-append-add, drop-drop}
 use Rattle.wire.specs.BigEndian.{beOf, beAt, bytesOf}
 use Rattle.wire.proofs.Numbers.{be-back}
 use Rattle.wire.proofs.Orders.{if-no, not-no}
 use Rattle.frd.specs.Counter.{counterOf}
 use Rattle.frd.specs.Header.{headLen, signatureLen, name, version, numbersOf, signatureIn, headNumber, headerOf}
-use Rattle.frd.specs.Blocks.{blockLen, kindIn, counterIn, recordPlace, wholeOf, blockOf, blockAt}
+use Rattle.frd.specs.Blocks.{blockLen, kindIn, recordPlace, wholeOf, blockOf, blockAt}
 use Rattle.frd.specs.Writers.{headerBytes, dataBytes, timeBytes}
 use Rattle.frd.specs.RoundTrip.{headerFor, HeaderBack, DataBack, TimeBack}
-use Rattle.frd.specs.declared.Header.{Header}
 use Rattle.frd.specs.declared.Head.the-variants.{Is}
 use Rattle.frd.specs.declared.Block.{Block}
 use Rattle.frd.specs.declared.Block.the-variants.{Data, Time}

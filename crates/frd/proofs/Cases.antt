@@ -2,19 +2,18 @@
 use Prim.Native.Nat.{ℕ, zero, suc, _+_, _<_, _≤_}
 use mathlib.Core.Path.{_≡_, refl, sym, ap, _∙_}
 use mathlib.Core.Bool.{Bool, true, false, cond}
-use mathlib.Core.Logic.{_⊎_, inl, inr}
 use mathlib.Core.List.{List, [], _∷_}
 use native.Mathlib.Omega.{arith}
 use borrow.Author.Tests.{eq-eqb, ne-eqb, eqb-true, eqb-false, lt-ltb, le-ltb, ltb-true, ltb-false}
 use lib.Dec.{eqb, ltb}
 use lib.ListN.{length, drop, length-drop}
-use Rattle.wire.specs.Order.{_if_else_}
 use Rattle.wire.specs.BigEndian.{beAt}
 use Rattle.wire.proofs.Orders.{if-yes, if-no, if-zero}
 use Rattle.frd.specs.Counter.{counterOf}
-use Rattle.frd.specs.Header.{headFor, headAnswer}
+use Rattle.frd.specs.Header.{signaturePlace, signatureLen, signaturePart, headFor, headAnswer}
 use Rattle.frd.specs.Blocks.{blockLen, kindIn, counterIn, recordPlace, restNumber, wholeOf, judged, blockOf, pastNumber, blockAt, blockNumber, blockAnswer}
 use Rattle.frd.specs.declared.Header.{Header}
+use Rattle.frd.specs.declared.Part.{Part}
 use Rattle.frd.specs.declared.Head.{Head}
 use Rattle.frd.specs.declared.Head.the-variants.{Is, Refused as HeadRefused}
 use Rattle.frd.specs.declared.Block.{Block}
@@ -30,6 +29,17 @@ pub head-stands : (n : ℕ) (h g : Header) → 0 ≡ n → g ≡ h → Is g ≡ 
 unfolding headFor
 head-stands zero h g e k = ap Is k
 head-stands (suc n) h g e k = absurd (omega arith)
+
+-- where its signature stands
+pub part-refused : (n x : ℕ) → x ≡ n → (x ≡ 0 → ⊥) → _≡_ {A = Part} (record { number = x; start = 0; len = 0 }) (signaturePart n)
+unfolding signaturePart
+part-refused zero x e k = absurd (k e)
+part-refused (suc n) x e k = rw e
+
+pub part-stands : (n x : ℕ) → x ≡ n → x ≡ 0 → _≡_ {A = Part} (record { number = x; start = signaturePlace; len = signatureLen }) (signaturePart n)
+unfolding signaturePart
+part-stands zero x e k = rw e
+part-stands (suc n) x e k = absurd (omega arith)
 
 -- the same of a block
 pub block-refused : (n at : ℕ) (b : Block) (x : ℕ) → x ≡ n → (x ≡ 0 → ⊥) → Refused x at ≡ judged n at b

@@ -1,7 +1,7 @@
 -- What a header that was read says of its file.
-use Prim.Native.Nat.{ℕ, zero, suc, _+_, _≤_, _<_}
-use mathlib.Core.Path.{_≡_, refl, sym, ap, _∙_}
-use mathlib.Core.List.{List, []}
+use Prim.Native.Nat.{ℕ, zero, suc, _≤_}
+use mathlib.Core.Path.{_≡_, refl, sym}
+use mathlib.Core.List.{List}
 use native.Mathlib.Omega.{arith}
 use borrow.Author.Tests.{eqb-true, ltb-false, not-false}
 use lib.ListN.{length, drop}
@@ -12,7 +12,6 @@ use Rattle.frd.specs.Log.{logOf, fileLog, tallyOf}
 use Rattle.frd.specs.declared.Header.{Header}
 use Rattle.frd.specs.declared.Head.{Head}
 use Rattle.frd.specs.declared.Head.the-variants.{Is, Refused}
-use Rattle.frd.specs.declared.Tally.{Tally}
 use Rattle.frd.proofs.Cases.{head-stands}
 
 pub record Known (f : List ℕ) : Type 0 where

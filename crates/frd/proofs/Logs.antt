@@ -1,22 +1,21 @@
 -- A whole log: reading what was written gives what was given.
-use Prim.Native.Nat.{ℕ, zero, suc, _+_, _-_, _^_, _≤_, _<_}
+use Prim.Native.Nat.{ℕ, zero, suc, _+_, _<_}
 use mathlib.Core.Path.{_≡_, refl, sym, ap, _∙_, subst}
-use mathlib.Core.Bool.{Bool, true, false, cond}
+use mathlib.Core.Bool.{true}
 use mathlib.Core.List.{List, [], _∷_, _++_, append-assoc}
 use native.Mathlib.Omega.{arith}
-use lib.ListN.{length, take, drop, length-append}
+use lib.ListN.{length, drop, length-append}
 use lib.Seq.{drop-at}
 use Rattle.frd.specs.Counter.{counterOf}
-use Rattle.frd.specs.Header.{headLen, signatureLen, headerOf, signatureIn}
-use Rattle.frd.specs.Blocks.{blockLen, recordPlace, blockOf, lengthOf}
-use Rattle.frd.specs.Log.{Log, Placed, ended, more, walk, logOf, fileLog}
+use Rattle.frd.specs.Header.{headLen}
+use Rattle.frd.specs.Blocks.{recordPlace, blockOf, lengthOf}
+use Rattle.frd.specs.Log.{Log, more, walk, logOf, fileLog}
 use Rattle.frd.specs.Writers.{headerBytes, dataBytes, timeBytes}
-use Rattle.frd.specs.RoundTrip.{headerFor, Entry, output, moment, Lawful, entryBytes, logBytes, fileBytes, entryThen, entriesIn, rightThen, allRight, ReadBack, LogBack}
-use Rattle.frd.specs.declared.Head.the-variants.{Is}
+use Rattle.frd.specs.RoundTrip.{headerFor, Entry, output, moment, Lawful, logBytes, fileBytes, entryThen, entriesIn, rightThen, allRight, LogBack}
 use Rattle.frd.specs.declared.Block.{Block}
 use Rattle.frd.specs.declared.Block.the-variants.{Data, Time}
 use Rattle.frd.proofs.Cases.{data-len, time-len, block-end}
-use Rattle.frd.proofs.Walks.{goes, block-fits, walk-on, walk-stop, walk-enough}
+use Rattle.frd.proofs.Walks.{goes, block-fits, walk-on, walk-stop}
 use Rattle.frd.proofs.Heads.{log-is}
 use Rattle.frd.proofs.Backs.{data-length, time-length, header-length, data-back-at, record-back, time-back-at, header-read}
 
@@ -38,7 +37,15 @@ module _ (l : ℕ) (f : List ℕ) (at : ℕ) (b : Block) (e : Entry) (es : List 
         place = w .place;
       }
 
--- the block of an entry
+-- an entry's bytes, and its block
+abbrev entryBytes : ℕ → Entry → List ℕ
+entryBytes c (output rec) = dataBytes c rec
+entryBytes c (moment time) = timeBytes c time
+
+log-cons : (n : ℕ) (e : Entry) (es : List Entry) → logBytes n (e ∷ es) ≡ entryBytes (counterOf n) e ++ logBytes (n + 1) es
+log-cons n (output rec) es = refl
+log-cons n (moment time) es = refl
+
 abbrev blockFor : ℕ → ℕ → Entry → Block
 blockFor c at (output rec) = Data c (recordPlace at) true
 blockFor c at (moment time) = Time c time true
@@ -91,10 +98,11 @@ module _ (l : ℕ) where
       let v : at + lengthOf l b ≡ length (before ++ entryBytes c e) = omega (arith, length-append before (entryBytes c e)) in
       let w : walk (suc k) l n at (entryBytes c e ++ rest) ≡ more at b (walk k l (n + 1) (length (before ++ entryBytes c e)) rest) =
       walk-on k l n at (entryBytes c e ++ rest) b q g ∙ (rw (u, v)) in
-      let r = walk-back es (n + 1) k (before ++ entryBytes c e) (after e es h) (omega arith) in
-      subst (Whole l (before ++ (entryBytes c e ++ rest)) (e ∷ es)) (sym w)
+      let r = walk-back es (n + 1) k (before ++ entryBytes c e) (after e es h) (omega (arith, ap length (log-cons n e es))) in
+      subst (λ (x : List ℕ). Whole l (before ++ x) (e ∷ es) (walk (suc k) l n at x)) (sym (log-cons n e es))
+      (subst (Whole l (before ++ (entryBytes c e ++ rest)) (e ∷ es)) (sym w)
       (whole-more l (before ++ (entryBytes c e ++ rest)) at b e es _ (entry-back c before e es rest h) (entry-right c at e)
-      (subst (λ (x : List ℕ). Whole l x es (walk k l (n + 1) (length (before ++ entryBytes c e)) rest)) (append-assoc before (entryBytes c e) rest) r))
+      (subst (λ (x : List ℕ). Whole l x es (walk k l (n + 1) (length (before ++ entryBytes c e)) rest)) (append-assoc before (entryBytes c e) rest) r)))
 
 pub log-whole : (l at : ℕ) (t : List ℕ) → logOf l at t ≡ walk (suc (length t)) l 0 at t
 unfolding logOf

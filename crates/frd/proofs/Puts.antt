@@ -1,6 +1,6 @@
 -- What the writers put into their output.
-use Prim.Native.Nat.{ℕ, zero, suc, _+_, _≤_, _<_}
-use mathlib.Core.Path.{_≡_, refl, sym, ap, _∙_}
+use Prim.Native.Nat.{ℕ, _+_, _≤_, _<_}
+use mathlib.Core.Path.{_≡_, refl}
 use mathlib.Core.List.{List, [], _∷_, _++_}
 use native.Mathlib.Omega.{arith}
 use borrow.Author.Tests.{lt-ltb, le-ltb}
@@ -10,7 +10,7 @@ use Rattle.wire.specs.Put.{putOf}
 use Rattle.wire.proofs.Orders.{if-yes, if-no}
 use Rattle.wire.proofs.Writes.{over, put-first, put-more}
 use Rattle.frd.specs.Header.{headLen, signatureLen, name, version}
-use Rattle.frd.specs.Writers.{headerBytes, dataBytes, timeBytes, roomNumber}
+use Rattle.frd.specs.Writers.{headerBytes, dataBytes, roomNumber}
 
 pub room-short : (bytes : List ℕ) (room : ℕ) → room < length bytes → 27 ≡ roomNumber bytes room
 unfolding roomNumber

@@ -1,27 +1,26 @@
 -- A file in this layout with right counters, rewritten from what was read, gives the same bytes.
-use Prim.Native.Nat.{ℕ, zero, suc, _+_, _-_, _^_, _≤_, _<_}
+use Prim.Native.Nat.{ℕ, zero, suc, _+_, _≤_, _<_}
 use mathlib.Core.Path.{_≡_, refl, sym, ap, _∙_, subst}
 use mathlib.Core.Bool.{Bool, true, false, cond}
 use mathlib.Core.List.{List, [], _∷_, _++_}
 use native.Mathlib.Omega.{arith}
 use borrow.Author.Tests.{eqb-true}
-use lib.Dec.{eqb}
-use lib.ListN.{length, getD, take, drop, length-drop, take-append-drop}
+use lib.ListN.{length, take, drop, length-drop, take-append-drop}
 use lib.Seq.{drop-drop, getD-drop, length-take-le}
 use Rattle.wire.specs.BigEndian.{beOf, beAt, bytesOf}
 use Rattle.wire.proofs.Numbers.{Bytes, bytes-back}
 use Rattle.frd.specs.Counter.{counterOf}
-use Rattle.frd.specs.Header.{headLen, signatureLen, name, version, numbersOf, signatureIn, headNumber}
+use Rattle.frd.specs.Header.{headLen, name, version, numbersOf, signatureIn}
 use Rattle.frd.specs.Blocks.{kindIn, counterIn, recordPlace, blockOf, lengthOf}
-use Rattle.frd.specs.Log.{Log, more, walk, logOf, fileLog}
+use Rattle.frd.specs.Log.{Log, walk, fileLog}
 use Rattle.frd.specs.Writers.{headerBytes, dataBytes, timeBytes}
-use Rattle.frd.specs.RoundTrip.{Entry, logBytes, fileBytes, entryThen, entriesIn, rightThen, allRight, InLayout, SameBytes}
+use Rattle.frd.specs.RoundTrip.{Entry, logBytes, fileBytes, entryThen, entriesIn, rightThen, allRight, SameBytes}
 use Rattle.frd.specs.declared.Block.{Block}
 use Rattle.frd.specs.declared.Block.the-variants.{Data, Time, End, Refused}
 use Rattle.frd.proofs.Cases.{View, at-end, of-data, of-time, of-refusal, view, data-len, time-len}
 use Rattle.frd.proofs.Walks.{goes, block-fits, walk-on, walk-stop}
 use Rattle.frd.proofs.Heads.{Known, known, head-is, log-is}
-use Rattle.frd.proofs.Backs.{headerThen, header-list}
+use Rattle.frd.proofs.Backs.{header-list}
 use Rattle.frd.proofs.Logs.{log-whole}
 
 -- parts of bytes are bytes

@@ -1,5 +1,5 @@
 -- A walk over a log, block by block.
-use Prim.Native.Nat.{ℕ, zero, suc, _+_, _-_, _≤_, _<_}
+use Prim.Native.Nat.{ℕ, zero, suc, _+_, _≤_, _<_}
 use mathlib.Core.Path.{_≡_, refl, sym, ap, _∙_, subst}
 use mathlib.Core.List.{List, [], _∷_}
 use native.Mathlib.Omega.{arith}
@@ -11,7 +11,7 @@ use lib.ListN.{length, drop, length-drop}
 use lib.Seq.{drop-drop}
 use Rattle.frd.specs.Counter.{counterOf}
 use Rattle.frd.specs.Blocks.{blockOf, blockAnswer, lengthOf}
-use Rattle.frd.specs.Log.{Log, ended, more, onward, walk, logOf, tallyOf}
+use Rattle.frd.specs.Log.{Log, ended, more, walk, logOf, tallyOf}
 use Rattle.frd.specs.declared.Block.{Block}
 use Rattle.frd.specs.declared.Block.the-variants.{Data, Time, End, Refused}
 use Rattle.frd.specs.declared.Tally.{Tally}

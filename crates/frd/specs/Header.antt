@@ -7,6 +7,7 @@ use lib.ListN.{length, take, drop}
 use Rattle.wire.specs.Order.{_if_else_}
 use Rattle.wire.specs.BigEndian.{beOf, beAt}
 use Rattle.frd.specs.declared.Header.{Header}
+use Rattle.frd.specs.declared.Part.{Part}
 use Rattle.frd.specs.declared.Head.{Head}
 use Rattle.frd.specs.declared.Head.the-variants.{Is, Refused}
 
@@ -14,7 +15,10 @@ use Rattle.frd.specs.declared.Head.the-variants.{Is, Refused}
 abbrev pub headLen : ℕ
 headLen = 81
 
--- the signature's length
+-- the signature's place and length
+abbrev pub signaturePlace : ℕ
+signaturePlace = 12
+
 abbrev pub signatureLen : ℕ
 signatureLen = 63
 
@@ -38,7 +42,7 @@ numbersOf f =
 
 -- the signature, a part of the file
 unfoldable pub signatureIn : List ℕ → List ℕ
-signatureIn f = take signatureLen (drop 12 f)
+signatureIn f = take signatureLen (drop signaturePlace f)
 
 -- "Order: 20, 21, 22, 23": cut short, wrong name, version not served, data begin not 81
 unfoldable pub headNumber : List ℕ → ℕ
@@ -56,6 +60,11 @@ headFor (suc n) h = Refused (suc n)
 
 unfoldable pub headerOf : List ℕ → Head
 headerOf f = headFor (headNumber f) (numbersOf f)
+
+-- where a read header's signature stands: place and length in the file, which a refusal leaves 0
+unfoldable pub signaturePart : ℕ → Part
+signaturePart zero = record { number = 0; start = signaturePlace; len = signatureLen }
+signaturePart (suc n) = record { number = suc n; start = 0; len = 0 }
 
 -- the number and the values of each case; a refusal's are 0
 pub record HeadAnswer : Type 0 where

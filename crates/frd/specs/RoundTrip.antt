@@ -55,14 +55,11 @@ Lawful l [] = Unit
 Lawful l (output rec ∷ es) = (length rec ≡ l) × Lawful l es
 Lawful l (moment time ∷ es) = (time < 2 ^ 32) × Lawful l es
 
-abbrev pub entryBytes : ℕ → Entry → List ℕ
-entryBytes c (output rec) = dataBytes c rec
-entryBytes c (moment time) = timeBytes c time
-
--- the blocks' bytes, after n blocks
+-- the blocks' bytes, after n blocks: each is counted
 abbrev pub logBytes : ℕ → List Entry → List ℕ
 logBytes n [] = []
-logBytes n (e ∷ es) = entryBytes (counterOf n) e ++ logBytes (n + 1) es
+logBytes n (output rec ∷ es) = dataBytes (counterOf n) rec ++ logBytes (n + 1) es
+logBytes n (moment time ∷ es) = timeBytes (counterOf n) time ++ logBytes (n + 1) es
 
 -- a file's bytes
 unfoldable pub fileBytes : ℕ → List ℕ → ℕ → List Entry → List ℕ

@@ -1,10 +1,10 @@
 // FRD 1: reader and writer of a log's header and of its two kinds of blocks.
 ghost use mathlib.Core.Path.{_≡_};
 ghost use Prim.Native.Nat.{ℕ, _+_, _<_, _≤_, _^_};
-ghost use lib.ListN.{length, drop};
+ghost use lib.ListN.{length, take, drop};
 ghost use Rattle.wire.specs.Writer.{wrote, leaves};
 ghost use Rattle.frd.specs.Counter.{counterOf};
-ghost use Rattle.frd.specs.Header.{numbersOf, headNumber, headerOf, headAnswer};
+ghost use Rattle.frd.specs.Header.{numbersOf, signatureIn, headNumber, headerOf, signaturePart, headAnswer};
 ghost use Rattle.frd.specs.Blocks.{blockLen, restNumber, wholeOf, blockOf, blockAt, blockNumber, blockAnswer, lengthOf};
 ghost use Rattle.frd.specs.Log.{logOf, fileLog, tallyOf};
 ghost use Rattle.frd.specs.Writers.{headerBytes, headerNumber, dataBytes, dataNumber, timeBytes, roomNumber};
@@ -66,6 +66,33 @@ pub fn read_header(file: &[u8]) -> Head
         return Head::Refused(number);
     }
     Head::Is(numbers(file))
+}
+
+// A part of a file: the number that refuses it, or 0, its place and its length.
+pub struct Part {
+    pub number: u8,
+    pub start: usize,
+    pub len: usize,
+}
+
+// The signature of a file.
+pub fn read_signature(file: &[u8]) -> Part
+    ensures { λ r. ⌜ r ≡ signaturePart (headNumber (now (file .entry))) ⌝ }
+    ensures part { λ r. ⌜ (r .number ≡ 0 → take (r .len) (drop (r .start) (now (file .entry))) ≡ signatureIn (now (file .entry))) ⌝ }
+{
+    let number = head_number(file);
+    if number != 0 {
+        return Part {
+            number,
+            start: 0,
+            len: 0,
+        };
+    }
+    Part {
+        number,
+        start: 12,
+        len: 63,
+    }
 }
 
 // What stands at a place of a log: a data block, whose bytes begin at `start`, a time block, the end, or a refusal.

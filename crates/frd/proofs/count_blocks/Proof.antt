@@ -1,11 +1,6 @@
 use borrow.Author.Needs.{needs}
 use Rattle.frd.proofs.count_blocks.Statement.{statement}
 use Rattle.frd.proofs.count_blocks.Tie as tie
-use Rattle.frd.proofs.count_blocks.Reads as reads
-use Rattle.frd.proofs.count_blocks.Lts as lts
-use Rattle.frd.proofs.count_from.Reads as count-from-reads
-use Rattle.frd.proofs.read_header.Reads as read-header-reads
-use Rattle.frd.proofs.refusal.Reads as refusal-reads
 use mathlib.Core.Path.{sym, _∙_, ap}
 use Rattle.frd.specs.Log.{tallyOf}
 use Rattle.frd.proofs.Heads.{begins-in, log-is, log-none}

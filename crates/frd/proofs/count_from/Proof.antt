@@ -1,13 +1,8 @@
 use borrow.Author.Needs.{needs}
 use Rattle.frd.proofs.count_from.Statement.{statement}
 use Rattle.frd.proofs.count_from.Tie as tie
-use Rattle.frd.proofs.count_from.Reads as reads
-use Rattle.frd.proofs.count_from.Lts as lts
-use Rattle.frd.proofs.length_of.Reads as length-of-reads
-use Rattle.frd.proofs.read_block.Reads as read-block-reads
-use Rattle.frd.proofs.stop_number.Reads as stop-number-reads
-use Prim.Native.Nat.{ℕ, _+_, _-_, _≤_}
-use mathlib.Core.Path.{_≡_, refl, sym, _∙_, ap, subst}
+use Prim.Native.Nat.{_+_, _-_, _≤_}
+use mathlib.Core.Path.{_≡_, sym, _∙_, subst}
 use mathlib.Core.Logic.{⊎-elim}
 use native.Mathlib.Omega.{arith}
 use lib.ListN.{length, drop, length-drop}

@@ -1,8 +1,6 @@
 use borrow.Author.Needs.{needs}
 use Rattle.frd.proofs.counter_of.Statement.{statement}
 use Rattle.frd.proofs.counter_of.Tie as tie
-use Rattle.frd.proofs.counter_of.Reads as reads
-use Rattle.frd.proofs.counter_of.Lts as lts
 use Rattle.frd.specs.Counter.{counterOf}
 
 cast-result : tie.Need-cast-result

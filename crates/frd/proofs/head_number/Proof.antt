@@ -1,10 +1,6 @@
 use borrow.Author.Needs.{needs}
 use Rattle.frd.proofs.head_number.Statement.{statement}
 use Rattle.frd.proofs.head_number.Tie as tie
-use Rattle.frd.proofs.head_number.Reads as reads
-use Rattle.frd.proofs.head_number.Lts as lts
-use Rattle.frd.proofs.numbers.Reads as numbers-reads
-use Rattle.wire.proofs.be48.Reads as be48-reads
 use Rattle.wire.proofs.Orders.{order}
 use Rattle.frd.specs.Header.{headNumber}
 

@@ -1,9 +1,6 @@
 use borrow.Author.Needs.{needs}
 use Rattle.frd.proofs.length_of.Statement.{statement}
 use Rattle.frd.proofs.length_of.Tie as tie
-use Rattle.frd.proofs.length_of.Reads as reads
-use Rattle.frd.proofs.length_of.Lts as lts
-use Rattle.frd.proofs.block_len.Reads as block-len-reads
 use mathlib.Core.Path.{sym, _∙_, ap}
 use Rattle.frd.specs.Blocks.{lengthOf}
 
@@ -26,10 +23,10 @@ enum-told-4 : tie.Need-enum-told-4
 enum-told-4 c = search needs
 
 returns : tie.Need-returns
-returns c = c .block-len .ensures ∙ sym (ap (lengthOf (c .before .before .before .args .size)) (c .before .enum-told .given .1))
+returns c = c .block-len .ensures ∙ sym (ap (lengthOf _) (c .before .enum-told .given .1))
 
 returns-2 : tie.Need-returns-2
-returns-2 c = c .block-len2 .ensures ∙ sym (ap (lengthOf (c .before .before .before .args .size)) (c .before .enum-told2 .given .1))
+returns-2 c = c .block-len2 .ensures ∙ sym (ap (lengthOf _) (c .before .enum-told2 .given .1))
 
 returns-3 : tie.Need-returns-3
 returns-3 c = search needs

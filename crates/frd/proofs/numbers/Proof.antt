@@ -1,10 +1,6 @@
 use borrow.Author.Needs.{needs}
 use Rattle.frd.proofs.numbers.Statement.{statement}
 use Rattle.frd.proofs.numbers.Tie as tie
-use Rattle.frd.proofs.numbers.Reads as reads
-use Rattle.frd.proofs.numbers.Lts as lts
-use Rattle.wire.proofs.be16.Reads as be16-reads
-use Rattle.wire.proofs.be32.Reads as be32-reads
 use Rattle.frd.specs.Header.{numbersOf}
 
 be16-requires : tie.Need-be16-requires

@@ -1,10 +1,6 @@
 use borrow.Author.Needs.{needs}
 use Rattle.frd.proofs.read_header.Statement.{statement}
 use Rattle.frd.proofs.read_header.Tie as tie
-use Rattle.frd.proofs.read_header.Reads as reads
-use Rattle.frd.proofs.read_header.Lts as lts
-use Rattle.frd.proofs.head_number.Reads as head-number-reads
-use Rattle.frd.proofs.numbers.Reads as numbers-reads
 use mathlib.Core.Path.{sym, _∙_}
 use Rattle.frd.specs.Header.{headerOf}
 use Rattle.frd.proofs.Cases.{head-refused, head-stands, head-read}

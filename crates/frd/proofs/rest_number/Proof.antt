@@ -1,9 +1,6 @@
 use borrow.Author.Needs.{needs}
 use Rattle.frd.proofs.rest_number.Statement.{statement}
 use Rattle.frd.proofs.rest_number.Tie as tie
-use Rattle.frd.proofs.rest_number.Reads as reads
-use Rattle.frd.proofs.rest_number.Lts as lts
-use Rattle.frd.proofs.block_len.Reads as block-len-reads
 use Rattle.wire.proofs.Orders.{order}
 use Rattle.frd.specs.Blocks.{restNumber}
 

@@ -1,9 +1,6 @@
 use borrow.Author.Needs.{needs}
 use Rattle.frd.proofs.whole.Statement.{statement}
 use Rattle.frd.proofs.whole.Tie as tie
-use Rattle.frd.proofs.whole.Reads as reads
-use Rattle.frd.proofs.whole.Lts as lts
-use Rattle.wire.proofs.be32.Reads as be32-reads
 use mathlib.Core.Path.{sym}
 use Rattle.frd.proofs.Cases.{whole-data, whole-time}
 
@@ -20,10 +17,10 @@ be32-requires : tie.Need-be32-requires
 be32-requires c κs = search needs
 
 returns : tie.Need-returns
-returns c = sym (whole-data (c .before .before .before .before .args .expected) (c .before .before .before .before .args .at) (c .before .before .before .before .args .t .now) (c .if1 .taken))
+returns c = sym (whole-data _ _ _ (c .if1 .taken))
 
 returns-2 : tie.Need-returns-2
-returns-2 c = rw (c .be32 .ensures) (sym (whole-time (c .before .before .before .before .before .args .expected) (c .before .before .before .before .before .args .at) (c .before .before .before .before .before .args .t .now) (c .before .if1 .left)))
+returns-2 c = rw (c .be32 .ensures) (sym (whole-time _ _ _ (c .before .if1 .left)))
 
 pub whole-spec : {M : Type 1} → statement M
 whole-spec =

@@ -1,17 +1,11 @@
 use borrow.Author.Needs.{needs}
 use Rattle.frd.proofs.write_data.Statement.{statement}
 use Rattle.frd.proofs.write_data.Tie as tie
-use Rattle.frd.proofs.write_data.Reads as reads
-use Rattle.frd.proofs.write_data.Lts as lts
-use Rattle.frd.proofs.counter_of.Reads as counter-of-reads
-use Rattle.wire.proofs.put.Reads as put-reads
-use Prim.Native.Nat.{ℕ, _+_, _≤_, _<_}
-use mathlib.Core.Path.{_≡_, refl, sym, _∙_, ap}
-use mathlib.Core.List.{[], _∷_}
+use mathlib.Core.Path.{sym}
 use native.Mathlib.Omega.{arith}
 use lib.ListN.{length}
 use Rattle.wire.proofs.Writes.{refuses, writes}
-use Rattle.wire.proofs.Orders.{order, if-no, if-yes}
+use Rattle.wire.proofs.Orders.{order}
 use Rattle.frd.specs.Counter.{counterOf}
 use Rattle.frd.specs.Writers.{dataBytes, dataNumber}
 use Rattle.frd.proofs.Backs.{data-length, data-back}
@@ -19,14 +13,17 @@ use Rattle.frd.proofs.Puts.{room-short, room-left, data-put}
 
 returns : tie.Need-returns
 unfolding dataNumber
-returns c = (refuses 23 _ _ _ (search order depth 9) (λ z. omega arith), data-back (c .before .before .before .args .size) (c .before .before .before .args .earlier) (c .before .before .before .args .bytes .now))
+returns c = (refuses 23 _ _ _ (search order depth 9) (λ z. omega arith), data-back _ _ _)
 
 add-if2 : tie.Need-add-if2
 add-if2 c = search needs
 
 returns-2 : tie.Need-returns-2
 unfolding dataNumber
-returns-2 c = let k = data-length (counterOf (c .before .before .before .before .args .earlier)) (c .before .before .before .before .args .bytes .now) in let s = room-short (dataBytes (counterOf (c .before .before .before .before .args .earlier)) (c .before .before .before .before .args .bytes .now)) (length (c .before .before .before .before .args .out .now)) (omega arith) in (refuses 27 _ _ _ (search (order, s) depth 9) (λ z. omega arith), data-back (c .before .before .before .before .args .size) (c .before .before .before .before .args .earlier) (c .before .before .before .before .args .bytes .now))
+returns-2 c = let a = c .before .before .before .before .args in
+    let k = data-length (counterOf (a .earlier)) (a .bytes .now) in
+    let s = room-short (dataBytes (counterOf (a .earlier)) (a .bytes .now)) (length (a .out .now)) (omega arith) in
+    (refuses 27 _ _ _ (search (order, s) depth 9) (λ z. omega arith), data-back _ _ _)
 
 counter-of-requires : tie.Need-counter-of-requires
 counter-of-requires c κs = search needs
@@ -48,7 +45,11 @@ same-length c = search needs
 
 returns-3 : tie.Need-returns-3
 unfolding dataNumber
-returns-3 c = let k = data-length (counterOf (c .before .before .before .before .before .before .before .before .before .before .before .before .before .before .args .earlier)) (c .before .before .before .before .before .before .before .before .before .before .before .before .before .before .args .bytes .now) in let s = room-left (dataBytes (counterOf (c .before .before .before .before .before .before .before .before .before .before .before .before .before .before .args .earlier)) (c .before .before .before .before .before .before .before .before .before .before .before .before .before .before .args .bytes .now)) (length (c .before .before .before .before .before .before .before .before .before .before .before .before .before .before .args .out .now)) (omega arith) in (writes _ _ _ _ _ (search (order, s) depth 9) (sym k) (data-put (counterOf (c .before .before .before .before .before .before .before .before .before .before .before .before .before .before .args .earlier)) _ _ _ (rw (c .before .before .before .before .before .before .before .before .before .counter-of .ensures)) (omega arith) (c .before .before .before .before .before .before .put .ensures) (c .before .before .put2 .ensures)), data-back (c .before .before .before .before .before .before .before .before .before .before .before .before .before .before .args .size) (c .before .before .before .before .before .before .before .before .before .before .before .before .before .before .args .earlier) (c .before .before .before .before .before .before .before .before .before .before .before .before .before .before .args .bytes .now))
+returns-3 c = let a = c .before .before .before .before .before .before .before .before .before .before .before .before .before .before .args in
+    let k = data-length (counterOf (a .earlier)) (a .bytes .now) in
+    let s = room-left (dataBytes (counterOf (a .earlier)) (a .bytes .now)) (length (a .out .now)) (omega arith) in
+    let p = data-put (counterOf (a .earlier)) (a .out .now) (a .bytes .now) _ (rw (c .before .before .before .before .before .before .before .before .before .counter-of .ensures)) (omega arith) (c .before .before .before .before .before .before .put .ensures) (c .before .before .put2 .ensures) in
+    (writes _ _ _ _ _ (search (order, s) depth 9) (sym k) p, data-back _ _ _)
 
 pub write-data-spec : {M : Type 1} → statement M
 write-data-spec =

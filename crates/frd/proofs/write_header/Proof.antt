@@ -1,13 +1,7 @@
 use borrow.Author.Needs.{needs}
 use Rattle.frd.proofs.write_header.Statement.{statement}
 use Rattle.frd.proofs.write_header.Tie as tie
-use Rattle.frd.proofs.write_header.Reads as reads
-use Rattle.frd.proofs.write_header.Lts as lts
-use Rattle.wire.proofs.four_bytes.Reads as four-bytes-reads
-use Rattle.wire.proofs.put.Reads as put-reads
-use Rattle.wire.proofs.two_bytes.Reads as two-bytes-reads
-use Prim.Native.Nat.{ℕ, _+_, _≤_, _<_}
-use mathlib.Core.Path.{_≡_, refl, sym, _∙_, ap}
+use mathlib.Core.Path.{sym}
 use native.Mathlib.Omega.{arith}
 use lib.ListN.{length}
 use Rattle.wire.proofs.Writes.{refuses, writes}
@@ -20,11 +14,14 @@ use Rattle.frd.proofs.Puts.{room-short, room-left, header-put}
 
 returns : tie.Need-returns
 unfolding headerNumber
-returns c = (refuses 23 _ _ _ (search order depth 9) (λ z. omega arith), (header-back (c .before .before .before .args .time) (c .before .before .before .args .signature .now) (c .before .before .before .args .size) (search needs) (search needs), (log-back, same-bytes)))
+returns c = (refuses 23 _ _ _ (search order depth 9) (λ z. omega arith), (header-back _ _ _ (search needs) (search needs), (log-back, same-bytes)))
 
 returns-2 : tie.Need-returns-2
 unfolding headerNumber
-returns-2 c = let k = header-length (c .before .before .before .before .args .time) (c .before .before .before .before .args .signature .now) (c .before .before .before .before .args .size) (c .before .if1 .left) in let s = room-short (headerBytes (c .before .before .before .before .args .time) (c .before .before .before .before .args .signature .now) (c .before .before .before .before .args .size)) (length (c .before .before .before .before .args .out .now)) (omega arith) in (refuses 27 _ _ _ (search (order, s) depth 9) (λ z. omega arith), (header-back (c .before .before .before .before .args .time) (c .before .before .before .before .args .signature .now) (c .before .before .before .before .args .size) (search needs) (search needs), (log-back, same-bytes)))
+returns-2 c = let a = c .before .before .before .before .args in
+    let k = header-length (a .time) (a .signature .now) (a .size) (c .before .if1 .left) in
+    let s = room-short (headerBytes (a .time) (a .signature .now) (a .size)) (length (a .out .now)) (omega arith) in
+    (refuses 27 _ _ _ (search (order, s) depth 9) (λ z. omega arith), (header-back _ _ _ (search needs) (search needs), (log-back, same-bytes)))
 
 four-bytes-requires : tie.Need-four-bytes-requires
 four-bytes-requires c κs = search needs
@@ -70,7 +67,13 @@ same-length c = search needs
 
 returns-3 : tie.Need-returns-3
 unfolding headerNumber
-returns-3 c = let k = header-length (c .before .before .before .before .before .before .before .before .before .before .before .before .before .before .before .before .before .before .before .before .args .time) (c .before .before .before .before .before .before .before .before .before .before .before .before .before .before .before .before .before .before .before .before .args .signature .now) (c .before .before .before .before .before .before .before .before .before .before .before .before .before .before .before .before .before .before .before .before .args .size) (c .before .before .before .before .before .before .before .before .before .before .before .before .before .before .before .before .before .if1 .left) in let s = room-left (headerBytes (c .before .before .before .before .before .before .before .before .before .before .before .before .before .before .before .before .before .before .before .before .args .time) (c .before .before .before .before .before .before .before .before .before .before .before .before .before .before .before .before .before .before .before .before .args .signature .now) (c .before .before .before .before .before .before .before .before .before .before .before .before .before .before .before .before .before .before .before .before .args .size)) (length (c .before .before .before .before .before .before .before .before .before .before .before .before .before .before .before .before .before .before .before .before .args .out .now)) (omega arith) in (writes _ _ _ _ _ (search (order, s) depth 9) (sym k) (header-put (c .before .before .before .before .before .before .before .before .before .before .before .before .before .before .before .before .before .before .before .before .args .time) (c .before .before .before .before .before .before .before .before .before .before .before .before .before .before .before .before .before .before .before .before .args .size) _ _ _ _ (rw (c .before .before .before .before .before .before .before .before .before .before .before .before .before .before .before .four-bytes .ensures)) (rw (c .before .before .before .before .before .before .before .before .before .before .before .before .before .before .two-bytes .ensures)) (c .before .before .before .before .before .before .before .before .before .before .before .before .before .before .before .before .before .if1 .left) (omega arith) (c .before .before .before .before .before .before .before .before .before .before .before .put .ensures) (c .before .before .before .before .before .before .before .put2 .ensures) (c .before .before .put3 .ensures)), (header-back (c .before .before .before .before .before .before .before .before .before .before .before .before .before .before .before .before .before .before .before .before .args .time) (c .before .before .before .before .before .before .before .before .before .before .before .before .before .before .before .before .before .before .before .before .args .signature .now) (c .before .before .before .before .before .before .before .before .before .before .before .before .before .before .before .before .before .before .before .before .args .size) (search needs) (search needs), (log-back, same-bytes)))
+returns-3 c = let a = c .before .before .before .before .before .before .before .before .before .before .before .before .before .before .before .before .before .before .before .before .args in
+    let k = header-length (a .time) (a .signature .now) (a .size) (c .before .before .before .before .before .before .before .before .before .before .before .before .before .before .before .before .before .if1 .left) in
+    let s = room-left (headerBytes (a .time) (a .signature .now) (a .size)) (length (a .out .now)) (omega arith) in
+    let p =
+    header-put (a .time) (a .size) (a .out .now) (a .signature .now) _ _ (rw (c .before .before .before .before .before .before .before .before .before .before .before .before .before .before .before .four-bytes .ensures)) (rw (c .before .before .before .before .before .before .before .before .before .before .before .before .before .before .two-bytes .ensures)) (c .before .before .before .before .before .before .before .before .before .before .before .before .before .before .before .before .before .if1 .left) (omega arith)
+    (c .before .before .before .before .before .before .before .before .before .before .before .put .ensures) (c .before .before .before .before .before .before .before .put2 .ensures) (c .before .before .put3 .ensures) in
+    (writes _ _ _ _ _ (search (order, s) depth 9) (sym k) p, (header-back _ _ _ (search needs) (search needs), (log-back, same-bytes)))
 
 pub write-header-spec : {M : Type 1} → statement M
 write-header-spec =

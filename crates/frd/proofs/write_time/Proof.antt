@@ -1,15 +1,8 @@
 use borrow.Author.Needs.{needs}
 use Rattle.frd.proofs.write_time.Statement.{statement}
 use Rattle.frd.proofs.write_time.Tie as tie
-use Rattle.frd.proofs.write_time.Reads as reads
-use Rattle.frd.proofs.write_time.Lts as lts
-use Rattle.frd.proofs.counter_of.Reads as counter-of-reads
-use Rattle.wire.proofs.four_bytes.Reads as four-bytes-reads
-use Rattle.wire.proofs.put.Reads as put-reads
-use Prim.Native.Nat.{ℕ, _+_, _≤_, _<_}
-use mathlib.Core.Path.{_≡_, refl, sym, _∙_, ap}
+use mathlib.Core.Path.{refl, _∙_}
 use native.Mathlib.Omega.{arith}
-use lib.ListN.{length}
 use Rattle.wire.proofs.Writes.{refuses, writes, put-first}
 use Rattle.frd.specs.Counter.{counterOf}
 use Rattle.frd.specs.Writers.{timeBytes}
@@ -17,7 +10,9 @@ use Rattle.frd.proofs.Backs.{time-length, time-back}
 use Rattle.frd.proofs.Puts.{room-short, room-left}
 
 returns : tie.Need-returns
-returns c = (refuses 27 _ _ _ (room-short (timeBytes (counterOf (c .before .before .args .earlier)) (c .before .before .args .time)) (length (c .before .before .args .out .now)) (omega (arith, time-length (counterOf (c .before .before .args .earlier)) (c .before .before .args .time)))) (λ z. omega arith), time-back (c .before .before .args .earlier) (c .before .before .args .time) (search needs))
+returns c = let a = c .before .before .args in
+    let k = time-length (counterOf (a .earlier)) (a .time) in
+    (refuses 27 _ _ _ (room-short _ _ (omega arith)) (λ z. omega arith), time-back _ _ (search needs))
 
 four-bytes-requires : tie.Need-four-bytes-requires
 four-bytes-requires c κs = search needs
@@ -48,7 +43,10 @@ same-length c = search needs
 
 returns-2 : tie.Need-returns-2
 unfolding timeBytes
-returns-2 c = (writes _ _ _ _ _ (room-left (timeBytes (counterOf (c .before .before .before .before .before .before .before .before .before .args .earlier)) (c .before .before .before .before .before .before .before .before .before .args .time)) (length (c .before .before .before .before .before .before .before .before .before .args .out .now)) (omega arith)) refl (put-first (c .before .before .before .before .before .before .before .before .before .args .out .now) (timeBytes (counterOf (c .before .before .before .before .before .before .before .before .before .args .earlier)) (c .before .before .before .before .before .before .before .before .before .args .time)) (omega arith) (c .before .before .put .ensures ∙ (rw (c .before .before .before .before .before .counter-of .ensures, c .before .before .before .before .before .before .four-bytes .ensures)))), time-back (c .before .before .before .before .before .before .before .before .before .args .earlier) (c .before .before .before .before .before .before .before .before .before .args .time) (search needs))
+returns-2 c = let a = c .before .before .before .before .before .before .before .before .before .args in
+    let b = timeBytes (counterOf (a .earlier)) (a .time) in
+    let p = put-first (a .out .now) b (omega arith) (c .before .before .put .ensures ∙ (rw (c .before .before .before .before .before .counter-of .ensures, c .before .before .before .before .before .before .four-bytes .ensures))) in
+    (writes _ _ _ _ _ (room-left b _ (omega arith)) refl p, time-back _ _ (search needs))
 
 pub write-time-spec : {M : Type 1} → statement M
 write-time-spec =
