@@ -12,13 +12,13 @@ use Rattle.wire.proofs.Numbers.{be-back}
 use Rattle.wire.proofs.Orders.{if-no, not-no}
 use Rattle.frd.specs.Counter.{counterOf}
 use Rattle.frd.specs.Header.{headLen, signatureLen, name, version, numbersOf, signatureIn, headNumber, headerOf}
-use Rattle.frd.specs.Blocks.{blockLen, kindIn, recordPlace, wholeOf, blockOf, blockAt}
+use Rattle.frd.specs.Blocks.{blockLen, kindIn, recordPlace, foundOf, blockOf, blockAt}
 use Rattle.frd.specs.Writers.{headerBytes, dataBytes, timeBytes}
 use Rattle.frd.specs.RoundTrip.{headerFor, HeaderBack, DataBack, TimeBack}
 use Rattle.frd.specs.declared.Head.the-variants.{Is}
 use Rattle.frd.specs.declared.Block.{Block}
 use Rattle.frd.specs.declared.Block.the-variants.{Data, Time}
-use Rattle.frd.proofs.Cases.{head-stands, block-some, block-stands, rest-whole, data-len, time-len, whole-data, whole-time, at-within}
+use Rattle.frd.proofs.Cases.{head-stands, block-stands, rest-whole, data-len, time-len, found-data, found-time, at-within}
 
 -- lengths
 pub data-length : (c : ℕ) (rec : List ℕ) → length (dataBytes c rec) ≡ length rec + 2
@@ -35,8 +35,9 @@ header-length time signature l e = omega (arith, length-append signature (bytesO
 
 -- a whole block of a known type stands
 block-whole : (l c at : ℕ) (t : List ℕ) → (length t ≡ 0 → ⊥) → (blockLen l (kindIn t) ≡ 0 → ⊥) → blockLen l (kindIn t) ≤ length t → (b : Block)
-    → wholeOf c at t ≡ b → blockOf l c at t ≡ b
-block-whole l c at t s k h b e = block-some l c at t s ∙ block-stands _ at _ (sym (rest-whole l t k h)) ∙ e
+    → foundOf c at t ≡ b → blockOf l c at t ≡ b
+unfolding blockOf
+block-whole l c at t s k h b e = block-stands _ at _ (sym (rest-whole l t s k h)) ∙ e
 
 -- a data block, and its record
 pub data-back-at : (l c at : ℕ) (rec rest : List ℕ) → length rec ≡ l → blockOf l c at (dataBytes c rec ++ rest) ≡ Data c (recordPlace at) true
@@ -45,7 +46,7 @@ data-back-at l c at rec rest e =
     let t : List ℕ = 1 ∷ c ∷ (rec ++ rest) in
     let k = data-len l 1 refl in
     block-whole l c at t (λ z. omega arith) (λ z. omega arith) (omega (arith, length-append rec rest)) _
-    (whole-data c at t refl ∙ rw (eq-eqb c c refl))
+    (found-data c at t (λ z. omega arith) refl ∙ rw (eq-eqb c c refl))
 
 pub record-back : (l c : ℕ) (before rec rest : List ℕ) → length rec ≡ l → take l (drop (recordPlace (length before)) (before ++ (dataBytes c rec ++ rest))) ≡ rec
 unfolding dataBytes
@@ -59,7 +60,7 @@ time-back-at l c at time rest h =
     let k = time-len l 2 refl in
     let q : beAt 4 t 2 ≡ time = be-back 4 time h in
     block-whole l c at t (λ z. omega arith) (λ z. omega arith) (omega arith) _
-    (whole-time c at t (λ z. omega arith) ∙ rw (eq-eqb c c refl, q))
+    (found-time c at t (λ z. omega arith) (λ z. omega arith) ∙ rw (eq-eqb c c refl, q))
 
 -- at any place of a file
 at-place : (l n : ℕ) (before t : List ℕ) (b : Block) → blockOf l (counterOf n) (length before) t ≡ b → blockAt l n (before ++ t) (length before) ≡ b

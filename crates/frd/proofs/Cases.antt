@@ -2,22 +2,29 @@
 use Prim.Native.Nat.{ℕ, zero, suc, _+_, _<_, _≤_}
 use mathlib.Core.Path.{_≡_, refl, sym, ap, _∙_}
 use mathlib.Core.Bool.{Bool, true, false, cond}
-use mathlib.Core.List.{List, [], _∷_}
+use mathlib.Core.List.{List}
 use native.Mathlib.Omega.{arith}
-use borrow.Author.Tests.{eq-eqb, ne-eqb, eqb-true, eqb-false, lt-ltb, le-ltb, ltb-true, ltb-false}
-use lib.Dec.{eqb, ltb}
-use lib.ListN.{length, drop, length-drop}
+use borrow.Author.Tests.{eq-eqb, ne-eqb, eqb-true, eqb-false, lt-ltb, le-ltb, ltb-false}
+use lib.Dec.{eqb}
+use lib.ListN.{length, drop}
+use Rattle.wire.specs.Order.{_if_else_}
 use Rattle.wire.specs.BigEndian.{beAt}
 use Rattle.wire.proofs.Orders.{if-yes, if-no, if-zero}
 use Rattle.frd.specs.Counter.{counterOf}
 use Rattle.frd.specs.Header.{signaturePlace, signatureLen, signaturePart, headFor, headAnswer}
-use Rattle.frd.specs.Blocks.{blockLen, kindIn, counterIn, recordPlace, restNumber, wholeOf, judged, blockOf, pastNumber, blockAt, blockNumber, blockAnswer}
+use Rattle.frd.specs.Blocks.{blockLen, kindIn, counterIn, recordPlace, restNumber, foundOf, judged, blockOf, blockAt, blockNumber, blockAnswer}
 use Rattle.frd.specs.declared.Header.{Header}
 use Rattle.frd.specs.declared.Part.{Part}
 use Rattle.frd.specs.declared.Head.{Head}
 use Rattle.frd.specs.declared.Head.the-variants.{Is, Refused as HeadRefused}
 use Rattle.frd.specs.declared.Block.{Block}
 use Rattle.frd.specs.declared.Block.the-variants.{Data, Time, End, Refused}
+
+-- a test that does not hold
+if-skip : (n : ℕ) (b : Bool) (r : ℕ) → b ≡ false → (n if b else r) ≡ 0 → r ≡ 0
+unfolding _if_else_
+if-skip n true r e h = let z : _≡_ {A = Bool} true false = e in cc
+if-skip n false r e h = h
 
 -- a header that a number refuses, and one that none does
 pub head-refused : (n : ℕ) (h : Header) (x : ℕ) → x ≡ n → (x ≡ 0 → ⊥) → HeadRefused x ≡ headFor n h
@@ -79,39 +86,45 @@ kind-by k false false p q = is-none (eqb-false _ _ p) (eqb-false _ _ q)
 pub kind-of : (k : ℕ) → Kind k
 kind-of k = kind-by k _ _ refl refl
 
--- a whole block
-pub whole-data : (c at : ℕ) (t : List ℕ) → kindIn t ≡ 1 → wholeOf c at t ≡ Data (counterIn t) (recordPlace at) (eqb (counterIn t) c)
-unfolding wholeOf
-whole-data c at t e = rw (eq-eqb (kindIn t) 1 e)
+-- what is found in the rest of the file
+module _ (c at : ℕ) (t : List ℕ) where
+  pub found-end : length t ≡ 0 → foundOf c at t ≡ End
+  unfolding foundOf
+  found-end h = rw (eq-eqb (length t) 0 h)
 
-pub whole-time : (c at : ℕ) (t : List ℕ) → (kindIn t ≡ 1 → ⊥) → wholeOf c at t ≡ Time (counterIn t) (beAt 4 t 2) (eqb (counterIn t) c)
-unfolding wholeOf
-whole-time c at t e = rw (ne-eqb (kindIn t) 1 e)
+  pub found-data : (length t ≡ 0 → ⊥) → kindIn t ≡ 1 → foundOf c at t ≡ Data (counterIn t) (recordPlace at) (eqb (counterIn t) c)
+  unfolding foundOf
+  found-data h e = rw (ne-eqb (length t) 0 h, eq-eqb (kindIn t) 1 e)
 
--- the rest of the file
-module _ (l c at : ℕ) where
-  pub block-end : (t : List ℕ) → length t ≡ 0 → End ≡ blockOf l c at t
-  unfolding blockOf
-  block-end [] h = refl
-  block-end (b ∷ t) h = absurd (omega arith)
+  pub found-time : (length t ≡ 0 → ⊥) → (kindIn t ≡ 1 → ⊥) → foundOf c at t ≡ Time (counterIn t) (beAt 4 t 2) (eqb (counterIn t) c)
+  unfolding foundOf
+  found-time h e = rw (ne-eqb (length t) 0 h, ne-eqb (kindIn t) 1 e)
 
-  pub block-some : (t : List ℕ) → (length t ≡ 0 → ⊥) → blockOf l c at t ≡ judged (restNumber l t) at (wholeOf c at t)
-  unfolding blockOf
-  block-some [] h = absurd (h refl)
-  block-some (b ∷ t) h = refl
+-- the number of the rest of the file, and what follows where it is 0
+module _ (l : ℕ) (t : List ℕ) where
+  pub rest-none : length t ≡ 0 → 0 ≡ restNumber l t
+  unfolding restNumber
+  rest-none h = if-yes 0 _ _ (eq-eqb _ _ h)
 
--- what no refusal says of the rest of the file
-pub rest-known : (l : ℕ) (t : List ℕ) → restNumber l t ≡ 0 → (blockLen l (kindIn t) ≡ 0 → ⊥) × (blockLen l (kindIn t) ≤ length t)
-unfolding restNumber
-rest-known l t e =
-    let a = if-zero 24 _ _ e in
-    let b = if-zero 19 _ _ (a .1) in
-    (eqb-false _ _ (a .0), ltb-false _ _ (b .0))
+  pub rest-unknown : (length t ≡ 0 → ⊥) → blockLen l (kindIn t) ≡ 0 → 25 ≡ restNumber l t
+  unfolding restNumber
+  rest-unknown h e = if-no 0 _ _ 25 (ne-eqb _ _ h) (if-yes 25 _ _ (eq-eqb _ _ e))
 
--- and the other way
-pub rest-whole : (l : ℕ) (t : List ℕ) → (blockLen l (kindIn t) ≡ 0 → ⊥) → blockLen l (kindIn t) ≤ length t → 0 ≡ restNumber l t
-unfolding restNumber
-rest-whole l t a b = if-no 25 _ _ 0 (ne-eqb _ _ a) (if-no 20 _ _ 0 (le-ltb _ _ b) refl)
+  pub rest-whole : (length t ≡ 0 → ⊥) → (blockLen l (kindIn t) ≡ 0 → ⊥) → blockLen l (kindIn t) ≤ length t → 0 ≡ restNumber l t
+  unfolding restNumber
+  rest-whole h a b = if-no 0 _ _ 0 (ne-eqb _ _ h) (if-no 25 _ _ 0 (ne-eqb _ _ a) (if-no 20 _ _ 0 (le-ltb _ _ b) refl))
+
+  pub rest-known : (length t ≡ 0 → ⊥) → restNumber l t ≡ 0 → (blockLen l (kindIn t) ≡ 0 → ⊥) × (blockLen l (kindIn t) ≤ length t)
+  unfolding restNumber
+  rest-known h e =
+      let a = if-zero 24 _ _ (if-skip 0 _ _ (ne-eqb (length t) 0 h) e) in
+      let b = if-zero 19 _ _ (a .1) in
+      (eqb-false _ _ (a .0), ltb-false _ _ (b .0))
+
+-- nothing left is the end
+pub block-end : (l c at : ℕ) (t : List ℕ) → length t ≡ 0 → blockOf l c at t ≡ End
+unfolding blockOf
+block-end l c at t h = block-stands _ at _ (sym (rest-none l t h)) ∙ found-end c at t h
 
 -- known blocks have two bytes at least
 pub two-bytes : (l k : ℕ) → (blockLen l k ≡ 0 → ⊥) → 2 ≤ blockLen l k
@@ -122,15 +135,19 @@ two-bytes l k h = by (kind-of k)
     by (is-time e) = omega (arith, time-len l k e)
     by (is-none a b) = absurd (h (no-len l k a b))
 
+-- so the rest of a file that no number refuses is not one byte
+pub rest-two : (l : ℕ) (t : List ℕ) → restNumber l t ≡ 0 → length t ≡ 1 → ⊥
+rest-two l t e h = let k = rest-known l t (λ z. omega arith) e in omega (arith, two-bytes l (kindIn t) (k .0), k .1)
+
 -- a place of a file
 module _ (l n : ℕ) (f : List ℕ) (at : ℕ) where
   pub at-past : length f < at → Refused 23 at ≡ blockAt l n f at
-  unfolding blockAt pastNumber
-  at-past h = block-refused _ at _ 23 (if-yes 23 _ 0 (lt-ltb _ _ h)) (λ z. omega arith)
+  unfolding blockAt blockNumber
+  at-past h = block-refused _ at _ 23 (if-yes 23 _ _ (lt-ltb _ _ h)) (λ z. omega arith)
 
   pub at-within : at ≤ length f → blockAt l n f at ≡ blockOf l (counterOf n) at (drop at f)
-  unfolding blockAt pastNumber
-  at-within h = block-stands _ at _ (sym (if-no 23 _ 0 0 (le-ltb _ _ h) refl))
+  unfolding blockAt blockOf blockNumber
+  at-within h = ap (λ (m : ℕ). judged m at (foundOf (counterOf n) at (drop at f))) (sym (if-no 23 _ _ (restNumber l (drop at f)) (le-ltb _ _ h) refl))
 
 -- the numbers of the answers
 pub head-read : (n : ℕ) (h : Header) (r : Head) → r ≡ headFor n h → (r ≡ headFor n h) × (headAnswer r .number ≡ n)
@@ -143,34 +160,19 @@ unfolding judged
 judged-number zero at b e = e
 judged-number (suc n) at b e = refl
 
-whole-by : (c s m : ℕ) (b : Bool) (x : Bool) → blockAnswer (cond x (Data c s b) (Time c m b)) .number ≡ 0
-whole-by c s m b true = refl
-whole-by c s m b false = refl
+found-by : (c s m : ℕ) (r a b : Bool) → blockAnswer (cond a End (cond b (Data c s r) (Time c m r))) .number ≡ 0
+found-by c s m r true b = refl
+found-by c s m r false true = refl
+found-by c s m r false false = refl
 
-whole-number : (c at : ℕ) (t : List ℕ) → blockAnswer (wholeOf c at t) .number ≡ 0
-unfolding wholeOf
-whole-number c at t = whole-by _ _ _ _ (eqb (kindIn t) 1)
+found-number : (c at : ℕ) (t : List ℕ) → blockAnswer (foundOf c at t) .number ≡ 0
+unfolding foundOf
+found-number c at t = found-by _ _ _ _ (eqb (length t) 0) (eqb (kindIn t) 1)
 
-module _ (l n : ℕ) (f : List ℕ) (at : ℕ) where
-  number-by : (a b : Bool) → ltb (length f) at ≡ a → eqb (length f) at ≡ b → blockAnswer (blockAt l n f at) .number ≡ blockNumber l f at
-  unfolding blockNumber
-  number-by true b p q =
-      ap (λ (x : Block). blockAnswer x .number) (sym (at-past l n f at (ltb-true _ _ p))) ∙ if-yes 23 _ _ p
-  number-by false true p q =
-      let e = eqb-true (length f) at q in
-      let k : length (drop at f) ≡ 0 = rw (length-drop at f) (omega arith) in
-      ap (λ (x : Block). blockAnswer x .number) (at-within l n f at (omega arith) ∙ sym (block-end l (counterOf n) at (drop at f) k))
-      ∙ if-no 23 _ _ 0 p (if-yes 0 _ _ q)
-  number-by false false p q =
-      let g = eqb-false (length f) at q in
-      let w = ltb-false (length f) at p in
-      let k : length (drop at f) ≡ 0 → ⊥ = λ z. g (omega (arith, length-drop at f)) in
-      ap (λ (x : Block). blockAnswer x .number) (at-within l n f at w ∙ block-some l (counterOf n) at (drop at f) k)
-      ∙ judged-number (restNumber l (drop at f)) at (wholeOf (counterOf n) at (drop at f)) (whole-number (counterOf n) at (drop at f))
-      ∙ if-no 23 _ _ (restNumber l (drop at f)) p (if-no 0 _ _ (restNumber l (drop at f)) q refl)
-
-  pub block-read : (r : Block) → r ≡ blockAt l n f at → (r ≡ blockAt l n f at) × (blockAnswer r .number ≡ blockNumber l f at)
-  block-read r e = (e, ap (λ (x : Block). blockAnswer x .number) e ∙ number-by _ _ refl refl)
+pub block-read : (l n : ℕ) (f : List ℕ) (at : ℕ) (r : Block) → r ≡ blockAt l n f at → (r ≡ blockAt l n f at) × (blockAnswer r .number ≡ blockNumber l f at)
+unfolding blockAt
+block-read l n f at r e =
+    (e, ap (λ (x : Block). blockAnswer x .number) e ∙ judged-number (blockNumber l f at) at (foundOf (counterOf n) at (drop at f)) (found-number (counterOf n) at (drop at f)))
 
 -- what the rest of the file begins with, and the facts of each case
 pub data View (l c at : ℕ) (t : List ℕ) : Type 0 where
@@ -181,18 +183,20 @@ pub data View (l c at : ℕ) (t : List ℕ) : Type 0 where
 
 module _ (l c at : ℕ) (t : List ℕ) where
   view-whole : Kind (kindIn t) → (length t ≡ 0 → ⊥) → restNumber l t ≡ 0 → View l c at t
+  unfolding blockOf
   view-whole (is-data e) h z =
-      of-data e (omega (arith, rest-known l t z .1, data-len l (kindIn t) e)) (block-some l c at t h ∙ block-stands _ at _ z ∙ whole-data c at t e)
+      of-data e (omega (arith, rest-known l t h z .1, data-len l (kindIn t) e)) (block-stands _ at _ z ∙ found-data c at t h e)
   view-whole (is-time e) h z =
-      of-time e (omega (arith, rest-known l t z .1, time-len l (kindIn t) e)) (block-some l c at t h ∙ block-stands _ at _ z ∙ whole-time c at t (λ w. omega arith))
-  view-whole (is-none a b) h z = absurd (rest-known l t z .0 (no-len l (kindIn t) a b))
+      of-time e (omega (arith, rest-known l t h z .1, time-len l (kindIn t) e)) (block-stands _ at _ z ∙ found-time c at t h (λ w. omega arith))
+  view-whole (is-none a b) h z = absurd (rest-known l t h z .0 (no-len l (kindIn t) a b))
 
   view-some : (m : ℕ) → restNumber l t ≡ m → (length t ≡ 0 → ⊥) → View l c at t
+  unfolding blockOf
   view-some zero z h = view-whole (kind-of (kindIn t)) h z
-  view-some (suc m) z h = of-refusal (suc m) (λ w. omega arith) (block-some l c at t h ∙ sym (block-refused _ at _ (suc m) (sym z) (λ w. omega arith)))
+  view-some (suc m) z h = of-refusal (suc m) (λ w. omega arith) (sym (block-refused _ at _ (suc m) (sym z) (λ w. omega arith)))
 
   view-by : (b : Bool) → eqb (length t) 0 ≡ b → View l c at t
-  view-by true q = let e = eqb-true (length t) 0 q in at-end e (sym (block-end l c at t e))
+  view-by true q = let e = eqb-true (length t) 0 q in at-end e (block-end l c at t e)
   view-by false q = view-some _ refl (eqb-false (length t) 0 q)
 
   pub view : View l c at t

@@ -81,7 +81,7 @@ module _ (l : ℕ) where
       → Whole l (before ++ logBytes n es) es (walk k l n (length before) (logBytes n es))
   walk-back [] n zero before h i = absurd (omega arith)
   walk-back [] n (suc k) before h i =
-      rw (walk-stop k l n (length before) [] _ (sym (block-end l (counterOf n) (length before) [] refl)) (λ g. g))
+      rw (walk-stop k l n (length before) [] _ (block-end l (counterOf n) (length before) [] refl) (λ g. g))
       (record { entries = refl; right = refl; number = refl; place = omega (arith, length-append before []) })
   walk-back (e ∷ es) n zero before h i = absurd (omega arith)
   walk-back (e ∷ es) n (suc k) before h i =

@@ -2,7 +2,7 @@
 -- Below, l is the output length L, c the expected counter, at a place in the file, and t the rest of the file from that place on.
 use Prim.Native.Nat.{ℕ, zero, suc, _+_}
 use mathlib.Core.Bool.{Bool, false, cond}
-use mathlib.Core.List.{List, [], _∷_}
+use mathlib.Core.List.{List}
 use lib.Dec.{eqb, ltb}
 use lib.ListN.{length, getD, drop}
 use Rattle.wire.specs.Order.{_if_else_}
@@ -26,44 +26,39 @@ counterIn t = getD t 1 0
 abbrev pub recordPlace : ℕ → ℕ
 recordPlace at = at + 2
 
--- "25, 20": type unknown, block cut short
+-- "25, 20": type unknown, block cut short; nothing left is the end
 unfoldable pub restNumber : ℕ → List ℕ → ℕ
 restNumber l t =
-    25 if eqb (blockLen l (kindIn t)) 0
+    0 if eqb (length t) 0
+    else 25 if eqb (blockLen l (kindIn t)) 0
     else 20 if ltb (length t) (blockLen l (kindIn t))
     else 0
 
--- a block of a known type, whole, and whether its counter is the expected one
-unfoldable pub wholeOf : ℕ → ℕ → List ℕ → Block
-wholeOf c at t =
-    cond (eqb (kindIn t) 1)
+-- what t begins with where no number refuses it, and whether its counter is the expected one
+unfoldable pub foundOf : ℕ → ℕ → List ℕ → Block
+foundOf c at t =
+    cond (eqb (length t) 0) End
+    (cond (eqb (kindIn t) 1)
     (Data (counterIn t) (recordPlace at) (eqb (counterIn t) c))
-    (Time (counterIn t) (beAt 4 t 2) (eqb (counterIn t) c))
+    (Time (counterIn t) (beAt 4 t 2) (eqb (counterIn t) c)))
 
--- what a number makes of a block: a refusal names the block's place
+-- that, or the number that refuses it, with the block's place
 unfoldable pub judged : ℕ → ℕ → Block → Block
 judged zero at b = b
 judged (suc n) at b = Refused (suc n) at
 
--- what the rest of the file begins with; nothing left is the end
 unfoldable pub blockOf : ℕ → ℕ → ℕ → List ℕ → Block
-blockOf l c at [] = End
-blockOf l c at (k ∷ t) = judged (restNumber l (k ∷ t)) at (wholeOf c at (k ∷ t))
-
--- "23 (place past the file)"
-unfoldable pub pastNumber : List ℕ → ℕ → ℕ
-pastNumber f at = 23 if ltb (length f) at else 0
-
--- what stands at a place of a file, after n blocks
-unfoldable pub blockAt : ℕ → ℕ → List ℕ → ℕ → Block
-blockAt l n f at = judged (pastNumber f at) at (blockOf l (counterOf n) at (drop at f))
+blockOf l c at t = judged (restNumber l t) at (foundOf c at t)
 
 -- "Order: .. 23 (place past the file), 25, 20"; a place equal to the file's length is the end
 unfoldable pub blockNumber : ℕ → List ℕ → ℕ → ℕ
 blockNumber l f at =
     23 if ltb (length f) at
-    else 0 if eqb (length f) at
     else restNumber l (drop at f)
+
+-- what stands at a place of a file, after n blocks
+unfoldable pub blockAt : ℕ → ℕ → List ℕ → ℕ → Block
+blockAt l n f at = judged (blockNumber l f at) at (foundOf (counterOf n) at (drop at f))
 
 -- the number and the values of each case; a refusal's are 0, save the block's place
 pub record BlockAnswer : Type 0 where

@@ -5,7 +5,7 @@ ghost use lib.ListN.{length, take, drop};
 ghost use Rattle.wire.specs.Writer.{wrote, leaves};
 ghost use Rattle.frd.specs.Counter.{counterOf};
 ghost use Rattle.frd.specs.Header.{numbersOf, signatureIn, headNumber, headerOf, signaturePart, headAnswer};
-ghost use Rattle.frd.specs.Blocks.{blockLen, restNumber, wholeOf, blockOf, blockAt, blockNumber, blockAnswer, lengthOf};
+ghost use Rattle.frd.specs.Blocks.{blockLen, restNumber, foundOf, blockOf, blockAt, blockNumber, blockAnswer, lengthOf};
 ghost use Rattle.frd.specs.Log.{logOf, fileLog, tallyOf};
 ghost use Rattle.frd.specs.Writers.{headerBytes, headerNumber, dataBytes, dataNumber, timeBytes, roomNumber};
 ghost use Rattle.frd.specs.RoundTrip.{HeaderBack, DataBack, TimeBack, BlockAlone, LogBack, SameBytes};
@@ -134,9 +134,11 @@ fn block_len(size: u16, kind: u8) -> usize
 }
 
 fn rest_number(t: &[u8], size: u16) -> u8
-    requires { ⌜ 0 < length (now t) ⌝ }
     ensures { λ r. ⌜ r ≡ restNumber size (now (t .entry)) ⌝ }
 {
+    if t.len() == 0 {
+        return 0;
+    }
     let len = block_len(size, t[0]);
     if len == 0 {
         return 25;
@@ -147,11 +149,14 @@ fn rest_number(t: &[u8], size: u16) -> u8
     0
 }
 
-// A whole block of a known type.
-fn whole(t: &[u8], expected: u8, at: usize) -> Block
-    requires { ⌜ (1 < length (now t)) × (at < 2 ^ 63) ⌝ }
-    ensures { λ r. ⌜ r ≡ wholeOf expected at (now (t .entry)) ⌝ }
+// What the rest of a file begins with, where no number refuses it.
+fn found(t: &[u8], expected: u8, at: usize) -> Block
+    requires { ⌜ (length (now t) ≡ 1 → ⊥) × (at < 2 ^ 63) ⌝ }
+    ensures { λ r. ⌜ r ≡ foundOf expected at (now (t .entry)) ⌝ }
 {
+    if t.len() == 0 {
+        return Block::End;
+    }
     let counter = t[1];
     let right = counter == expected;
     if t[0] == 1 {
@@ -169,19 +174,16 @@ fn whole(t: &[u8], expected: u8, at: usize) -> Block
     }
 }
 
-// The block that the rest of a file begins with.
+// What the rest of a file begins with.
 fn block_of(t: &[u8], size: u16, expected: u8, at: usize) -> Block
     requires { ⌜ at < 2 ^ 63 ⌝ }
     ensures { λ r. ⌜ r ≡ blockOf size expected at (now (t .entry)) ⌝ }
 {
-    if t.len() == 0 {
-        return Block::End;
-    }
     let number = rest_number(t, size);
     if number != 0 {
         return Block::Refused { number, place: at };
     }
-    whole(t, expected, at)
+    found(t, expected, at)
 }
 
 // The block at a place of a log of the given output length, after the given number of blocks.
