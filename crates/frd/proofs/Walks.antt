@@ -25,6 +25,19 @@ goes (Time c m r) = Unit
 goes End = ⊥
 goes (Refused m p) = ⊥
 
+-- what the two arms of a `let .. else` know
+pub taken : (b : Block) → OneOf (0 ∷ 1 ∷ []) (tagOf the-type b) → goes b
+taken (Data c s r) k = tt
+taken (Time c m r) k = tt
+taken End k = absurd (⊎-elim (λ h. omega arith) (λ h. omega arith) k)
+taken (Refused n p) k = absurd (⊎-elim (λ h. omega arith) (λ h. omega arith) k)
+
+pub left : (b : Block) → OneOf (2 ∷ 3 ∷ []) (tagOf the-type b) → goes b → ⊥
+left (Data c s r) k g = ⊎-elim (λ h. omega arith) (λ h. omega arith) k
+left (Time c m r) k g = ⊎-elim (λ h. omega arith) (λ h. omega arith) k
+left End k g = g
+left (Refused n p) k g = g
+
 -- such a block has two bytes at least, and lies within the file
 module _ (l c at : ℕ) (t : List ℕ) where
   fits-by : View l c at t → goes (blockOf l c at t) → (2 ≤ lengthOf l (blockOf l c at t)) × (lengthOf l (blockOf l c at t) ≤ length t)
@@ -94,17 +107,11 @@ tally-on l n f at b e g =
     one : (r : Log) → tallyFrom n (more at b r) ≡ tallyFrom (n + 1) r
     one r = let q : n + suc (length (r .blocks)) ≡ n + 1 + length (r .blocks) = omega arith in rw q
 
-pub tally-stop : (l n : ℕ) (f : List ℕ) (at : ℕ) (b : Block) → blockOf l (counterOf n) at (drop at f) ≡ b → OneOf (2 ∷ 3 ∷ []) (tagOf the-type b)
+pub tally-stop : (l n : ℕ) (f : List ℕ) (at : ℕ) (b : Block) → blockOf l (counterOf n) at (drop at f) ≡ b → (goes b → ⊥)
     → record { blocks = n; number = blockAnswer b .number; place = at } ≡ tallyFrom n (walkAt l n f at)
 tally-stop l n f at b e k =
     let q : n + 0 ≡ n = omega arith in
-    sym (ap (tallyFrom n) (walk-stop (length (drop at f)) l n at (drop at f) b e (stops b k)) ∙ rw q)
-  where
-    stops : (b : Block) → OneOf (2 ∷ 3 ∷ []) (tagOf the-type b) → goes b → ⊥
-    stops (Data c s r) k g = ⊎-elim (λ h. omega arith) (λ h. omega arith) k
-    stops (Time c m r) k g = ⊎-elim (λ h. omega arith) (λ h. omega arith) k
-    stops End k g = g
-    stops (Refused n p) k g = g
+    sym (ap (tallyFrom n) (walk-stop (length (drop at f)) l n at (drop at f) b e k) ∙ rw q)
 
 pub tally-start : (l : ℕ) (f : List ℕ) (at : ℕ) → tallyFrom 0 (walkAt l 0 f at) ≡ tallyOf (logOf l at (drop at f))
 unfolding logOf

@@ -262,12 +262,12 @@ fn count_from(file: &[u8], size: u16, begin: usize) -> Tally
         let (Block::Data {
             counter: _,
             start: _,
-            right,
+            right: _,
         }
         | Block::Time {
             counter: _,
             time: _,
-            right,
+            right: _,
         }) = b
         else {
             return Tally {
