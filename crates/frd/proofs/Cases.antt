@@ -7,9 +7,8 @@ use native.Mathlib.Omega.{arith}
 use borrow.Author.Tests.{eq-eqb, ne-eqb, eqb-true, eqb-false, lt-ltb, le-ltb, ltb-false}
 use lib.Dec.{eqb}
 use lib.ListN.{length, drop}
-use Rattle.wire.specs.Order.{_if_else_}
 use Rattle.wire.specs.BigEndian.{beAt}
-use Rattle.wire.proofs.Orders.{if-yes, if-no, if-zero}
+use Rattle.wire.proofs.Orders.{if-yes, if-no, if-zero, if-skip}
 use Rattle.frd.specs.Counter.{counterOf}
 use Rattle.frd.specs.Header.{signaturePlace, signatureLen, signaturePart, headFor, headAnswer}
 use Rattle.frd.specs.Blocks.{blockLen, kindIn, counterIn, recordPlace, restNumber, foundOf, judged, blockOf, blockAt, blockNumber, blockAnswer}
@@ -19,12 +18,6 @@ use Rattle.frd.specs.declared.Head.{Head}
 use Rattle.frd.specs.declared.Head.the-variants.{Is, Refused as HeadRefused}
 use Rattle.frd.specs.declared.Block.{Block}
 use Rattle.frd.specs.declared.Block.the-variants.{Data, Time, End, Refused}
-
--- a test that does not hold
-if-skip : (n : ℕ) (b : Bool) (r : ℕ) → b ≡ false → (n if b else r) ≡ 0 → r ≡ 0
-unfolding _if_else_
-if-skip n true r e h = let z : _≡_ {A = Bool} true false = e in cc
-if-skip n false r e h = h
 
 -- a header that a number refuses, and one that none does
 pub head-refused : (n : ℕ) (h : Header) (x : ℕ) → x ≡ n → (x ≡ 0 → ⊥) → HeadRefused x ≡ headFor n h

@@ -6,9 +6,9 @@ use mathlib.Core.List.{List, [], _∷_, _++_}
 use native.Mathlib.Omega.{arith}
 use borrow.Author.Tests.{eqb-true}
 use lib.ListN.{length, take, drop, length-drop, take-append-drop}
-use lib.Seq.{drop-drop, getD-drop, length-take-le}
+use lib.Seq.{drop-drop}
 use Rattle.wire.specs.BigEndian.{beOf, beAt, bytesOf}
-use Rattle.wire.proofs.Numbers.{Bytes, bytes-back}
+use Rattle.wire.proofs.Numbers.{Bytes, bytes-drop, part-back}
 use Rattle.frd.specs.Counter.{counterOf}
 use Rattle.frd.specs.Header.{headLen, name, version, numbersOf, signatureIn}
 use Rattle.frd.specs.Blocks.{kindIn, counterIn, recordPlace, blockOf, lengthOf}
@@ -23,21 +23,9 @@ use Rattle.frd.proofs.Heads.{Known, known, head-is, log-is}
 use Rattle.frd.proofs.Backs.{header-list}
 use Rattle.frd.proofs.Logs.{log-whole}
 
--- parts of bytes are bytes
-take-bytes : (n : ℕ) (l : List ℕ) → Bytes l → Bytes (take n l)
-take-bytes zero l h i = omega arith
-take-bytes (suc n) [] h i = omega arith
-take-bytes (suc n) (b ∷ l) h zero = h 0
-take-bytes (suc n) (b ∷ l) h (suc i) = take-bytes n l (λ j. h (suc j)) i
-
-drop-bytes : (n : ℕ) (l : List ℕ) → Bytes l → Bytes (drop n l)
-drop-bytes n l h i = rw (getD-drop n l i 0) (h (n + i))
-
 -- a number read from a place, written again
 number-same : (n at v : ℕ) (f : List ℕ) → Bytes f → at + n ≤ length f → beAt n f at ≡ v → bytesOf n v ≡ take n (drop at f)
-number-same n at v f h k e =
-    let m : length (take n (drop at f)) ≡ n = length-take-le n (drop at f) (rw (length-drop at f) (omega arith)) in
-    rw (← e) (bytes-back n (take n (drop at f)) m (take-bytes n (drop at f) (drop-bytes at f h)))
+number-same n at v f h k e = rw (← e) (part-back n f at k h)
 
 -- a part and what follows it
 join : (n at : ℕ) (f x y : List ℕ) → x ≡ take n (drop at f) → y ≡ drop (at + n) f → x ++ y ≡ drop at f
@@ -104,7 +92,7 @@ module _ (l : ℕ) (f : List ℕ) where
     block-same b e g one =
         let q : drop (at + lengthOf l b) f ≡ drop (lengthOf l b) t = sym (drop-drop (lengthOf l b) at f) ∙ ap (drop (lengthOf l b)) here in
         let i = block-fits l (counterOf n) at t b e g in
-        let r = more-same (n + 1) (at + lengthOf l b) (drop (lengthOf l b) t) q (drop-bytes (lengthOf l b) t small) (omega (arith, length-drop (lengthOf l b) t)) in
+        let r = more-same (n + 1) (at + lengthOf l b) (drop (lengthOf l b) t) q (bytes-drop (lengthOf l b) t small) (omega (arith, length-drop (lengthOf l b) t)) in
         subst (Rewrites n t) (sym (walk-on k l n at t b e g))
         (λ x y. let w = right-both b _ y g in one _ (r x (w .1)) (w .0))
 
@@ -131,6 +119,6 @@ same-bytes f y r =
     let l = numbersOf f .size in
     let t = drop headLen f in
     let e : fileLog f ≡ walk (suc (length t)) l 0 headLen t = log-is f (numbersOf f) (head-is f (y .head)) ∙ (rw (k .begins)) ∙ log-whole l headLen t in
-    let s = walk-same l f (suc (length t)) 0 headLen t refl (drop-bytes headLen f (y .bytes)) (omega arith) in
+    let s = walk-same l f (suc (length t)) 0 headLen t refl (bytes-drop headLen f (y .bytes)) (omega arith) in
     ap (λ (x : List ℕ). headerBytes (numbersOf f .time) (signatureIn f) l ++ x) (subst (Rewrites l f 0 t) (sym e) s (y .blocks) r)
     ∙ header-same f (y .bytes) k

@@ -60,13 +60,14 @@ pub data-back : DataBack
 unfolding DataBack
 data-back l n time rec before rest room z h =
     let e = data-fits l rec room z .0 in
-    rw (← e)
-    (at-rest (length rec) n before (dataBytes (counterOf n) time rec) rest
-    ∙ ap (blockOf (length rec) (counterOf n) (length before)) (data-list (counterOf n) time rec rest)
-    ∙ data-read (counterOf n) time rec rest (length before) h,
+    rw (← e) (
+      at-rest (length rec) n before (dataBytes (counterOf n) time rec) rest
+          ∙ ap (blockOf (length rec) (counterOf n) (length before)) (data-list (counterOf n) time rec rest)
+          ∙ data-read (counterOf n) time rec rest (length before) h,
       part-rest (length rec) before (dataBytes (counterOf n) time rec) rest
-      ∙ ap (λ (l : List ℕ). take (length rec) (drop 4 l)) (data-list (counterOf n) time rec rest)
-      ∙ take-append-seam rec (sumOf rec ∷ rest))
+          ∙ ap (λ (l : List ℕ). take (length rec) (drop 4 l)) (data-list (counterOf n) time rec rest)
+          ∙ take-append-seam rec (sumOf rec ∷ rest),
+    )
 
 abbrev blank : List ℕ
 blank = replicate 50 0
@@ -105,10 +106,11 @@ module _ (c time : ℕ) (t rest : List ℕ) (short : length t < 50) (plain : tex
 pub mark-back : MarkBack
 unfolding MarkBack
 mark-back l n time t before rest room z h =
-    let f = mark-fits t room z in
-    (at-rest l n before (markBytes (counterOf n) time t) rest
-    ∙ ap (blockOf l (counterOf n) (length before)) (mark-list (counterOf n) time t rest (omega arith) (f .1))
-    ∙ mark-read (counterOf n) time t rest (omega arith) (f .1) l (length before) h,
+    let f = mark-fits t room z in (
+      at-rest l n before (markBytes (counterOf n) time t) rest
+          ∙ ap (blockOf l (counterOf n) (length before)) (mark-list (counterOf n) time t rest (omega arith) (f .1))
+          ∙ mark-read (counterOf n) time t rest (omega arith) (f .1) l (length before) h,
       part-rest (length t) before (markBytes (counterOf n) time t) rest
-      ∙ ap (λ (l : List ℕ). take (length t) (drop 4 l)) (mark-list (counterOf n) time t rest (omega arith) (f .1))
-      ∙ padded-start t rest)
+          ∙ ap (λ (l : List ℕ). take (length t) (drop 4 l)) (mark-list (counterOf n) time t rest (omega arith) (f .1))
+          ∙ padded-start t rest,
+    )

@@ -51,16 +51,18 @@ module _ (l c b x y : ℕ) (u : List ℕ) (hx : x < 256) (hy : y < 256) where
   unfolding rewritten PaddedHere blockLen
   data-same h s =
       let w = data-bytes c ((0 * 256 + x) * 256 + y) (take l u) x y (two-back x y hx hy) in
-      let t = take-data l 0 b x y u h in
-      (λ p. w ∙ rw (← p .0, s) (sym t),
-        λ p. (sym (second _ _ (sym w ∙ p ∙ t)), tt))
+      let t = take-data l 0 b x y u h in (
+        λ p. w ∙ rw (← p .0, s) (sym t),
+        λ p. (sym (second _ _ (sym w ∙ p ∙ t)), tt),
+      )
 
   mark-same : Same l c (1 ∷ b ∷ x ∷ y ∷ u)
   unfolding rewritten PaddedHere blockLen
   mark-same =
-      let w = mark-bytes c ((0 * 256 + x) * 256 + y) (take (textLen (take 50 u)) (take 50 u)) x y (two-back x y hx hy) in
-      (λ p. w ∙ rw (← p .0, ← p .1),
-        λ p. (sym (second _ _ (sym w ∙ p)), sym (ap (drop 4) (sym w ∙ p))))
+      let w = mark-bytes c ((0 * 256 + x) * 256 + y) (take (textLen (take 50 u)) (take 50 u)) x y (two-back x y hx hy) in (
+        λ p. w ∙ rw (← p .0, ← p .1),
+        λ p. (sym (second _ _ (sym w ∙ p)), sym (ap (drop 4) (sym w ∙ p))),
+      )
 
 pub block-same : BlockSame
 unfolding BlockSame
