@@ -1,5 +1,5 @@
 -- What is read of a whole block does not change with what follows it.
-use Prim.Native.Nat.{ℕ, _<_}
+use Prim.Native.Nat.{ℕ, _<_, _≤_}
 use mathlib.Core.Path.{_≡_, sym, ap, _∙_}
 use mathlib.Core.List.{List, _++_}
 use native.Mathlib.Omega.{arith}
@@ -10,7 +10,7 @@ use Rattle.frd.specs.RoundTrip.{BlockAlone}
 use Rattle.frd.specs.declared.Block.the-variants.{Refused}
 use Rattle.frd.proofs.Cases.{Kind, is-data, is-time, is-none, kind-of, data-len, time-len, no-len, block-stands, block-refused, rest-unknown, rest-whole, found-data, found-time}
 
-module _ (l c at : ℕ) (t rest : List ℕ) (some : 0 < length t) (whole : length t < blockLen l (kindIn t) → ⊥) where
+module _ (l c at : ℕ) (t rest : List ℕ) (some : 0 < length t) (whole : blockLen l (kindIn t) ≤ length t) where
   kind-same : kindIn (t ++ rest) ≡ kindIn t
   kind-same = List·getD-append t rest 0 0 some
 

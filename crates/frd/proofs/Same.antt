@@ -14,7 +14,7 @@ use Rattle.frd.specs.Header.{headLen, name, version, numbersOf, signatur
 use Rattle.frd.specs.Blocks.{kindIn, counterIn, recordPlace, blockOf, lengthOf}
 use Rattle.frd.specs.Log.{Log, walk, fileLog}
 use Rattle.frd.specs.Writers.{headerBytes, dataBytes, timeBytes}
-use Rattle.frd.specs.RoundTrip.{Entry, logBytes, fileBytes, entryThen, entriesIn, rightThen, allRight, SameBytes}
+use Rattle.frd.specs.RoundTrip.{Entry, logBytes, fileBytes, entryThen, entriesIn, rightThen, allRight, LogSame}
 use Rattle.frd.specs.declared.Block.{Block}
 use Rattle.frd.specs.declared.Block.the-variants.{Data, Time, End, Refused}
 use Rattle.frd.proofs.Cases.{View, at-end, of-data, of-time, of-refusal, view, data-len, time-len}
@@ -112,9 +112,9 @@ module _ (l : ℕ) (f : List ℕ) where
   walk-same zero n at t p h i = absurd (omega arith)
   walk-same (suc k) n at t p h i = view-same k (walk-same k) n at t p h i (view l (counterOf n) at t)
 
-pub same-bytes : SameBytes
+pub log-same : LogSame
 unfolding fileBytes
-same-bytes f y r =
+log-same f y r =
     let k = known f (y .head) in
     let l = numbersOf f .size in
     let t = drop headLen f in

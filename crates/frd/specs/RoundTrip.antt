@@ -1,5 +1,5 @@
 -- What the writers write, the readers read back as given; and a file that was read, written again, is the same bytes.
-use Prim.Native.Nat.{ℕ, _+_, _<_, _^_}
+use Prim.Native.Nat.{ℕ, _+_, _<_, _≤_, _^_}
 use mathlib.Core.Path.{_≡_}
 use mathlib.Core.Bool.{Bool, true, false, cond}
 use mathlib.Core.List.{List, [], _∷_, _++_}
@@ -41,7 +41,7 @@ TimeBack n time =
 -- a whole block does not depend on what follows it
 abbrev pub BlockAlone : Type 0
 BlockAlone =
-    (l c at : ℕ) (t rest : List ℕ) → 0 < length t → (length t < blockLen l (kindIn t) → ⊥)
+    (l c at : ℕ) (t rest : List ℕ) → 0 < length t → blockLen l (kindIn t) ≤ length t
     → blockOf l c at (t ++ rest) ≡ blockOf l c at t
 
 -- what a log's writer is given for each block: a record or a time
@@ -109,7 +109,7 @@ pub record InLayout (f : List ℕ) : Type 0 where
   pub blocks : fileLog f .number ≡ 0
 
 -- with right counters, rewritten from what was read, it gives the same bytes
-abbrev pub SameBytes : Type 0
-SameBytes =
+abbrev pub LogSame : Type 0
+LogSame =
     (f : List ℕ) → InLayout f → allRight (fileLog f .blocks) ≡ true
     → fileBytes (numbersOf f .time) (signatureIn f) (numbersOf f .size) (entriesIn (numbersOf f .size) f (fileLog f .blocks)) ≡ f

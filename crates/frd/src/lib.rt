@@ -8,7 +8,7 @@ ghost use Rattle.frd.specs.Header.{numbersOf, signatureIn, headNumber, h
 ghost use Rattle.frd.specs.Blocks.{blockLen, restNumber, foundOf, blockOf, blockAt, blockNumber, blockAnswer, lengthOf};
 ghost use Rattle.frd.specs.Log.{logOf, fileLog, tallyOf};
 ghost use Rattle.frd.specs.Writers.{headerBytes, headerNumber, dataBytes, dataNumber, timeBytes, roomNumber};
-ghost use Rattle.frd.specs.RoundTrip.{HeaderBack, DataBack, TimeBack, BlockAlone, LogBack, SameBytes};
+ghost use Rattle.frd.specs.RoundTrip.{HeaderBack, DataBack, TimeBack, BlockAlone, LogBack, LogSame};
 
 // A header's numbers: version, time, data begin and output length.
 pub struct Header {
@@ -18,11 +18,13 @@ pub struct Header {
     pub size: u16,
 }
 
+// A header, or the number that refuses it.
 pub enum Head {
     Is(Header),
     Refused(u8),
 }
 
+// The header's numbers, as they stand in the file.
 fn numbers(file: &[u8]) -> Header
     ensures { λ r. ⌜ r ≡ numbersOf (now (file .entry)) ⌝ }
 {
@@ -38,6 +40,7 @@ fn numbers(file: &[u8]) -> Header
     }
 }
 
+// The number that refuses a header, or 0.
 fn head_number(file: &[u8]) -> u8
     ensures { λ r. ⌜ r ≡ headNumber (now (file .entry)) ⌝ }
 {
@@ -114,13 +117,14 @@ pub enum Block {
     },
 }
 
+// The counter of a block, by the number of earlier blocks.
 fn counter_of(earlier: u64) -> u8
     ensures { λ r. ⌜ r ≡ counterOf earlier ⌝ }
 {
     (earlier % 256) as u8
 }
 
-// The length of a block by its type.
+// The length of a block by its type, 0 for an unknown type.
 fn block_len(size: u16, kind: u8) -> usize
     ensures { λ r. ⌜ r ≡ blockLen size kind ⌝ }
 {
@@ -133,6 +137,7 @@ fn block_len(size: u16, kind: u8) -> usize
     0
 }
 
+// The number that refuses what the rest of a file begins with, or 0.
 fn rest_number(t: &[u8], size: u16) -> u8
     ensures { λ r. ⌜ r ≡ restNumber size (now (t .entry)) ⌝ }
 {
@@ -251,6 +256,7 @@ fn stop_number(b: Block) -> u8
     }
 }
 
+// Counts the blocks from a place on.
 fn count_from(file: &[u8], size: u16, begin: usize) -> Tally
     requires { ⌜ begin ≤ length (now file) ⌝ }
     ensures { λ r. ⌜ r ≡ tallyOf (logOf size begin (drop begin (now (file .entry)))) ⌝ }
@@ -281,6 +287,7 @@ fn count_from(file: &[u8], size: u16, begin: usize) -> Tally
     }
 }
 
+// The number that refuses a header, or 0.
 fn refusal(head: Head) -> u8
     ensures { λ r. ⌜ r ≡ headAnswer head .number ⌝ }
 {
@@ -310,7 +317,7 @@ pub fn write_header(out: &mut [u8], time: u32, signature: &[u8], size: u16) -> w
     ensures { λ r. ⌜ (r ≡ wrote (headerNumber time (now (signature .entry)) size (length (now (out .entry)))) (headerBytes time (now (signature .entry)) size))
         × (now (out .exit) ≡ leaves (headerNumber time (now (signature .entry)) size (length (now (out .entry)))) (headerBytes time (now (signature .entry)) size) (now (out .entry))) ⌝ }
     ensures back { λ r. ⌜ HeaderBack time (now (signature .entry)) size ⌝ }
-    ensures files { λ r. ⌜ LogBack × SameBytes ⌝ }
+    ensures files { λ r. ⌜ LogBack × LogSame ⌝ }
 {
     if signature.len() != 63 {
         return wire::Written { number: 23, len: 0 };

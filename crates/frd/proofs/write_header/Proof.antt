@@ -9,19 +9,19 @@ use Rattle.wire.proofs.Orders.{order}
 use Rattle.frd.specs.Writers.{headerBytes, headerNumber}
 use Rattle.frd.proofs.Backs.{header-length, header-back}
 use Rattle.frd.proofs.Logs.{log-back}
-use Rattle.frd.proofs.Same.{same-bytes}
+use Rattle.frd.proofs.Same.{log-same}
 use Rattle.frd.proofs.Puts.{room-short, room-left, header-put}
 
 returns : tie.Need-returns
 unfolding headerNumber
-returns c = (refuses 23 _ _ _ (search order depth 9) (λ z. omega arith), (header-back _ _ _ (search needs) (search needs), (log-back, same-bytes)))
+returns c = (refuses 23 _ _ _ (search order depth 9) (λ z. omega arith), (header-back _ _ _ (search needs) (search needs), (log-back, log-same)))
 
 returns-2 : tie.Need-returns-2
 unfolding headerNumber
 returns-2 c = let a = c .before .before .before .before .args in
     let k = header-length (a .time) (a .signature .now) (a .size) (c .before .if1 .left) in
     let s = room-short (headerBytes (a .time) (a .signature .now) (a .size)) (length (a .out .now)) (omega arith) in
-    (refuses 27 _ _ _ (search (order, s) depth 9) (λ z. omega arith), (header-back _ _ _ (search needs) (search needs), (log-back, same-bytes)))
+    (refuses 27 _ _ _ (search (order, s) depth 9) (λ z. omega arith), (header-back _ _ _ (search needs) (search needs), (log-back, log-same)))
 
 four-bytes-requires : tie.Need-four-bytes-requires
 four-bytes-requires c κs = search needs
@@ -73,7 +73,7 @@ returns-3 c = let a = c .before .before .before .before .before .before .before 
     let p =
     header-put (a .time) (a .size) (a .out .now) (a .signature .now) _ _ (rw (c .before .before .before .before .before .before .before .before .before .before .before .before .before .before .before .four-bytes .ensures)) (rw (c .before .before .before .before .before .before .before .before .before .before .before .before .before .before .two-bytes .ensures)) (c .before .before .before .before .before .before .before .before .before .before .before .before .before .before .before .before .before .if1 .left) (omega arith)
     (c .before .before .before .before .before .before .before .before .before .before .before .put .ensures) (c .before .before .before .before .before .before .before .put2 .ensures) (c .before .before .put3 .ensures) in
-    (writes _ _ _ _ _ (search (order, s) depth 9) (sym k) p, (header-back _ _ _ (search needs) (search needs), (log-back, same-bytes)))
+    (writes _ _ _ _ _ (search (order, s) depth 9) (sym k) p, (header-back _ _ _ (search needs) (search needs), (log-back, log-same)))
 
 pub write-header-spec : {M : Type 1} → statement M
 write-header-spec =
