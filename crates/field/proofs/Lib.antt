@@ -1,2 +1,7 @@
 pub mod Layouts
 pub mod Types
+pub mod Answers
+pub mod Raws
+pub mod Finite
+pub mod Scalings
+pub mod Reckonings
