@@ -4,4 +4,5 @@ pub mod Directories
 pub mod FrameLaws
 pub mod Cases
 pub mod Numbers
+pub mod Ignored
 pub mod Demands

@@ -1,9 +1,11 @@
-// The rows of an identifier and the parts of request bytes, of any numbers; callers judge them.
+// The rows of an identifier and the parts of request bytes, of any numbers, and the numbers by which they are judged.
+use crate::Frame;
 use crate::Parts;
 use crate::Request;
 ghost use mathlib.Core.Path.{_≡_};
 ghost use Prim.Native.Nat.{_≤_};
-ghost use Rattle.bus.specs.Ident.{idTable, idTo, idFrom, idKind, idOffset, idOf, partsOf};
+ghost use Rattle.bus.specs.Ident.{idTable, idTo, idFrom, idKind, idOffset, idOf, partsOf, unpackNumber};
+ghost use Rattle.bus.specs.Frames.{headNumber};
 ghost use Rattle.bus.specs.Request.{reserved, requestOf};
 
 pub fn table_of(id: u32) -> u8
@@ -76,4 +78,34 @@ pub fn request_of(a: u8, b: u8, c: u8) -> Request
         count: c % 16,
         offset: b as u16 * 8 + (c / 32) as u16,
     }
+}
+
+// 1 or 2 for an identifier that is not lawful, else 0.
+pub fn unpack_number(id: u32) -> u8
+    ensures { λ r. ⌜ r ≡ unpackNumber id ⌝ }
+{
+    if 536870912 <= id {
+        return 1;
+    }
+    if id % 4 != 0 {
+        return 2;
+    }
+    0
+}
+
+// 1, 2, 3 and 4, by which every receiver of this own number judges a frame; else 0.
+pub fn head_number(own: u8, f: Frame) -> u8
+    ensures { λ r. ⌜ r ≡ headNumber own f ⌝ }
+{
+    let number = unpack_number(f.id);
+    if number != 0 {
+        return number;
+    }
+    if 8 < f.len {
+        return 3;
+    }
+    if to_of(f.id) != own {
+        return 4;
+    }
+    0
 }

@@ -1,6 +1,6 @@
 use borrow.Author.Needs.{needs}
-use Rattle.bus.proofs.ident.head_number.Statement.{statement}
-use Rattle.bus.proofs.ident.head_number.Tie as tie
+use Rattle.bus.proofs.rows.head_number.Statement.{statement}
+use Rattle.bus.proofs.rows.head_number.Tie as tie
 use Rattle.wire.proofs.Orders.{order}
 use Rattle.bus.proofs.IdentLaws.{head-is}
 
