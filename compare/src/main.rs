@@ -11,6 +11,8 @@ mod model;
 mod reckonings;
 mod rng;
 mod side;
+#[cfg(test)]
+mod tests;
 
 use judge::{Difference, Judge};
 use kinds::{Kind, KINDS};

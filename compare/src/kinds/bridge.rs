@@ -37,6 +37,8 @@ struct Manner {
     openings: usize,
     closings: usize,
     spoiled: usize,
+    /// Of a hundred frames, how many are made wrong in some way.
+    wrong_frames: usize,
 }
 
 /// What the generator remembers of a list.
@@ -55,6 +57,7 @@ pub fn run(rng: &mut Rng, judge: &mut Judge) -> Outcome {
         openings: rng.pick(&[2, 8, 20]),
         closings: rng.pick(&[0, 2, 6]),
         spoiled: rng.pick(&[0, 3, 15]),
+        wrong_frames: rng.pick(&[2, 20, 60]),
     };
     let mut state = first_state;
     let mut buffer = first_buffer.clone();
@@ -170,7 +173,9 @@ fn random_call(rng: &mut Rng, manner: &Manner, state: &Bridge, past: &Past) -> C
     }
     match choice {
         0 => Call::Turn,
-        1 => Call::Frame(random_reply(rng, state, past)),
+        // without a waiting read, mostly a turn, so that one may come to wait
+        1 if rng.percent(70) && state.slots.iter().all(|slot| slot.phase != WAITING) => Call::Turn,
+        1 => Call::Frame(random_reply(rng, manner, state, past)),
         2 => random_opening(rng),
         3 if rng.one_in(12) => Call::Reset(rng.pick(&[0, 1, 7, 15, 15, 16, 255])),
         3 => Call::Close(random_ticket(rng, state, past)),
@@ -191,10 +196,7 @@ fn random_opening(rng: &mut Rng) -> Call {
     let mut device = rng.below(16) as u8;
     let mut table = rng.below(32) as u8;
     let mut count = random_count(rng);
-    let mut offset = rng.pick(&[0, rng_offset(count), 2048 - count]) as u16;
-    if rng.percent(40) {
-        offset = rng.below(2049 - count) as u16;
-    }
+    let mut offset = if rng.percent(50) { rng.below(2049 - count) } else { rng.pick(&[0, 2048 - count]) } as u16;
     for _ in 0..rng.pick(&[0, 0, 0, 0, 1, 1, 2]) {
         match rng.below(4) {
             0 => device = rng.pick(&[15, 16, 255]),
@@ -211,11 +213,6 @@ fn random_opening(rng: &mut Rng) -> Call {
     }
 }
 
-/// An offset that is not at either end.
-fn rng_offset(count: usize) -> usize {
-    (2048 - count) / 2
-}
-
 fn random_ticket(rng: &mut Rng, state: &Bridge, past: &Past) -> u32 {
     match rng.below(12) {
         0 => 0,
@@ -223,12 +220,19 @@ fn random_ticket(rng: &mut Rng, state: &Bridge, past: &Past) -> u32 {
         2 => state.tickets.wrapping_add(1),
         3 => rng.u32(),
         4 | 5 if !past.tickets.is_empty() => rng.pick(&past.tickets),
-        _ => state.slots[rng.below(4)].ticket,
+        _ => {
+            let held: Vec<u32> = state.slots.iter().map(|slot| slot.ticket).filter(|ticket| *ticket != 0).collect();
+            if held.is_empty() {
+                1
+            } else {
+                rng.pick(&held)
+            }
+        }
     }
 }
 
 /// A frame for the bridge: the awaited reply of a waiting read, or something near it.
-fn random_reply(rng: &mut Rng, state: &Bridge, past: &Past) -> Frame {
+fn random_reply(rng: &mut Rng, manner: &Manner, state: &Bridge, past: &Past) -> Frame {
     let waiting: Vec<usize> = (0..4).filter(|index| state.slots[*index].phase == WAITING).collect();
     let index = if waiting.is_empty() { rng.below(4) } else { rng.pick(&waiting) };
     let slot = state.slots[index];
@@ -240,7 +244,7 @@ fn random_reply(rng: &mut Rng, state: &Bridge, past: &Past) -> Frame {
         table: 6,
     };
     let mut len = chunk(&slot) as u8;
-    if rng.percent(15) && !past.requests.is_empty() {
+    if rng.percent(manner.wrong_frames / 2) && !past.requests.is_empty() {
         // the device's reply to a request sent earlier, perhaps late or given already
         let sent = rng.pick(&past.requests);
         let asked = request::read(sent.bytes[0], sent.bytes[1], sent.bytes[2]).unwrap_or_default();
@@ -250,7 +254,7 @@ fn random_reply(rng: &mut Rng, state: &Bridge, past: &Past) -> Frame {
             len = asked.count;
         }
     }
-    if rng.percent(35) {
+    if rng.percent(manner.wrong_frames) {
         match rng.below(9) {
             0 => parts.from = rng.below(16) as u8,
             1 => parts.to = rng.below(16) as u8,
@@ -265,7 +269,7 @@ fn random_reply(rng: &mut Rng, state: &Bridge, past: &Past) -> Frame {
     }
     let mut frame = Frame { id: identifier::pack(parts).unwrap_or(0), len, bytes: [0; 8] };
     frame.bytes.copy_from_slice(&rng.bytes(8));
-    match rng.below(40) {
+    match rng.below(60) {
         0 => frame.id |= rng.within(1, 3) as u32,
         1 => frame.id |= 1 << rng.within(29, 31),
         2 => frame.id = rng.u32(),

@@ -189,8 +189,8 @@ pub fn damage(rng: &mut Rng, log: &mut Log) {
         }
         1 => file.truncate(rng.pick(&near)),
         2 => file.truncate(rng.below(length + 1)),
-        3 => put(file, 12, &rng.pick(&[any, rng_u32(&near, any)]).to_be_bytes()),
-        4 => put(file, 16, &rng.pick(&[any, rng_u32(&near, any)]).to_be_bytes()),
+        3 => put(file, 12, &rng.pick(&[any, one_of(&near, any)]).to_be_bytes()),
+        4 => put(file, 16, &rng.pick(&[any, one_of(&near, any)]).to_be_bytes()),
         5 => {
             let size = log.layout.record() as u16;
             put(file, 20, &rng.pick(&[size.wrapping_add(1), size.wrapping_sub(1), 0, any as u16]).to_be_bytes());
@@ -221,7 +221,8 @@ pub fn damage(rng: &mut Rng, log: &mut Log) {
     }
 }
 
-fn rng_u32(near: &[usize], any: u32) -> u32 {
+/// One of the places, chosen by a random number.
+fn one_of(near: &[usize], any: u32) -> u32 {
     near[any as usize % near.len()] as u32
 }
 
@@ -232,7 +233,7 @@ pub fn damage_field(rng: &mut Rng, file: &mut [u8], field: usize, near: &[usize]
         0 => put(file, field, &[rng.pick(&[8, 9, 13, 255, any as u8])]),
         1 => put(file, field, &[rng.pick(&TYPES)]),
         2 => put(file, field + 51, &[rng.pick(&[0, 1, 8, 9, 16, 17, 32, 33, 255])]),
-        3 => put(file, field + 47, &rng.pick(&[any, rng_u32(near, any)]).to_be_bytes()),
+        3 => put(file, field + 47, &rng.pick(&[any, one_of(near, any)]).to_be_bytes()),
         4 => put(file, field + 1, &[b'n'; 34]),
         5 => put(file, field + 35, &[b'u'; 10]),
         _ => put(file, field + 55, &[b'c'; 34]),

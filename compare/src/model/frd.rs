@@ -65,14 +65,6 @@ pub fn read_block(file: &[u8], size: u16, earlier: u64, place: usize) -> Result<
     }
 }
 
-pub fn block_length(block: &Block) -> usize {
-    match block {
-        Block::Data { count, .. } => 2 + count,
-        Block::Time { .. } => 6,
-        Block::End => 0,
-    }
-}
-
 /// 23 for a signature not of 63 bytes, then 27.
 pub fn write_header(output: usize, time: u32, signature: &[u8], size: u16) -> Result<Vec<u8>, Number> {
     if signature.len() != SIGNATURE {

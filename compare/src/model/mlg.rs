@@ -113,6 +113,7 @@ fn judge_field(file: &[u8], field: &[u8], fields_end: usize, begin: usize) -> Re
 }
 
 /// The names of a bit field's bits, in a file whose header was read.
+#[cfg(test)]
 pub fn bit_names<'a>(file: &'a [u8], header: &Header, field: &[u8]) -> Vec<&'a [u8]> {
     let mut rest = &file[be32(field, 47) as usize..header.begin as usize];
     let mut names = Vec::new();
