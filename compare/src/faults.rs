@@ -7,9 +7,17 @@ use crate::model::{bridge, identifier, mlg, value};
 use crate::rng::Rng;
 use crate::side::{Model, Side};
 
-#[derive(Clone, Copy, Debug, PartialEq)]
-enum Fault {
-    None,
+/// The faults, and the list of all of them.
+macro_rules! faults {
+    ($($name:ident),* $(,)?) => {
+        #[derive(Clone, Copy, Debug, PartialEq)]
+        enum Fault { None, $($name),* }
+        use Fault::*;
+        const FAULTS: &[Fault] = &[$($name),*];
+    };
+}
+
+faults! {
     // 01, "Tempting and wrong"
     ScalesBeforeShifting,
     DropsTableBit4,
@@ -77,22 +85,6 @@ enum Fault {
     ControlBytesPrinted,
     TooLongAt65536,
 }
-use Fault::*;
-
-const FAULTS: [Fault; 59] = [
-    ScalesBeforeShifting, DropsTableBit4, TakesReplyOfAnyDevice, TakesReplyOfAnyLength, SumsHeaderBytes,
-    ServesSlot0First, SpareBitsBefore2To29, RefusedPartsShown, ReservedBitIgnored, CountOver8InRequestBytes,
-    MemoryLengthBefore11, TotalOf32769, RightNotAsked, RangeBeforeCount, RspServed, XtndLength0Is5,
-    GarbagePastReply, CmdClearsRest, BufferBeforeState, OpensWithTicket0AtEnd, TakesHighestFreeSlot,
-    NineteenTurns, SendsKeptAfterReply, FreedSlotKeepsTicket, Ticket0Known, BytesOfDoneWrite,
-    ResetKeepsTickets, TurnInPlaceForgets, FrameOverrunsPart, UnsoundSendsTaken, EqualTicketsTaken,
-    ProgressOddTaken, BeginAtEndRefused, InfoAtBeginTaken, BitsOverWidthTaken, NamesEndAtInfo,
-    SizeBeforeFields, CounterModulo256, WrongCounterRefused, EndIs23, MarkTextOf50, RefusalWithoutPlace,
-    U32AsSigned, NegativeZeroLost, NonFiniteProductShown, ShownOfU32, BitFieldMasked, EmptyInfoHasZero,
-    OutputBeforeReader, WriterTouchesRest, MarkPaddedWithSpaces, TooManyFieldsWritten, FrdCounterModulo255,
-    FrdBeginFree, FrdTimeWithoutCounter, FrdType0Taken, NoMarkOfWrongCounter, ControlBytesPrinted,
-    TooLongAt65536,
-];
 
 /// The model with one fault.
 struct Faulty(Fault);
@@ -493,6 +485,6 @@ fn no_fault_no_difference() {
 
 #[test]
 fn every_fault_is_found() {
-    let missed: Vec<Fault> = FAULTS.into_iter().filter(|fault| !found(*fault, 2500)).collect();
+    let missed: Vec<Fault> = FAULTS.iter().copied().filter(|fault| !found(*fault, 2500)).collect();
     assert_eq!(missed, vec![]);
 }

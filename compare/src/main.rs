@@ -18,6 +18,7 @@ use judge::{Difference, Judge};
 use kinds::{Kind, KINDS};
 use rng::Rng;
 use side::{Model, Side};
+use std::panic::{catch_unwind, AssertUnwindSafe};
 use std::process::exit;
 use std::time::{Duration, Instant};
 
@@ -102,15 +103,26 @@ fn run_kind(kind: &Kind, index: u64, side: &dyn Side, seed: u64, extent: Extent)
         if trace {
             eprintln!("{} seed {seed} iteration {next}", kind.name);
         }
-        if let Err(Difference(text)) = (kind.run)(&mut Rng::new(seed, index, next), &mut judge) {
-            println!("DIFFERENCE in {} seed {seed} iteration {next}: {text}", kind.name);
-            exit(1);
+        let mut rng = Rng::new(seed, index, next);
+        match catch_unwind(AssertUnwindSafe(|| (kind.run)(&mut rng, &mut judge))) {
+            Ok(Ok(())) => {}
+            Ok(Err(Difference(text))) => {
+                println!("DIFFERENCE in {} seed {seed} iteration {next}: {text}", kind.name);
+                exit(1);
+            }
+            Err(_) => {
+                println!("PANIC in {} seed {seed} iteration {next}", kind.name);
+                exit(1);
+            }
+        }
+        if judge.compared == 0 {
+            println!("{}: NOT COMPARED, this side does not offer it", kind.name);
+            return;
         }
         iterations += 1;
         next += 1;
     }
-    let none = if judge.compared == 0 { " (this side does not offer it)" } else { "" };
-    println!("{}: {iterations} inputs, {} comparisons, no difference{none}", kind.name, judge.compared);
+    println!("{}: {iterations} inputs, {} comparisons, no difference", kind.name, judge.compared);
     if setting("COMPARE_VERBOSE").is_some() {
         let mut call = "";
         for ((name, number), count) in &judge.tally {

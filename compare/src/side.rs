@@ -188,7 +188,14 @@ impl Side for Model {
 
     fn mlg_read_block(&self, file: &[u8], size: u16, earlier: u64, place: usize) -> MlgBlock {
         let block = |kind, counter, right, time, start, count| MlgBlock {
-            place: 0, start, count, time, number: 0, kind, counter, right: right as u8,
+            place: 0,
+            start,
+            count,
+            time,
+            number: 0,
+            kind,
+            counter,
+            right: right as u8,
         };
         match mlg::read_block(file, size, earlier, place) {
             Ok(mlg::Block::Data { counter, right, time, start, count }) => {

@@ -215,7 +215,10 @@ fn blocks_of_both_formats() {
     assert_eq!(be32(&file, 75), 81);
     assert_eq!(frd::write_data(4, 2, 257, &[7, 8]), Ok(vec![1, 1, 7, 8]));
     assert_eq!(frd::write_time(6, 255, 9), Ok(vec![2, 255, 0, 0, 0, 9]));
-    assert_eq!(frd::read_block(&[2, 0, 0, 0, 0, 9], 2, 256, 0), Ok(frd::Block::Time { counter: 0, right: true, time: 9 }));
+    assert_eq!(
+        frd::read_block(&[2, 0, 0, 0, 0, 9], 2, 256, 0),
+        Ok(frd::Block::Time { counter: 0, right: true, time: 9 })
+    );
     assert_eq!(frd::read_block(&[0, 0, 0, 0, 0, 9], 2, 256, 0), Err(25));
 }
 
@@ -248,7 +251,8 @@ fn listing_of_texts() {
     file.extend(mlg::write_data(10, 5, 0, 1, &[1, 0xFF, 0xFF, 0xFF, 0xFE]).unwrap());
     file.extend(mlg::write_mark(54, 9, 2, b"x y\n").unwrap());
     file.extend(mlg::write_mark(54, 2, 3, b"").unwrap());
-    let wanted = "fields 2 record 5\nfield 0 0 a.b.\nfield 1 5 \n0 data 0 1 1 -2\n1 mark 9 2 x y. !\n2 mark 2 3 \nend 3\n";
+    let wanted =
+        "fields 2 record 5\nfield 0 0 a.b.\nfield 1 5 \n0 data 0 1 1 -2\n1 mark 9 2 x y. !\n2 mark 2 3 \nend 3\n";
     assert_eq!(listing::listing(&file), wanted);
     file.push(0);
     assert_eq!(listing::listing(&file), wanted.replace("end 3", "refused 20 at 320"));

@@ -74,7 +74,12 @@ pub fn run(rng: &mut Rng, judge: &mut Judge) -> Outcome {
         };
         steps.push(step.clone());
         let input = || {
-            format!("state {first_state:?}\nbuffer {first_buffer:?}\ncalls, the last one differs: {steps:#?}")
+            let calls: Vec<String> = steps.iter().map(|step| format!("{step:?}")).collect();
+            format!(
+                "first state {first_state:?}\nfirst buffer {first_buffer:?}\ncalls, the last one differs:\n{}\n\
+                 state before the last call {state:?}",
+                calls.join("\n")
+            )
         };
         let own = step.state.is_none() && step.buffer.is_none();
         let given = step.state.unwrap_or(state);
@@ -236,13 +241,7 @@ fn random_reply(rng: &mut Rng, manner: &Manner, state: &Bridge, past: &Past) -> 
     let waiting: Vec<usize> = (0..4).filter(|index| state.slots[*index].phase == WAITING).collect();
     let index = if waiting.is_empty() { rng.below(4) } else { rng.pick(&waiting) };
     let slot = state.slots[index];
-    let mut parts = Parts {
-        offset: place(&slot, index) as u16,
-        kind: RSP,
-        from: slot.device,
-        to: state.own,
-        table: 6,
-    };
+    let mut parts = Parts { offset: place(&slot, index) as u16, kind: RSP, from: slot.device, to: state.own, table: 6 };
     let mut len = chunk(&slot) as u8;
     if rng.percent(manner.wrong_frames / 2) && !past.requests.is_empty() {
         // the device's reply to a request sent earlier, perhaps late or given already

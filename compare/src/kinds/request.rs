@@ -15,11 +15,8 @@ pub fn run(rng: &mut Rng, judge: &mut Judge) -> Outcome {
     judge.answer("read_request", Model.read_request(first, second, third), library, &input)?;
 
     let (byte, word) = (rng.byte(), rng.u16());
-    let mut request = Request {
-        table: rng.below(32) as u8,
-        count: rng.below(16) as u8,
-        offset: rng.below(2048) as u16,
-    };
+    let mut request =
+        Request { table: rng.below(32) as u8, count: rng.below(16) as u8, offset: rng.below(2048) as u16 };
     for _ in 0..rng.pick(&[0, 0, 1, 1, 2]) {
         match rng.below(3) {
             0 => request.table = rng.pick(&[31, 32, 255, byte]),

@@ -72,7 +72,8 @@ fn damage_layout(rng: &mut Rng, layout: &mut Layout) {
 /// So many fields that a limit is just kept or passed: the record's length, or (as bad
 /// types count 0) the number of fields.
 fn many_fields(rng: &mut Rng) -> Vec<u8> {
-    let (kind, count) = rng.pick(&[(6, 8191), (6, 8192), (7, 16_383), (7, 16_384), (0, 65_535), (0, 65_536), (9, 65_536)]);
+    let (kind, count) =
+        rng.pick(&[(6, 8191), (6, 8192), (7, 16_383), (7, 16_384), (0, 65_535), (0, 65_536), (9, 65_536)]);
     let mut fields = vec![0; FIELD * count];
     for field in fields.chunks_mut(FIELD) {
         field[0] = kind;

@@ -9,11 +9,7 @@ pub fn read(first: u8, second: u8, third: u8) -> Result<Request, Number> {
     if first & 0xE0 != 0 || third & 0x10 != 0 {
         return Err(6);
     }
-    Ok(Request {
-        table: first,
-        count: third & 0x0F,
-        offset: second as u16 * 8 + (third >> 5) as u16,
-    })
+    Ok(Request { table: first, count: third & 0x0F, offset: second as u16 * 8 + (third >> 5) as u16 })
 }
 
 /// Out of range (settled by the team): table 7, count over 15 9, offset 8.
