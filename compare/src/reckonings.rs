@@ -22,6 +22,7 @@ pub fn all(side: &dyn Side) -> Vec<Reckoning> {
     let mut list = List(Vec::new());
     identifiers(side, &mut list);
     requests(side, &mut list);
+    wire_examples(side, &mut list);
     ranges(side, &mut list);
     bridge_read(side, &mut list);
     silent_device(side, &mut list);
@@ -71,6 +72,27 @@ fn requests(side: &dyn Side, list: &mut List) {
     let answer = side.serve(directory, &mut memory, frame(0x18A838, &[0x06, 0x10, 0x02]));
     let reply = frame(0x20102B0, &[0x0B, 0xB8]);
     list.add("0B B8 come back under 0x20102B0", answer, Served { number: 0, answers: 1, frame: reply });
+}
+
+/// Document 002's own examples (4.1, 4.2), whose identifiers are those on the wire: device 7
+/// fetches the signature (table 15) and the RPM (table 7, offset 6) from device 0. For the
+/// third 002 prints DLC 8 beside four bytes; four were asked.
+fn wire_examples(side: &dyn Side, list: &mut List) {
+    let mut directory = Directory::default();
+    (directory.sizes[7], directory.rights[7]) = (8, 1);
+    (directory.sizes[15], directory.rights[15]) = (20, 1);
+    let mut memory = [0, 0, 0, 0, 0, 0, 0x14, 0xFE].to_vec();
+    memory.extend(b"MS3 Format 0435.14 \0");
+    let examples: [(&str, u32, [u8; 3], u32, &[u8]); 4] = [
+        ("signature, first", 0xB878, [0x06, 0x00, 0x08], 0x103B0, b"MS3 Form"),
+        ("signature, second", 0x20B878, [0x06, 0x00, 0x08], 0x103B0, b"at 0435."),
+        ("signature, third", 0x40B878, [0x06, 0x00, 0x04], 0x103B0, b"14 \0"),
+        ("RPM", 0x18B838, [0x07, 0x00, 0x42], 0x903B8, &[0x14, 0xFE]),
+    ];
+    for (name, id, bytes, reply, data) in examples {
+        let answer = side.serve(directory, &mut memory, frame(id, &bytes));
+        list.add(&format!("002: {name}"), answer, Served { number: 0, answers: 1, frame: frame(reply, data) });
+    }
 }
 
 fn ranges(side: &dyn Side, list: &mut List) {
