@@ -1,6 +1,5 @@
 pub mod Layouts
 pub mod Types
-pub mod Answers
 pub mod Raws
 pub mod Finite
 pub mod Scalings

@@ -19,7 +19,7 @@ use Rattle.wire.proofs.Orders.{if-zero, else-zero}
 use Rattle.field.specs.Types.{sizeOf, S08, S16, S32, S64}
 use Rattle.field.specs.Field.{fieldSize}
 use Rattle.field.specs.Raw.{valueNumber, rawOf, rawAt, rawResult, rawAnswer, signedType}
-use Rattle.field.proofs.Answers.{means}
+use Rattle.wire.proofs.Answers.{means}
 use Rattle.field.specs.declared.RawValue.{RawValue}
 use Rattle.field.specs.declared.RawValue.the-variants as R
 

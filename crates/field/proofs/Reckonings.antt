@@ -11,7 +11,7 @@ use Rattle.wire.specs.Sign.{twos}
 use Rattle.field.specs.Layout.{layoutOf}
 use Rattle.field.specs.Types.{U08, S08, S16, sizeOf}
 use Rattle.field.specs.Field.{typeNumber}
-use Rattle.field.specs.Answer.{answer}
+use Rattle.wire.specs.Answer.{answer}
 use Rattle.field.specs.Raw.{valueFieldNumber, valueNumber, rawOf, rawAt}
 use Rattle.field.specs.Shown.{rawFloat, scaledNumber, shownNumber, shownAt}
 use Rattle.field.specs.declared.RawValue.the-variants as R

@@ -13,9 +13,9 @@ use Rattle.wire.specs.BigEndian.{beOf}
 use Rattle.field.specs.Types.{F32}
 use Rattle.field.specs.Field.{typeOf}
 use Rattle.field.specs.Raw.{valueNumber, rawOf}
-use Rattle.field.specs.Answer.{answer}
+use Rattle.wire.specs.Answer.{answer}
 use Rattle.field.specs.Shown.{shows, finite, scalingIn, partsNumber, scalingNumber, rawFloat, shownNumber, shifted, scaled, scaledNumber, applied, appliedResult, shownAt, shownResult, shownAnswer, scalingAt, scalingResult, scalingAnswer, zeroFloat, zeroScaling}
-use Rattle.field.proofs.Answers.{means}
+use Rattle.wire.proofs.Answers.{means}
 use Rattle.field.proofs.Finite.{sum-finite, product-finite}
 use Rattle.field.specs.declared.Scaling.{Scaling}
 use Rattle.field.specs.declared.FieldScaling.{FieldScaling}

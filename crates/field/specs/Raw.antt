@@ -12,7 +12,7 @@ use Rattle.wire.specs.Sign.{signedOf}
 use Rattle.field.specs.Layout.{fieldLen}
 use Rattle.field.specs.Types.{S08, S16, S32, S64, sizeOf}
 use Rattle.field.specs.Field.{typeOf, fieldSize, typeNumber}
-use Rattle.field.specs.Answer.{answer, result}
+use Rattle.wire.specs.Answer.{answer, result}
 use Rattle.field.specs.declared.RawValue.{RawValue}
 use Rattle.field.specs.declared.RawValue.the-variants as R
 

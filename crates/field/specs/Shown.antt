@@ -10,7 +10,7 @@ use Rattle.wire.specs.Order.{_if_else_, _orElse_}
 use Rattle.wire.specs.BigEndian.{beOf}
 use Rattle.field.specs.Types.{U08, S08, U16, S16, F32}
 use Rattle.field.specs.Field.{typeOf, scaleBits, transformBits}
-use Rattle.field.specs.Answer.{answer, result}
+use Rattle.wire.specs.Answer.{answer, result}
 use Rattle.field.specs.Raw.{valueFieldNumber, valueNumber, rawOf}
 use Rattle.field.specs.declared.Scaling.{Scaling}
 use Rattle.field.specs.declared.FieldScaling.{FieldScaling}

@@ -6,7 +6,7 @@ use mathlib.Core.Path.{sym, _∙_, ap}
 use mir.Syntax.{w64}
 use mir.ValLaws.{toZ-ofZ}
 use Rattle.field.specs.Raw.{rawOf, rawAt}
-use Rattle.field.proofs.Answers.{refuses, stands}
+use Rattle.wire.proofs.Answers.{refuses, stands}
 use Rattle.field.proofs.Raws.{raw-means, sized}
 use Rattle.field.specs.declared.RawValue.the-variants as R
 

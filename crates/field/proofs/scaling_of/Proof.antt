@@ -3,7 +3,7 @@ use Rattle.field.proofs.scaling_of.Statement.{statement}
 use Rattle.field.proofs.scaling_of.Tie as tie
 use mathlib.Core.Path.{sym, _∙_}
 use Rattle.field.specs.Shown.{scalingAt}
-use Rattle.field.proofs.Answers.{refuses, stands}
+use Rattle.wire.proofs.Answers.{refuses, stands}
 use Rattle.field.proofs.Scalings.{scaling-means, scaling-stands}
 use Rattle.field.specs.declared.FieldScaling.the-variants as F
 

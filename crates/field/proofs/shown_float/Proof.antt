@@ -7,7 +7,7 @@ use native.Mathlib.Omega.{arith}
 use borrow.Author.Tests.{not-true, not-false}
 use lib.Ieee.{binary32, ofBits}
 use Rattle.field.specs.Shown.{applied}
-use Rattle.field.proofs.Answers.{refuses}
+use Rattle.wire.proofs.Answers.{refuses}
 use Rattle.field.proofs.Raws.{whole}
 use Rattle.field.proofs.Finite.{no-nan}
 use Rattle.field.proofs.Scalings.{by-raw}

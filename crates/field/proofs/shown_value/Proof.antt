@@ -5,7 +5,7 @@ use mathlib.Core.Path.{sym, _∙_}
 use native.Mathlib.Omega.{arith}
 use Rattle.wire.proofs.Orders.{else-some}
 use Rattle.field.specs.Shown.{shownAt, shownNumber}
-use Rattle.field.proofs.Answers.{refuses}
+use Rattle.wire.proofs.Answers.{refuses}
 use Rattle.field.proofs.Raws.{sized}
 use Rattle.field.proofs.Scalings.{parts-stand, no-scaling, shown-applied, shown-means}
 use Rattle.field.specs.declared.ShownValue.the-variants as S

@@ -5,7 +5,7 @@ use mathlib.Core.Path.{sym, _∙_, refl}
 use native.Mathlib.Omega.{arith}
 use borrow.Author.Tests.{not-true, not-false}
 use Rattle.field.specs.Shown.{applied}
-use Rattle.field.proofs.Answers.{refuses, stands}
+use Rattle.wire.proofs.Answers.{refuses, stands}
 use Rattle.field.proofs.Scalings.{by-sum, by-product, all-finite, applied-means}
 use Rattle.field.specs.declared.ShownValue.the-variants as S
 

@@ -1,8 +1,8 @@
 -- Laws of answers, for every answer enum.
 use Prim.Native.Nat.{ℕ, zero, suc}
-use mathlib.Core.Path.{_≡_, ap, _∙_}
+use mathlib.Core.Path.{_≡_, refl, ap, _∙_}
 use native.Mathlib.Omega.{arith}
-use Rattle.field.specs.Answer.{answer, result}
+use Rattle.wire.specs.Answer.{answer, result}
 
 module _ {A R : Type 0} (is : A → R) (refused : ℕ → R) (none : A) (meaning : R → ℕ × A) where
   -- what an answer says is what the call's result is, where the meaning of each case is its number and its value
@@ -23,3 +23,10 @@ module _ {A R : Type 0} (is : A → R) (refused : ℕ → R) where
   unfolding answer
   stands zero x y e h = ap is h
   stands (suc n) x y e h = absurd (omega arith)
+
+  -- an answer with a value: its number is 0, where the enum's cases are told apart
+  pub answered : ((n : ℕ) (y : A) → refused n ≡ is y → ⊥) → ((x y : A) → is x ≡ is y → x ≡ y) → (n : ℕ) (x y : A)
+      → answer is refused n x ≡ is y → (n ≡ 0) × (x ≡ y)
+  unfolding answer
+  answered p q zero x y e = (refl, q x y e)
+  answered p q (suc n) x y e = absurd (p (suc n) y e)

@@ -1,4 +1,4 @@
--- What a value call hands back: a value where its number is 0, else a refusal, which holds the number alone.
+-- What a call hands back: a value where its number is 0, else a refusal, which holds the number alone.
 use Prim.Native.Nat.{ℕ, zero, suc}
 
 -- as a case of an answer enum, of which `is` and `refused` are the cases

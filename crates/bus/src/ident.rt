@@ -1,0 +1,80 @@
+// The 29-bit identifier, packed and unpacked by sums, quotients and remainders.
+use crate::Frame;
+use crate::Packed;
+use crate::Parts;
+use crate::Unpacked;
+use crate::rows::head_number;
+use crate::rows::id_of;
+use crate::rows::parts_of;
+use crate::rows::unpack_number;
+ghost use mathlib.Core.Path.{_≡_};
+ghost use Rattle.wire.specs.Answer.{result};
+ghost use Rattle.bus.specs.Ident.{idIn, packNumber, packOf, packedAnswer, noParts, partsOf, unpackNumber, unpackOf, unpackedAnswer};
+ghost use Rattle.bus.specs.Frames.{receiveNumber, headOf};
+ghost use Rattle.bus.specs.Rows.{UnpackAfterPack, PackAfterUnpack, RowLaw};
+
+fn pack_number(p: Parts) -> u8
+    ensures { λ r. ⌜ r ≡ packNumber p ⌝ }
+{
+    if 7 < p.kind {
+        return 5;
+    }
+    if 15 < p.from {
+        return 7;
+    }
+    if 15 < p.to {
+        return 7;
+    }
+    if 31 < p.table {
+        return 7;
+    }
+    if 2047 < p.offset {
+        return 8;
+    }
+    0
+}
+
+// The identifier of parts that its rows hold; else 5 (type), 7 (device or table) or 8 (offset).
+pub fn pack(p: Parts) -> Packed
+    ensures { λ r. ⌜ (r ≡ packOf p) × (packedAnswer r ≡ result 0 (packNumber p) (idIn p)) ⌝ }
+    ensures back { λ r. ⌜ UnpackAfterPack p r ⌝ }
+{
+    let number = pack_number(p);
+    if number != 0 {
+        return Packed::Refused(number);
+    }
+    Packed::Is(id_of(p.offset, p.kind, p.from, p.to, p.table) as u32)
+}
+
+// The parts of a lawful identifier; 1 for 2^29 or more, 2 for spare bits set.
+pub fn unpack(id: u32) -> Unpacked
+    ensures { λ r. ⌜ (r ≡ unpackOf id) × (unpackedAnswer r ≡ result noParts (unpackNumber id) (partsOf id)) ⌝ }
+    ensures back { λ r. ⌜ PackAfterUnpack id r ⌝ }
+    ensures rows { λ r. ⌜ RowLaw id r ⌝ }
+{
+    let number = unpack_number(id);
+    if number != 0 {
+        return Unpacked::Refused(number);
+    }
+    Unpacked::Is(parts_of(id))
+}
+
+fn receive_number(own: u8, f: Frame) -> u8
+    ensures { λ r. ⌜ r ≡ receiveNumber own f ⌝ }
+{
+    if 15 < own {
+        return 11;
+    }
+    head_number(own, f)
+}
+
+// The parts of the identifier of a frame that a receiver of this own number does not refuse; else 11 (own number over 15), 1, 2, 3, 4.
+pub fn read_head(own: u8, f: Frame) -> Unpacked
+    ensures { λ r. ⌜ (r ≡ headOf own f) × (unpackedAnswer r ≡ result noParts (receiveNumber own f) (partsOf (f .id))) ⌝ }
+{
+    let number = receive_number(own, f);
+    if number != 0 {
+        return Unpacked::Refused(number);
+    }
+    Unpacked::Is(parts_of(f.id))
+}
