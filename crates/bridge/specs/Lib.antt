@@ -1,2 +1,4 @@
 pub mod Model
 pub mod Answers
+pub mod Statement
+pub mod Calls

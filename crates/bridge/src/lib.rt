@@ -1,5 +1,7 @@
 // A bridge of four slots: transfers to and from the tables of devices on the bus.
 ghost use mathlib.Core.Path.{_≡_};
+ghost use Rattle.bridge.specs.Statement.{Demand3};
+ghost use Rattle.bridge.specs.Calls.{Calls};
 
 // A slot's phases.
 pub const FREE: u8 = 0;
@@ -75,4 +77,11 @@ pub struct Span {
 pub struct Shown<'a> {
     pub number: u8,
     pub part: &'a [u8],
+}
+
+// A place for the theorems in a contract.
+pub fn own_of(b: Bridge) -> u8
+    ensures { λ r. ⌜ (r ≡ b .own) × Demand3 × Calls ⌝ }
+{
+    b.own
 }
