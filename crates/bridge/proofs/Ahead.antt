@@ -6,18 +6,18 @@ use native.Mathlib.Omega.{arith}
 use native.Mathlib.Decide.{decLt}
 use Rattle.bridge.specs.Model.{Frame, Slot, ready, waiting, done, gaveUp, Call, Result, itsOwn, opening, turn, close, reset, awaits, slot}
 use Rattle.bridge.specs.Model.{aged, askCount, isWaiting, isReady, asks}
-use Rattle.bridge.specs.Statement.{Run, state, buffer, answer, Lawful, Transfer, slotOf, Stands, turns, chunks, Sent, Fits, Awaits}
+use Rattle.bridge.specs.Statement.{Run, state, buffer, answer, Lawful, Transfer, slotOf, Stands, turns, chunks, Sent, Matches, Awaits}
 use Rattle.bridge.specs.Statement.{Replied, ThreeFailed}
 use Rattle.bridge.proofs.Search.{none-some}
 use Rattle.bridge.proofs.Sound.{SlotOk, okFree, okReady, okWaiting, okDone, okGaveUp, ReadyOk, ready-ok, sent-read, aged-same}
 use Rattle.bridge.proofs.Sound.{advanced-same}
 use Rattle.bridge.proofs.CallKinds.{Kind, nothing, opens, sends, idles, takes, closes, resets, isFrame, awaits-true, WaitOk, wait-ok}
 use Rattle.bridge.proofs.Effects.{idle, elsewhere}
-use Rattle.bridge.proofs.Worlds.{turns-same, turns-more, turns-none, turns-step, kindAt}
+use Rattle.bridge.proofs.Storages.{turns-same, turns-more, turns-none, turns-step, kindAt}
 use Rattle.bridge.proofs.Runs.{okAt, openedAt, view, Held, held, Move, stays, waits, served, gets, move, move-same, along-from}
 use Rattle.bridge.proofs.Runs.{stands-before, stands-back}
 use Rattle.bridge.proofs.Ages.{AgeCase, asleep, ticks, again, expires, ageCase, aged-keeps, phases}
-use Rattle.bridge.proofs.Sends.{FitsOk, fits-ok, fits-true, turn-unfit, fits-awaited, awaited-fits, sends-own}
+use Rattle.bridge.proofs.Sends.{MatchesOk, matches-ok, matches-true, turn-unfit, fits-awaited, awaited-matches, sends-own}
 use Rattle.bridge.proofs.Past.{advanced-progress}
 
 no-both : {A : Type 0} {b : Bool} → b ≡ true → b ≡ false → A
@@ -118,13 +118,13 @@ module _ (r : Run) (w : Lawful r) (x : Transfer r) where
           }
       go (gets f a k d e g i t m o) = no-both (q .turned) m
 
-  -- the state n calls on, while no frame fits in the first twenty turns
+  -- the state n calls on, while no frame matches in the first twenty turns
   record Sim (c j n : ℕ) : Type 0 where
     soon : turns r j n < 20 → (view r x n .phase ≡ waiting) × (view r x n .progress ≡ 8 * c) × (view r x n .left + turns r j n ≡ 20)
         × (view r x n .sends ≡ view r x (suc j) .sends)
     over : 20 ≤ turns r j n → view r x (suc j) .sends ≡ 3 → view r x n .phase ≡ gaveUp
 
-  sim-step : (c j n : ℕ) → j < n → x .at < n → Stands r x (suc n) → (turns r j n < 20 → ¬ Fits r x c n) → Sim c j n → Sim c j (suc n)
+  sim-step : (c j n : ℕ) → j < n → x .at < n → Stands r x (suc n) → (turns r j n < 20 → ¬ Matches r x c n) → Sim c j n → Sim c j (suc n)
   sim-step c j n l l′ s u h = pick (decLt (turns r j n) 20)
     where
       h′ : Held r x n
@@ -203,7 +203,7 @@ module _ (r : Run) (w : Lawful r) (x : Transfer r) where
                 over = λ z z′. absurd (omega (arith, k .sends, i, wt .3, z′));
               }
               age (expires q b b′ g i m) = phases (aged (view r x n) .phase) gaveUp ready g (k .phase) (λ z. omega arith)
-          go (gets f a k d e g i t m o) = absurd (u p (fits-true r w x c n f (awaited-fits r x c n h′ (wt .1) f a k d)))
+          go (gets f a k d e g i t m o) = absurd (u p (matches-true r w x c n f (awaited-matches r x c n h′ (wt .1) f a k d)))
 
   sim-start : (c j : ℕ) → AfterSend c j → Sim c j (suc j)
   sim-start c j a = record {
@@ -211,11 +211,11 @@ module _ (r : Run) (w : Lawful r) (x : Transfer r) where
     over = λ q. absurd (omega (arith, q, turns-none r j (suc j) (omega arith)));
   }
 
-  sim : (c j n : ℕ) → Sent r x c j → j < n → Stands r x n → ((m : ℕ) → j < m → m < n → turns r j m < 20 → ¬ Fits r x c m) → Sim c j n
+  sim : (c j n : ℕ) → Sent r x c j → j < n → Stands r x n → ((m : ℕ) → j < m → m < n → turns r j m < 20 → ¬ Matches r x c m) → Sim c j n
   sim c j n q l s = along-from r w x (suc j) (omega (arith, q .stands .0)) (λ k. Unmet k → Sim c j k) base step n l s
     where
       Unmet : ℕ → Type 0
-      Unmet n = (m : ℕ) → j < m → m < n → turns r j m < 20 → ¬ Fits r x c m
+      Unmet n = (m : ℕ) → j < m → m < n → turns r j m < 20 → ¬ Matches r x c m
 
       base : Unmet (suc j) → Sim c j (suc j)
       base u = sim-start c j (after-send c j n q l s)
@@ -250,11 +250,11 @@ module _ (r : Run) (w : Lawful r) (x : Transfer r) where
       go : Move r x m → (view r x m .progress ≡ 8 * c) × (view r x (suc m) .progress ≡ min (8 * c + 8) (askCount (x .ask)))
           × (asks (view r x (suc m) .kind) ≡ true)
       go (stays a v k e f g) =
-          let q = fits-ok r w x c m (p .fits) in
+          let q = matches-ok r w x c m (p .matches) in
           no-both (awaits-true (state r m) (q .0) (slotOf r x) (fits-awaited r x c m h (wt .1) (q .0) (q .1) (wt .0)))
           (g (q .0) (q .1 .is) (q .1 .passes))
-      go (waits a v k d f) = absurd (turn-unfit r x c m a (p .fits))
-      go (served a v k d e g i) = absurd (turn-unfit r x c m a (p .fits))
+      go (waits a v k d f) = absurd (turn-unfit r x c m a (p .matches))
+      go (served a v k d e g i) = absurd (turn-unfit r x c m a (p .matches))
       go (gets f a k d e g i t u o) = (
         wt .1,
         ap (λ (y : Slot). y .progress) g ∙ advanced-progress (view r x m) ∙ rw (wt .1, h .count),
@@ -262,11 +262,11 @@ module _ (r : Run) (w : Lawful r) (x : Transfer r) where
       )
 
   -- the slot awaits it
-  pub reply-awaited : (c m : ℕ) (p : Replied r x c m) → awaits (state r m) (fits-ok r w x c m (p .fits) .0) (slotOf r x) ≡ true
+  pub reply-awaited : (c m : ℕ) (p : Replied r x c m) → awaits (state r m) (matches-ok r w x c m (p .matches) .0) (slotOf r x) ≡ true
   reply-awaited c m p =
       let aw : Awaits r x c m = p .awaits in
       let sm : Sim c (aw .j) m = sim c (aw .j) m (aw .sent) (aw .before) (aw .stands) (λ k a b q. aw .unmatched k a b) in
-      let fo = fits-ok r w x c m (p .fits) in
+      let fo = matches-ok r w x c m (p .matches) in
       awaits-true (state r m) (fo .0) (slotOf r x)
       (fits-awaited r x c m (held r w x m (aw .stands)) (sm .soon (aw .soon) .1) (fo .0) (fo .1) (sm .soon (aw .soon) .0))
 
@@ -274,8 +274,8 @@ module _ (r : Run) (w : Lawful r) (x : Transfer r) where
   pub reply-accepted : (c m : ℕ) → Replied r x c m → answer r m .number ≡ 0
   reply-accepted c m p = go (kindAt r w m)
     where
-      fo : (f : Frame) × FitsOk r x c m f
-      fo = fits-ok r w x c m (p .fits)
+      fo : (f : Frame) × MatchesOk r x c m f
+      fo = matches-ok r w x c m (p .matches)
 
       other-call : (d : Call) → r .calls m ≡ d → isFrame d ≡ false → answer r m .number ≡ 0
       other-call d e q = no-both (ap isFrame (fo .1 .is)) (ap isFrame e ∙ q)

@@ -7,7 +7,7 @@ pub mod FrameLaws
 pub mod Sound
 pub mod CallKinds
 pub mod Effects
-pub mod Worlds
+pub mod Storages
 pub mod Runs
 pub mod Ages
 pub mod Bound
@@ -23,3 +23,6 @@ pub mod Keeps
 pub mod Numbers
 pub mod Turns
 pub mod Theorem
+pub mod Corollary
+pub mod Openers
+pub mod ExampleRuns

@@ -24,10 +24,10 @@ use Rattle.bridge.specs.Calls.{FrameInRun, NumbersInRun, NumbersInRuns, 
 use Rattle.bridge.proofs.Refusals.{lent-clear, lent-ten, open-later, open-ten, reply-later, reply-ten}
 use Rattle.bridge.proofs.ReadWrite.{read-of}
 use Rattle.bridge.proofs.CallKinds.{WaitOk, wait-ok, awaits-ok, freeAt}
-use Rattle.bridge.proofs.Worlds.{own-is, world-sound, agrees}
+use Rattle.bridge.proofs.Storages.{own-is, storage-sound, agrees}
 use Rattle.bridge.proofs.Runs.{view, Held, held, okAt, held-slot, openedAt}
 use Rattle.bridge.proofs.Status.{held-by}
-use Rattle.bridge.proofs.Sends.{fits-ok}
+use Rattle.bridge.proofs.Sends.{matches-ok}
 use Rattle.bridge.proofs.Past.{past-read, awaited-replied}
 use Rattle.bridge.proofs.Ahead.{reply-awaited}
 use Rattle.bridge.proofs.Slots.{no-holder, occupied}
@@ -265,9 +265,15 @@ frameChain own f rest =
     else 5 if not (eqb (idKind (f .id)) rsp)
     else rest
 
+head-chain : (own : ℕ) (f : Frame) (x : ℕ) → (headNumber own f orElse x)
+    ≡ (1 if leb (2 ^ 29) (f .id) else 2 if not (eqb (idSpare (f .id)) 0) else 3 if ltb 8 (f .len)
+    else 4 if not (eqb (idTo (f .id)) own) else x)
+unfolding headNumber
+head-chain own f x = rw (past-if, past-if, past-if, past-if, past-none)
+
 content-chain : (own : ℕ) (f : Frame) (rest : ℕ) → (contentRefusal own f orElse rest) ≡ frameChain own f rest
-unfolding contentRefusal headNumber
-content-chain own f rest = rw (past-past, past-if, past-if, past-if, past-if, past-if, past-none, past-none)
+unfolding contentRefusal
+content-chain own f rest = rw (past-past, past-if 4 (not (eqb (idKind (f .id)) rsp)) 0 rest, past-none) (head-chain own f _)
 
 content-clear : (own : ℕ) (f : Frame) → leb (2 ^ 29) (f .id) ≡ false → not (eqb (idSpare (f .id)) 0) ≡ false → ltb 8 (f .len) ≡ false
     → not (eqb (idTo (f .id)) own) ≡ false → not (eqb (idKind (f .id)) rsp) ≡ false → contentRefusal own f ≡ 0
@@ -276,10 +282,10 @@ content-clear own f a b c d e = rw (a, b, c, d, e)
 
 module _ (r : Run) (w : Lawful r) (n : ℕ) where
   ss : sound (state r n) ≡ true
-  ss = sound-true (state r n) (world-sound r w n .0)
+  ss = sound-true (state r n) (storage-sound r w n .0)
 
   lb : length (buffer r n) ≡ 512
-  lb = world-sound r w n .1
+  lb = storage-sound r w n .1
 
   -- openings: a slot is held exactly by a transfer that stands
   held-slots : (isNone (lowestFree (state r n)) ≡ true) ↔ ((k : ℕ) → k < 4 → (x : Transfer r) × Stands r x n × (slotOf r x ≡ k))
@@ -327,7 +333,7 @@ module _ (r : Run) (w : Lawful r) (n : ℕ) where
     is-reply k l a = go (occupied r w n k l (not-free (wk .phase)))
       where
         wk : WaitOk (state r n .tickets) (slot (state r n) k)
-        wk = wait-ok (state r n .tickets) (slot (state r n) k) (world-sound r w n .0 .each k l) (awaits-ok (state r n) f k a .waits)
+        wk = wait-ok (state r n .tickets) (slot (state r n) k) (storage-sound r w n .0 .each k l) (awaits-ok (state r n) f k a .waits)
 
         not-free : slot (state r n) k .phase ≡ waiting → isFree (slot (state r n) k .phase) ≡ false
         not-free p = ap isFree p
@@ -358,7 +364,7 @@ module _ (r : Run) (w : Lawful r) (n : ℕ) where
       where
         none-awaits : awaiting (state r n) f ≡ none → ¬ ((x : Transfer r) × (c : ℕ) × Replied r x c n)
         none-awaits q (x, c, p) =
-            let fo = fits-ok r w x c n (p .fits) in
+            let fo = matches-ok r w x c n (p .matches) in
             let same : fo .0 ≡ f = let u : frame itsOwn (fo .0) ≡ frame itsOwn f = sym (fo .1 .is) ∙ e in cc in
             true≢false (sym (reply-awaited r w x c n p) ∙ ap (λ (g : Frame). awaits (state r n) g (slotOf r x)) same
             ∙ lowest-none (awaits (state r n) f) q (slotOf r x) (openedAt r w x .bound))

@@ -13,17 +13,17 @@ use Rattle.bus.specs.Frames.{content}
 use Rattle.bridge.specs.Model.{Frame, Slot, ready, waiting, done, gaveUp, Call, itsOwn, turn, frame, aged, advanced, sentSlot, sentFrame}
 use Rattle.bridge.specs.Model.{awaits, contentRefusal, isWrite, askCount, isWaiting, asks}
 use Rattle.bridge.specs.Statement.{Run, state, buffer, answer, Lawful, Shaped, Transfer, slotOf, Stands, accepted, turns, lenOf}
-use Rattle.bridge.specs.Statement.{place, Sent, Fits, Replied, Failed, brought}
+use Rattle.bridge.specs.Statement.{place, Sent, Matches, Replied, Failed, brought}
 use Rattle.bridge.proofs.ReadWrite.{asks-of, read-of}
 use Rattle.bridge.proofs.FrameLaws.{len-eight, len-inside, len-small, content-length}
 use Rattle.bridge.proofs.Sound.{Same, ReadyOk, aged-same, advanced-same, sent-same, advanced-more, advanced-done, sent-read}
 use Rattle.bridge.proofs.CallKinds.{AwaitsOk, awaits-true, WaitOk, wait-ok}
 use Rattle.bridge.proofs.Effects.{Window, getD-sets-below, getD-sets-in}
-use Rattle.bridge.proofs.Worlds.{turns-same, turns-more, turns-none, turns-mono, world-sound}
+use Rattle.bridge.proofs.Storages.{turns-same, turns-more, turns-none, turns-mono, storage-sound}
 use Rattle.bridge.proofs.Runs.{okAt, openedAt, view, Held, held, opened-stands, Move, stays, waits, served, gets, Begins}
 use Rattle.bridge.proofs.Runs.{begins-open, along-from, stands-before}
 use Rattle.bridge.proofs.Ages.{AgeCase, asleep, ticks, again, expires, ageCase, aged-keeps, phases}
-use Rattle.bridge.proofs.Sends.{fits-ok, fits-true, turn-unfit, fits-awaited, awaited-fits, sends-request}
+use Rattle.bridge.proofs.Sends.{matches-ok, matches-true, turn-unfit, fits-awaited, awaited-matches, sends-request}
 
 -- s failed sends of chunk c, the latest before `top`
 abbrev pub Fails : (r : Run) (x : Transfer r) → ℕ → ℕ → ℕ → ℕ → Type 0
@@ -36,7 +36,7 @@ pub record Pending (r : Run) (x : Transfer r) (c s left n : ℕ) : Type 0 where
   pub before : j < n
   pub sent : Sent r x c j
   pub clock : turns r j n + left ≡ 20
-  pub unmatched : (m : ℕ) → j < m → m < n → ¬ Fits r x c m
+  pub unmatched : (m : ℕ) → j < m → m < n → ¬ Matches r x c m
   pub earlier : Fails r x c s n j
 
 -- a chunk that was replied to, with its bytes in the buffer
@@ -79,17 +79,17 @@ expire r x c s n p e a = (
     t : turns r (p .j) (suc n) ≡ suc (turns r (p .j) n)
     t = turns-more r (p .j) n a (p .before)
 
-    unmatched : (m : ℕ) → p .j < m → turns r (p .j) m < 20 → ¬ Fits r x c m
+    unmatched : (m : ℕ) → p .j < m → turns r (p .j) m < 20 → ¬ Matches r x c m
     unmatched m l q = go (decLt m n) (ℕ-discrete m n)
       where
-        go : Dec (m < n) → Dec (m ≡ n) → ¬ Fits r x c m
+        go : Dec (m < n) → Dec (m ≡ n) → ¬ Matches r x c m
         go (yes u) v = p .unmatched m l u
-        go (no u) (yes v) = subst (λ (i : ℕ). ¬ Fits r x c i) (sym v) (turn-unfit r x c n e)
+        go (no u) (yes v) = subst (λ (i : ℕ). ¬ Matches r x c i) (sym v) (turn-unfit r x c n e)
         go (no u) (no v) = absurd (omega (arith, t, p .clock, turns-mono r (p .j) (suc n) m (omega arith)))
 
 -- a longer wait
 wait-on : (r : Run) (x : Transfer r) (c s l l′ n : ℕ) → Pending r x c s l n → ((j : ℕ) → j < n → turns r j (suc n) + l′ ≡ turns r j n + l)
-    → ¬ Fits r x c n → Pending r x c s l′ (suc n)
+    → ¬ Matches r x c n → Pending r x c s l′ (suc n)
 wait-on r x c s l l′ n p t u = record {
   j = p .j;
   before = omega (arith, p .before);
@@ -99,8 +99,8 @@ wait-on r x c s l l′ n p t u = record {
   earlier = fails-mono r x c s n (suc n) (p .j) (p .j) (omega arith) (omega arith) (p .earlier);
 }
   where
-    go : (m : ℕ) → p .j < m → m < suc n → Dec (m ≡ n) → ¬ Fits r x c m
-    go m a b (yes v) = subst (λ (i : ℕ). ¬ Fits r x c i) (sym v) u
+    go : (m : ℕ) → p .j < m → m < suc n → Dec (m ≡ n) → ¬ Matches r x c m
+    go m a b (yes v) = subst (λ (i : ℕ). ¬ Matches r x c i) (sym v) u
     go m a b (no v) = p .unmatched m a (omega arith)
 
 advanced-phase : (y : Slot) → (advanced y .phase ≡ ready) ⊎ (advanced y .phase ≡ done)
@@ -169,9 +169,9 @@ module _ (r : Run) (w : Lawful r) (x : Transfer r) where
     ifGaveUp = λ q c u. fails-mono r x c 3 n (suc n) n (suc n) (omega arith) (omega arith) (p .ifGaveUp (rw a at q) c (rw a at u));
   }
     where
-      unfit : (c : ℕ) → view r x n .phase ≡ waiting → view r x n .progress ≡ 8 * c → ¬ Fits r x c n
+      unfit : (c : ℕ) → view r x n .phase ≡ waiting → view r x n .progress ≡ 8 * c → ¬ Matches r x c n
       unfit c q u t =
-          let f = fits-ok r w x c n t in
+          let f = matches-ok r w x c n t in
           true≢false (sym (awaits-true (state r n) (f .0) (slotOf r x) (fits-awaited r x c n h u (f .0) (f .1) q))
           ∙ g (f .0) (f .1 .is) (f .1 .passes))
 
@@ -297,7 +297,7 @@ module _ (r : Run) (w : Lawful r) (x : Transfer r) where
       soon = omega (arith, pd .clock, wk .some);
       unmatched = pd .unmatched;
     };
-    fits = fits-true r w x (wk .mid .chunk) n f (awaited-fits r x (wk .mid .chunk) n h (wk .mid .at) f e cr aw);
+    matches = matches-true r w x (wk .mid .chunk) n f (awaited-matches r x (wk .mid .chunk) n h (wk .mid .at) f e cr aw);
   }
     where
       pd : Pending r x (wk .mid .chunk) (view r x n .sends - 1) (view r x n .left) n
@@ -366,7 +366,7 @@ module _ (r : Run) (w : Lawful r) (x : Transfer r) where
               ∙ getD-sets-in (buffer r n) (128 * slotOf r x + view r x n .progress) (content f) j
               (omega (
                 arith,
-                world-sound r w n .1,
+                storage-sound r w n .1,
                 openedAt r w x .bound,
                 few,
                 len,

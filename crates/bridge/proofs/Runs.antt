@@ -14,7 +14,7 @@ use Rattle.bus.specs.Frames.{content}
 use Rattle.bridge.specs.Model.{Frame, ready, isFree, Bridge, Slot, Ask, Call, Lent, Result, itsOwn, opening, turn, frame, close, reset}
 use Rattle.bridge.specs.Model.{askKind, askDevice, askTable, askOffset, askCount, askGiven, slot, aged, advanced, sentSlot, sentFrame}
 use Rattle.bridge.specs.Model.{opened, awaits, contentRefusal, step}
-use Rattle.bridge.specs.Statement.{Run, world, state, buffer, answer, Lawful, Transfer, ticket, slotOf, Ends, Stands, accepted}
+use Rattle.bridge.specs.Statement.{Run, storage, state, buffer, answer, Lawful, Transfer, ticket, slotOf, Closing, Stands, accepted}
 use Rattle.bridge.specs.Statement.{ledger}
 use Rattle.bridge.proofs.Search.{Lowest}
 use Rattle.bridge.proofs.Sound.{held-free, SlotOk, Sound, Same, same-refl, ReadyOk, aged-same, advanced-same, sent-same}
@@ -22,7 +22,7 @@ use Rattle.bridge.proofs.Sound.{slot-set-same, no-ticket}
 use Rattle.bridge.proofs.CallKinds.{Kind, nothing, opens, sends, idles, takes, closes, resets, LawfulAsk, freeAt, WaitOk, AwaitsOk}
 use Rattle.bridge.proofs.CallKinds.{isOpening, isNoted}
 use Rattle.bridge.proofs.Effects.{Effect, still, ages, serves, taken, opensHere, closesHere, resetsHere, Unserved, Window}
-use Rattle.bridge.proofs.Worlds.{world-sound, kindAt, effectAt, agrees, lowest-agrees}
+use Rattle.bridge.proofs.Storages.{storage-sound, kindAt, effectAt, agrees, lowest-agrees}
 
 -- ── a transfer's opening ───────────────────────────────────────────────────────────────────────────────────────────
 
@@ -42,7 +42,7 @@ not-opening c d l a p q u = absurd (true≢false (sym (ap isOpening p) ∙ ap is
 
 module _ (r : Run) (w : Lawful r) (x : Transfer r) where
   pub openedAt : Opened r x
-  unfolding world slotOf
+  unfolding storage slotOf
   openedAt = go (kindAt r w (x .at))
     where
       go : Kind (state r (x .at)) (buffer r (x .at)) (r .calls (x .at)) → Opened r x
@@ -51,7 +51,7 @@ module _ (r : Run) (w : Lawful r) (x : Transfer r) where
           ∙ eq-eqb (answer r (x .at) .number) 0 (x .accepted)) ∙ o))
       go (opens a k e f g l t z) =
           let same : a ≡ x .ask = cc (x .call) in
-          let kk : slotOf r x ≡ k = lowest-agrees (ledger r (x .at)) (state r (x .at)) k (world-sound r w (x .at) .0) (agrees r w (x .at))
+          let kk : slotOf r x ≡ k = lowest-agrees (ledger r (x .at)) (state r (x .at)) k (storage-sound r w (x .at) .0) (agrees r w (x .at))
           g in
           let tk : ticket r x ≡ suc (state r (x .at) .tickets) = ap (λ (u : Result). u .answer .ticket) z in
           let slots : state r (suc (x .at)) .slots ≡ set (state r (x .at) .slots) k (opened a (suc (state r (x .at) .tickets)))
@@ -62,7 +62,7 @@ module _ (r : Run) (w : Lawful r) (x : Transfer r) where
             ticketed = tk;
             lowest = rw kk g;
             slot = rw (kk, tk, ← same) (slot-here (state r (x .at)) (state r (suc (x .at))) k (opened a (suc (state r (x .at) .tickets)))
-                (world-sound r w (x .at) .0) slots (g .bound));
+                (storage-sound r w (x .at) .0) slots (g .bound));
             given = rw (kk, ← same) (ap (λ (u : Result). u .buffer) z);
           }
       go (sends k e f z) = not-opening _ (turn itsOwn) (x .lent) (x .ask) (x .call) e refl
@@ -142,10 +142,10 @@ module _ (r : Run) (w : Lawful r) (x : Transfer r) where
   stands-back m n s l h = (l, λ k p q. s .1 k p (omega arith))
 
   pub move : (n : ℕ) → Stands r x (suc n) → x .at < n → Held r x n → Move r x n
-  unfolding world accepted
+  unfolding storage accepted
   move n s l h = go (effectAt r w n (slotOf r x) (openedAt r w x .bound))
     where
-      ends : ¬ Ends r x n
+      ends : ¬ Closing r x n
       ends = s .1 n l (omega arith)
 
       go : Effect (state r n) (buffer r n) (r .calls n) (slotOf r x) → Move r x n
@@ -155,7 +155,7 @@ module _ (r : Run) (w : Lawful r) (x : Transfer r) where
       go (taken f a c d e g i j m o) = gets f a c d e g i j m o
       go (opensHere a b c d e f g i j) =
           let z : view r x n .ticket ≡ 0 = no-ticket (state r n .tickets) (view r x n)
-          (world-sound r w n .0 .each (slotOf r x) (openedAt r w x .bound)) d in
+          (storage-sound r w n .0 .each (slotOf r x) (openedAt r w x .bound)) d in
           absurd (omega (arith, z, h .ticket, openedAt r w x .ticketed))
       go (closesHere t a b c d) = absurd (ends (b, inl (a ∙ ap close (sym c ∙ h .ticket))))
       go (resetsHere o a b c) = absurd (ends (b, inr (o, a)))
@@ -188,7 +188,7 @@ module _ (r : Run) (w : Lawful r) (x : Transfer r) where
 
   -- its slot is sound and held
   pub okAt : (n : ℕ) → SlotOk (state r n .tickets) (view r x n)
-  okAt n = world-sound r w n .0 .each (slotOf r x) (openedAt r w x .bound)
+  okAt n = storage-sound r w n .0 .each (slotOf r x) (openedAt r w x .bound)
 
   pub held-slot : (n : ℕ) → Stands r x n → isFree (view r x n .phase) ≡ false
   held-slot n s = held-free (state r n .tickets) (view r x n) (okAt n) (omega (arith, held n s .ticket, openedAt r w x .ticketed))

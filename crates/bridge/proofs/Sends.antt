@@ -1,4 +1,4 @@
--- A frame that a turn yields tells the slot and the chunk; a frame call that fits is the one that is awaited.
+-- A frame that a turn yields tells the slot and the chunk; a frame call that matches is the one that is awaited.
 use Prim.Native.Nat.{ℕ, _+_, _*_, _/_, _<_}
 use mathlib.Core.Path.{_≡_, refl, sym, _∙_, ap}
 use mathlib.Core.Logic.{_⊎_, inl, inr}
@@ -14,13 +14,13 @@ use Rattle.bus.specs.Ident.{idOf, idTable, idFrom, idOffset}
 use Rattle.bridge.specs.Model.{Frame, Slot, waiting, Call, itsOwn, other, opening, turn, frame, status, bytes, close, reset, sentFrame}
 use Rattle.bridge.specs.Model.{readFrame, chunkLen, contentRefusal, askDevice, askTable, askOffset, askCount, isWaiting, asks, carries}
 use Rattle.bridge.specs.Statement.{Run, state, buffer, Lawful, ledger, Transfer, slotOf, chunks, lenOf, place, requestFrame}
-use Rattle.bridge.specs.Statement.{fitsFrame, fitsCall, Fits}
+use Rattle.bridge.specs.Statement.{matchesFrame, matchesCall, Matches}
 use Rattle.bridge.proofs.ReadWrite.{asks-alone}
 use Rattle.bridge.proofs.FrameLaws.{kinds-apart, id-of, reply-byte, read-is, write-is}
 use Rattle.bridge.proofs.Search.{some-eq, and-true}
 use Rattle.bridge.proofs.Sound.{ReadyOk}
 use Rattle.bridge.proofs.CallKinds.{AwaitsOk, LawfulAsk}
-use Rattle.bridge.proofs.Worlds.{world-sound, own-is}
+use Rattle.bridge.proofs.Storages.{storage-sound, own-is}
 use Rattle.bridge.proofs.Runs.{openedAt, view, Held, waits}
 
 request-byte : (r : Run) (x : Transfer r) (c j : ℕ) → getD (requestFrame r x c j .bytes) 1 0 ≡ (128 * slotOf r x + 8 * c) / 8
@@ -70,9 +70,9 @@ module _ (r : Run) (w : Lawful r) (x : Transfer r) (c j : ℕ) (l : c < chunks r
           ≡ idOf (askOffset (x .ask) + 8 * c) req (ledger r j .own) (askDevice (x .ask)) (askTable (x .ask))
           = sym (id-of _ _) ∙ ap (λ (f : Frame). f .id)
           (sym (write-is (state r j .own) k y (buffer r j) u) ∙ q) ∙ request-id r x c j in
-          absurd (kinds-apart _ _ _ _ _ _ _ _ (omega (arith, o .mid .below, o .common .inside)) (omega (arith, world-sound r w j .0 .own))
+          absurd (kinds-apart _ _ _ _ _ _ _ _ (omega (arith, o .mid .below, o .common .inside)) (omega (arith, storage-sound r w j .0 .own))
           (omega (arith, o .common .device)) (omega (arith, o .common .table)) (omega (arith, sm .0, a .inside))
-          (omega (arith, own-is r w j, world-sound r w j .0 .own)) (omega (arith, a .device)) (omega (arith, a .table)) z)
+          (omega (arith, own-is r w j, storage-sound r w j .0 .own)) (omega (arith, a .device)) (omega (arith, a .table)) z)
       go (inr u) =
           let z : (128 * k + y .progress) / 8 ≡ (128 * slotOf r x + 8 * c) / 8
           = sym (reply-byte _ 6 (128 * k + y .progress) (chunkLen (y .count) (y .progress))) ∙ ap (λ (f : Frame). getD (f .bytes) 1 0)
@@ -91,7 +91,7 @@ sends-request r w x c n y u p d t o k = rw (asks-alone (y .kind) u, p, d, t, o, 
 
 -- ── frames that fit ────────────────────────────────────────────────────────────────────────────────────────────────
 
-pub record FitsOk (r : Run) (x : Transfer r) (c m : ℕ) (f : Frame) : Type 0 where
+pub record MatchesOk (r : Run) (x : Transfer r) (c m : ℕ) (f : Frame) : Type 0 where
   pub is : r .calls m ≡ frame itsOwn f
   pub passes : contentRefusal (state r m .own) f ≡ 0
   pub table : idTable (f .id) ≡ 6
@@ -99,11 +99,11 @@ pub record FitsOk (r : Run) (x : Transfer r) (c m : ℕ) (f : Frame) : Type 0 wh
   pub place : idOffset (f .id) ≡ place r x c
   pub len : f .len ≡ lenOf r x c
 
-pub fits-ok : (r : Run) (w : Lawful r) (x : Transfer r) (c m : ℕ) → Fits r x c m → (f : Frame) × FitsOk r x c m f
-unfolding fitsFrame
-fits-ok r w x c m h = go (r .calls m) refl h
+pub matches-ok : (r : Run) (w : Lawful r) (x : Transfer r) (c m : ℕ) → Matches r x c m → (f : Frame) × MatchesOk r x c m f
+unfolding matchesFrame
+matches-ok r w x c m h = go (r .calls m) refl h
   where
-    go : (d : Call) → r .calls m ≡ d → fitsCall r x c m d ≡ true → (f : Frame) × FitsOk r x c m f
+    go : (d : Call) → r .calls m ≡ d → matchesCall r x c m d ≡ true → (f : Frame) × MatchesOk r x c m f
     go (opening l a) e q = absurd (false≢true q)
     go (turn l) e q = absurd (false≢true q)
     go (frame itsOwn f) e q =
@@ -127,9 +127,9 @@ fits-ok r w x c m h = go (r .calls m) refl h
     go (close t) e q = absurd (false≢true q)
     go (reset o) e q = absurd (false≢true q)
 
-pub fits-true : (r : Run) (w : Lawful r) (x : Transfer r) (c m : ℕ) (f : Frame) → FitsOk r x c m f → Fits r x c m
-unfolding fitsFrame
-fits-true r w x c m f h = rw (
+pub matches-true : (r : Run) (w : Lawful r) (x : Transfer r) (c m : ℕ) (f : Frame) → MatchesOk r x c m f → Matches r x c m
+unfolding matchesFrame
+matches-true r w x c m f h = rw (
   h .is,
   own-is r w m,
   eq-eqb _ 0 (h .passes),
@@ -139,13 +139,13 @@ fits-true r w x c m f h = rw (
   eq-eqb _ _ (h .len),
 )
 
--- a turn is no frame that fits
-pub turn-unfit : (r : Run) (x : Transfer r) (c m : ℕ) → r .calls m ≡ turn itsOwn → ¬ Fits r x c m
-turn-unfit r x c m e h = false≢true (sym (ap (fitsCall r x c m) e) ∙ h)
+-- a turn is no frame that matches
+pub turn-unfit : (r : Run) (x : Transfer r) (c m : ℕ) → r .calls m ≡ turn itsOwn → ¬ Matches r x c m
+turn-unfit r x c m e h = false≢true (sym (ap (matchesCall r x c m) e) ∙ h)
 
 module _ (r : Run) (x : Transfer r) (c m : ℕ) (h : Held r x m) (p : view r x m .progress ≡ 8 * c) where
-  -- a waiting read at chunk c awaits what fits chunk c
-  pub fits-awaited : (f : Frame) → FitsOk r x c m f → view r x m .phase ≡ waiting → AwaitsOk (state r m) f (slotOf r x)
+  -- a waiting read at chunk c awaits what matches chunk c
+  pub fits-awaited : (f : Frame) → MatchesOk r x c m f → view r x m .phase ≡ waiting → AwaitsOk (state r m) f (slotOf r x)
   fits-awaited f a q = record {
     waits = ap isWaiting q;
     table = a .table;
@@ -154,9 +154,9 @@ module _ (r : Run) (x : Transfer r) (c m : ℕ) (h : Held r x m) (p : view r x m
     len = rw (h .count, p) (a .len);
   }
 
-  pub awaited-fits : (f : Frame) → r .calls m ≡ frame itsOwn f → contentRefusal (state r m .own) f ≡ 0 → AwaitsOk (state r m) f (slotOf r x)
-      → FitsOk r x c m f
-  awaited-fits f e q a = record {
+  pub awaited-matches : (f : Frame) → r .calls m ≡ frame itsOwn f → contentRefusal (state r m .own) f ≡ 0 → AwaitsOk (state r m) f (slotOf r x)
+      → MatchesOk r x c m f
+  awaited-matches f e q a = record {
     is = e;
     passes = q;
     table = a .table;

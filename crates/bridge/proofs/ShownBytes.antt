@@ -12,16 +12,16 @@ use borrow.Author.Tests.{eqb-true, eq-eqb, ne-eqb}
 use Rattle.bridge.specs.Model.{Bridge, Slot, free, ready, waiting, done, gaveUp, Call, itsOwn, frame, slot, chunkLen, plain}
 use Rattle.bridge.specs.Model.{partOf, spanOf}
 use Rattle.bridge.specs.Model.{isWrite, askCount, asks, carries}
-use Rattle.bridge.specs.Statement.{Run, state, buffer, Lawful, Shaped, Transfer, slotOf, Stands, chunks, lenOf, place, Fits, Replied}
+use Rattle.bridge.specs.Statement.{Run, state, buffer, Lawful, Shaped, Transfer, slotOf, Stands, chunks, lenOf, place, Matches, Replied}
 use Rattle.bridge.specs.Statement.{brought, join, showing, statusAt, shownAt}
 use Rattle.bridge.proofs.ReadWrite.{carries-of, carries-alone}
 use Rattle.bridge.proofs.FrameLaws.{len-eight, len-inside, content-length}
 use Rattle.bridge.proofs.Sound.{SlotOk, okFree, okReady, okWaiting, okDone, okGaveUp}
-use Rattle.bridge.proofs.Worlds.{world-sound}
+use Rattle.bridge.proofs.Storages.{storage-sound}
 use Rattle.bridge.proofs.Runs.{okAt, openedAt, view, Held, held}
 use Rattle.bridge.proofs.Status.{shown-is, done-is}
 use Rattle.bridge.proofs.Ages.{phases}
-use Rattle.bridge.proofs.Sends.{fits-ok}
+use Rattle.bridge.proofs.Sends.{matches-ok}
 use Rattle.bridge.proofs.Past.{Past, Got}
 use Rattle.bridge.proofs.Ahead.{replied-once}
 
@@ -60,9 +60,9 @@ pub drop-at : (a c : ℕ) (b : List ℕ) → drop c (drop a b) ≡ drop (a + c) 
 drop-at a c b = drop-drop c a b
 
 -- a fitting frame brings as many bytes as its chunk has
-pub brought-length : (r : Run) (w : Lawful r) (x : Transfer r) (c m : ℕ) → Fits r x c m → length (brought (r .calls m)) ≡ lenOf r x c
+pub brought-length : (r : Run) (w : Lawful r) (x : Transfer r) (c m : ℕ) → Matches r x c m → length (brought (r .calls m)) ≡ lenOf r x c
 brought-length r w x c m h =
-    let f = fits-ok r w x c m h in
+    let f = matches-ok r w x c m h in
     let sh : Shaped (frame itsOwn (f .0)) = subst Shaped (f .1 .is) (w .shaped m) in
     ap (λ (d : Call). length (brought d)) (f .1 .is) ∙ content-length (f .0) (sh .1)
     (omega (arith, f .1 .len, len-eight (askCount (x .ask)) (8 * c))) ∙ f .1 .len
@@ -119,9 +119,9 @@ module _ (r : Run) (w : Lawful r) (x : Transfer r) (n : ℕ) (s : Stands r x n) 
           (drop (8 * c) (drop (128 * slotOf r x) (buffer r n)))
       chunk c q =
           let gt : Got r x c n = all-got e c q in
-          let ln : length (g c) ≡ lenOf r x c = ap length (h c q) ∙ brought-length r w x c (gt .m) (gt .replied .fits) in
+          let ln : length (g c) ≡ lenOf r x c = ap length (h c q) ∙ brought-length r w x c (gt .m) (gt .replied .matches) in
           part-is (g c) (buffer r n) (place r x c) (lenOf r x c) ln
-          (omega (arith, world-sound r w n .1, openedAt r w x .bound, few, len-inside (askCount (x .ask)) (8 * c) q))
+          (omega (arith, storage-sound r w n .1, openedAt r w x .bound, few, len-inside (askCount (x .ask)) (8 * c) q))
           (λ i l. gt .kept i l ∙ ap (λ (bs : List ℕ). getD bs i 0) (sym (h c q)))
           ∙ ap (take (lenOf r x c)) (sym (drop-at (128 * slotOf r x) (8 * c) (buffer r n)))
 

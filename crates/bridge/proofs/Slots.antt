@@ -13,14 +13,14 @@ use Rattle.wire.specs.Order.{_if_else_}
 use Rattle.bridge.specs.Model.{Frame, Bridge, Slot, free, ready, Call, Result, itsOwn, opening, frame, close, reset, blank, slot}
 use Rattle.bridge.specs.Model.{fresh, aged, sentFrame, agedBridge, sendFor, isFree, isWaiting, lowestFree, holderOf, closeRefusal}
 use Rattle.bridge.specs.Model.{close′, reset′, resetRefusal, step, sound}
-use Rattle.bridge.specs.Statement.{ledger, Run, world, state, buffer, answer, Lawful, Transfer, ticket, slotOf, Ends, Stands, Places}
+use Rattle.bridge.specs.Statement.{ledger, Run, storage, state, buffer, answer, Lawful, Transfer, ticket, slotOf, Closing, Stands, Places}
 use Rattle.bridge.specs.Statement.{accepted, isTurn}
 use Rattle.bridge.proofs.Search.{some-eq, none-some, cases, Lowest, lowest-some, and-true, option-cases}
 use Rattle.bridge.proofs.Sound.{held-free, Sound, sound-true, slot-set-same, ReadyOk, ready-ok, aged-other, aged-same}
 use Rattle.bridge.proofs.CallKinds.{Kind, nothing, opens, sends, idles, takes, closes, resets, heldBy, slot-aged, aged-sound}
 use Rattle.bridge.proofs.CallKinds.{fresh-slot, freeAt, closeResult}
 use Rattle.bridge.proofs.Effects.{Effect, still, ages, serves, taken, opensHere, closesHere, resetsHere}
-use Rattle.bridge.proofs.Worlds.{world-sound, kindAt, effectAt, agrees, lowest-agrees}
+use Rattle.bridge.proofs.Storages.{storage-sound, kindAt, effectAt, agrees, lowest-agrees}
 use Rattle.bridge.proofs.Runs.{held-slot, openedAt, view, held}
 use Rattle.bridge.proofs.Status.{held-by}
 
@@ -39,13 +39,13 @@ reset-is s b o e = go (ltb 15 o) e
 
 module _ (r : Run) (w : Lawful r) where
   -- a transfer that ends leaves its slot free
-  ended-frees : (x : Transfer r) (n : ℕ) → Stands r x n → Ends r x n → isFree (view r x (suc n) .phase) ≡ true
-  unfolding world
+  ended-frees : (x : Transfer r) (n : ℕ) → Stands r x n → Closing r x n → isFree (view r x (suc n) .phase) ≡ true
+  unfolding storage
   ended-frees x n s (e, inl c) =
       let st : step (state r n) (buffer r n) (r .calls n) ≡ closeResult (state r n) (buffer r n) (slotOf r x)
       = ap (step (state r n) (buffer r n)) c ∙ close-is (state r n) (buffer r n) (ticket r x) (slotOf r x)
-      (sound-true (state r n) (world-sound r w n .0)) (held-by r w x n s) in
-      ap (λ (y : Slot). isFree (y .phase)) (slot-set-same (state r n) (state r (suc n)) (slotOf r x) blank (world-sound r w n .0 .four)
+      (sound-true (state r n) (storage-sound r w n .0)) (held-by r w x n s) in
+      ap (λ (y : Slot). isFree (y .phase)) (slot-set-same (state r n) (state r (suc n)) (slotOf r x) blank (storage-sound r w n .0 .four)
       (ap (λ (u : Result). u .state .slots) st) (openedAt r w x .bound))
   ended-frees x n s (e, inr (o, c)) =
       let st : state r (suc n) ≡ fresh o = ap (λ (d : Call). step (state r n) (buffer r n) d .state) c
@@ -58,8 +58,8 @@ module _ (r : Run) (w : Lawful r) where
   goes-on : (n k : ℕ) → isFree (slot (state r (suc n)) k .phase) ≡ false → Occupied n k → Occupied (suc n) k
   goes-on n k f (y, s, e) = (y, (omega (arith, s .0), λ m a b. stay m a b (ℕ-discrete m n)), e)
     where
-      stay : (m : ℕ) → y .at < m → m < suc n → Dec (m ≡ n) → ¬ Ends r y m
-      stay m a b (yes p) d = true≢false (sym (ended-frees y n s (subst (Ends r y) p d))
+      stay : (m : ℕ) → y .at < m → m < suc n → Dec (m ≡ n) → ¬ Closing r y m
+      stay m a b (yes p) d = true≢false (sym (ended-frees y n s (subst (Closing r y) p d))
           ∙ subst (λ (i : ℕ). isFree (slot (state r (suc n)) i .phase) ≡ false) (sym e) f)
       stay m a b (no p) d = s .1 m a (omega arith) d
 
@@ -67,7 +67,7 @@ module _ (r : Run) (w : Lawful r) where
   free-ages y e = aged-other y (ap isWaiting (eqb-true (y .phase) free e))
 
   pub occupied : (n k : ℕ) → k < 4 → isFree (slot (state r n) k .phase) ≡ false → Occupied n k
-  unfolding world slotOf lowestFree
+  unfolding storage slotOf lowestFree
   occupied zero k l f = absurd (true≢false (sym (ap (λ (y : Slot). isFree (y .phase)) (fresh-slot (r .own) k)) ∙ f))
   occupied (suc n) k l f = go (occupied n k l) (effectAt r w n k l) (cases (isFree (slot (state r n) k .phase)))
     where
@@ -86,7 +86,7 @@ module _ (r : Run) (w : Lawful r) where
       go ih (opensHere a b c d e g i j m) (inl q) = (
         record { at = n; lent = itsOwn; ask = a; call = b; accepted = m },
         (omega arith, λ t u v. absurd (omega arith)),
-        lowest-agrees (ledger r n) (state r n) k (world-sound r w n .0) (agrees r w n) (lowest-some (freeAt (state r n)) k c),
+        lowest-agrees (ledger r n) (state r n) k (storage-sound r w n .0) (agrees r w n) (lowest-some (freeAt (state r n)) k c),
       )
       go ih (closesHere t a b c d) (inl q) = absurd (true≢false (sym (ap (λ (y : Slot). isFree (y .phase)) d) ∙ f))
       go ih (resetsHere o a b c) (inl q) = absurd (true≢false (sym (ap (λ (y : Slot). isFree (y .phase)) c) ∙ f))
@@ -119,7 +119,7 @@ module _ (r : Run) (w : Lawful r) where
   alone x y n s t e = same-slot y x n t s (slots (ℕ-discrete (slotOf r y) (slotOf r x)))
     where
       h : Sound (state r n)
-      h = world-sound r w n .0
+      h = storage-sound r w n .0
 
       slots : Dec (slotOf r y ≡ slotOf r x) → slotOf r y ≡ slotOf r x
       slots (yes p) = p
@@ -149,7 +149,7 @@ module _ (r : Run) (w : Lawful r) where
     pub is : f ≡ sentFrame (state r j .own) (slotOf r y) (aged (view r y j)) (buffer r j)
 
   pub sender : (j : ℕ) (f : Frame) → accepted r j ≡ true → answer r j .sent ≡ some f → Sender j f
-  unfolding world accepted sendFor agedBridge
+  unfolding storage accepted sendFor agedBridge
   sender j f a q = go (kindAt r w j)
     where
       s : Bridge
@@ -169,10 +169,10 @@ module _ (r : Run) (w : Lawful r) where
 
           ready : ReadyOk (state r j .tickets) (aged (slot (state r j) k))
           ready = rw (slot-aged (state r j) k) at (ready-ok (state r j .tickets) (slot (agedBridge (state r j)) k)
-              (aged-sound (state r j) (world-sound r w j .0) .each k bound) (g .passes))
+              (aged-sound (state r j) (storage-sound r w j .0) .each k bound) (g .passes))
 
           full : isFree (slot (state r j) k .phase) ≡ false
-          full = held-free (state r j .tickets) (slot (state r j) k) (world-sound r w j .0 .each k bound)
+          full = held-free (state r j .tickets) (slot (state r j) k) (storage-sound r w j .0 .each k bound)
               (omega (arith, ready .common .ticket, aged-same (slot (state r j) k) .ticket))
 
           sent : f ≡ sentFrame (state r j .own) k (aged (slot (state r j) k)) (buffer r j)

@@ -17,7 +17,7 @@ use Rattle.bridge.specs.Statement.{Run, state, buffer, Lawful, Transfer,
 use Rattle.bridge.proofs.Search.{cases, Lowest, lowest-some, lowest-none, and-true}
 use Rattle.bridge.proofs.Sound.{held-free, Sound, sound-true}
 use Rattle.bridge.proofs.CallKinds.{heldBy}
-use Rattle.bridge.proofs.Worlds.{world-sound}
+use Rattle.bridge.proofs.Storages.{storage-sound}
 use Rattle.bridge.proofs.Runs.{openedAt, view, held}
 
 holder : (s : Bridge) (k t : ℕ) → Sound s → k < 4 → slot s k .ticket ≡ t → 0 < t → (o : Option ℕ) → holderOf s t ≡ o → o ≡ some k
@@ -106,7 +106,7 @@ phase-other p a b = go (number-cases p)
 
 module _ (r : Run) (w : Lawful r) (x : Transfer r) where
   pub held-by : (n : ℕ) → Stands r x n → holderOf (state r n) (ticket r x) ≡ some (slotOf r x)
-  held-by n s = holder (state r n) (slotOf r x) (ticket r x) (world-sound r w n .0) (openedAt r w x .bound) (held r w x n s .ticket)
+  held-by n s = holder (state r n) (slotOf r x) (ticket r x) (storage-sound r w n .0) (openedAt r w x .bound) (held r w x n s .ticket)
       (omega (arith, openedAt r w x .ticketed)) _ refl
 
   number-is : (n : ℕ) → Stands r x n → ticketNumber (state r n) (ticket r x) ≡ phaseNumber (view r x n .phase)
@@ -115,13 +115,13 @@ module _ (r : Run) (w : Lawful r) (x : Transfer r) where
 
   pub status-is : (n : ℕ) → Stands r x n → statusAt r x n ≡ phaseNumber (view r x n .phase)
   unfolding step status′ _if_else_
-  status-is n s = rw (sound-true (state r n) (world-sound r w n .0)) (number-is n s)
+  status-is n s = rw (sound-true (state r n) (storage-sound r w n .0)) (number-is n s)
 
   pub shown-is : (n : ℕ) → Stands r x n → shownAt r x n
       ≡ cond (eqb (statusAt r x n) 0) (showing (partOf (buffer r n) (spanOf (state r n) (slotOf r x)))) (plain (statusAt r x n))
   unfolding step bytesRefusal _if_else_
   shown-is n s = bytes-is (state r n) (buffer r n) (ticket r x) (slotOf r x) (statusAt r x n)
-      (rw (sound-true (state r n) (world-sound r w n .0), eq-eqb (length (buffer r n)) 512 (world-sound r w n .1)) (number-is n s
+      (rw (sound-true (state r n) (storage-sound r w n .0), eq-eqb (length (buffer r n)) 512 (storage-sound r w n .1)) (number-is n s
       ∙ sym (status-is n s))) (held-by n s)
 
   -- 0 is done, 16 given up

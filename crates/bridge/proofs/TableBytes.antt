@@ -18,17 +18,18 @@ use Rattle.bus.specs.declared.Directory.{Directory}
 use Rattle.bridge.specs.Model.{Frame, Slot, done, opening, aged, sentFrame, chunkLen, contentRefusal, askTable, askOffset, askCount, asks}
 use Rattle.bridge.specs.Model.{carries}
 use Rattle.bridge.specs.Statement.{Arrives, Sent, Run, state, buffer, Lawful, Transfer, slotOf, Stands, lenOf, Replied, brought}
-use Rattle.bridge.specs.Statement.{showing, statusAt, shownAt, Device, Timeline, range, Own, Meanwhile, Premises}
+use Rattle.bridge.specs.Statement.{showing, shownAt, Done, Device, Timeline, range, Own, Meanwhile, Arrivals, Unwritten}
+use Rattle.bridge.specs.Corollaries.{NotAfter, SinceUntil}
 use Rattle.bridge.proofs.ReadWrite.{read-of}
 use Rattle.bridge.proofs.Ids.{offset-of-id, kind-of-id, table-of-id}
 use Rattle.bridge.proofs.Devices.{command-unanswered, request-answered, answerer-own, request-read}
 use Rattle.bridge.proofs.FrameLaws.{len-eight, len-inside, id-of, content-of, read-is}
 use Rattle.bridge.proofs.FrameLaws.{write-is}
 use Rattle.bridge.proofs.Sound.{ReadyOk, Same, aged-same}
-use Rattle.bridge.proofs.Worlds.{world-sound, own-is}
+use Rattle.bridge.proofs.Storages.{storage-sound, own-is}
 use Rattle.bridge.proofs.Runs.{view, Held, held, openedAt}
 use Rattle.bridge.proofs.Status.{done-is}
-use Rattle.bridge.proofs.Sends.{sends-request, FitsOk, fits-ok, same-place, chunk-small}
+use Rattle.bridge.proofs.Sends.{sends-request, MatchesOk, matches-ok, same-place, chunk-small}
 use Rattle.bridge.proofs.Past.{Past, Got}
 use Rattle.bridge.proofs.ShownBytes.{join-all, shown-part, shown-done, all-got, drop-at}
 use Rattle.bridge.proofs.Slots.{same-slot, Sender, sender}
@@ -119,11 +120,11 @@ unfolding range
 range-short r x d = take-take (askCount (x .ask)) (askCount (x .ask))
     (drop (startOf (d .directory) (askTable (x .ask)) + askOffset (x .ask)) (d .memory)) (omega arith)
 
-module _ (r : Run) (w : Lawful r) (x : Transfer r) (n : ℕ) (t : Timeline) (pre : Premises r x n t) where
+module _ (r : Run) (w : Lawful r) (x : Transfer r) (n : ℕ) (t : Timeline) (pre : Arrivals r x n t) where
   -- a reply that was taken arrived under the device's number
-  arrives : (c m : ℕ) → m < n → (p : Replied r x c m) → Arrives r x n m (fits-ok r w x c m (p .fits) .0)
+  arrives : (c m : ℕ) → m < n → (p : Replied r x c m) → Arrives r x n m (matches-ok r w x c m (p .matches) .0)
   arrives c m l p =
-      let f = fits-ok r w x c m (p .fits) in
+      let f = matches-ok r w x c m (p .matches) in
       record {
         since = p .awaits .stands .0;
         c = c;
@@ -144,8 +145,8 @@ module _ (r : Run) (w : Lawful r) (x : Transfer r) (n : ℕ) (t : Timeline) (pre
       sm : (8 * c < askCount (x .ask)) × (c < 16)
       sm = chunk-small r w x c (p .awaits .sent .chunk)
 
-      fo : (f : Frame) × FitsOk r x c m f
-      fo = fits-ok r w x c m (p .fits)
+      fo : (f : Frame) × MatchesOk r x c m f
+      fo = matches-ok r w x c m (p .matches)
 
       ow : Own r t m (fo .0)
       ow = pre .own m (fo .0) (arrives c m l p)
@@ -172,7 +173,7 @@ module _ (r : Run) (w : Lawful r) (x : Transfer r) (n : ℕ) (t : Timeline) (pre
       mem = t .device (t .answered m) .memory
 
       ownS : state r j .own ≤ 15
-      ownS = world-sound r w j .0 .own
+      ownS = storage-sound r w j .0 .own
 
       sv : serveOf d mem (sentFrame (state r j .own) (slotOf r y) (aged (view r y j)) (buffer r j)) ≡ answerWith (ow .reply)
       sv = ap (serveOf d mem) (sym (sd .is)) ∙ ow .gives
@@ -231,10 +232,12 @@ module _ (r : Run) (w : Lawful r) (x : Transfer r) (n : ℕ) (t : Timeline) (pre
               ≡ take (lenOf r x c) (drop (8 * c) (range r x (t .device (t .answered m))))
           same-range = rw (cnt, tab, off, progress) (sym (range-chunk r x (t .device (t .answered m)) c (sm .0)))
 
-  -- the bytes shown are the table's
-  pub table-shown : (s : Stands r x n) → Past r x n → statusAt r x n ≡ 0 → (τ : ℕ) → Meanwhile r x n t τ
-      → shownAt r x n ≡ showing (range r x (t .device τ))
-  table-shown s p e τ mw =
+  -- the bytes shown are the table's, at all moments of a set in which the range isn't written and which holds each answer that the
+  -- read took
+  pub table-shown : (During : ℕ → Type 0) → Unwritten r x t During
+      → ((c m : ℕ) → m < n → Replied r x c m → t .answered m ≤ t .when m → During (t .answered m))
+      → Stands r x n → Past r x n → Done r x n → (τ : ℕ) → During τ → shownAt r x n ≡ showing (range r x (t .device τ))
+  table-shown During un covers s p e τ mw =
       shown-done r w x n s p e ∙ ap showing (shown-part r w x n s p dn g same
       ∙ join-all g (askCount (x .ask)) (range r x (t .device τ)) (λ c q. refl) ∙ range-short r x (t .device τ))
     where
@@ -248,17 +251,34 @@ module _ (r : Run) (w : Lawful r) (x : Transfer r) (n : ℕ) (t : Timeline) (pre
       same c q =
           let gt : Got r x c n = all-got r w x n s p dn c q in
           let ow : Own r t (gt .m) _ = pre .own (gt .m) _ (arrives c (gt .m) (gt .before) (gt .replied)) in
-          let here : Meanwhile r x n t (t .answered (gt .m)) = record {
-            c = c;
-            m = gt .m;
-            firstBefore = gt .before;
-            first = gt .replied;
-            since = omega arith;
-            c′ = c;
-            m′ = gt .m;
-            before = gt .before;
-            last = gt .replied;
-            until = ow .untilArrived;
-          } in
-          ap (λ (l : List ℕ). take (lenOf r x c) (drop (8 * c) l)) (pre .unwritten τ (t .answered (gt .m)) mw here)
+          ap (λ (l : List ℕ). take (lenOf r x c) (drop (8 * c) l))
+          (un .unchanged τ (t .answered (gt .m)) mw (covers c (gt .m) (gt .before) (gt .replied) (ow .untilArrived)))
           ∙ sym (reply-bytes c (gt .m) (gt .before) (gt .replied))
+
+  -- by demand 3's meanwhile
+  pub table-meanwhile : Unwritten r x t (Meanwhile r x n t) → Stands r x n → Past r x n → Done r x n → (τ : ℕ) → Meanwhile r x n t τ
+      → shownAt r x n ≡ showing (range r x (t .device τ))
+  table-meanwhile un = table-shown (Meanwhile r x n t) un (λ c m l p u. record {
+    c = c;
+    m = m;
+    firstBefore = l;
+    first = p;
+    since = omega arith;
+    c′ = c;
+    m′ = m;
+    before = l;
+    last = p;
+    until = u;
+  })
+
+  -- by a moment not after any answer that was taken
+  pub table-since : (τ₀ : ℕ) → NotAfter r x n t τ₀ → Unwritten r x t (SinceUntil r x n t τ₀) → Stands r x n → Past r x n → Done r x n
+      → (τ : ℕ) → SinceUntil r x n t τ₀ τ → shownAt r x n ≡ showing (range r x (t .device τ))
+  table-since τ₀ na un = table-shown (SinceUntil r x n t τ₀) un (λ c m l p u. record {
+    since = na c m l p;
+    c = c;
+    m = m;
+    before = l;
+    last = p;
+    until = u;
+  })

@@ -14,7 +14,7 @@ use Rattle.bridge.specs.Calls.{Calls}
 use Rattle.bridge.proofs.ReadWrite.{read-of}
 use Rattle.bridge.proofs.Sound.{SlotOk, okFree, okReady, okWaiting, okDone, okGaveUp}
 use Rattle.bridge.proofs.Runs.{begins-open, okAt, openedAt, view, Held, held}
-use Rattle.bridge.proofs.Worlds.{world-sound}
+use Rattle.bridge.proofs.Storages.{storage-sound}
 use Rattle.bridge.proofs.Status.{done-is, gave-up-is, unfinished-is, unknown-ticket}
 use Rattle.bridge.proofs.Bound.{ended}
 use Rattle.bridge.proofs.Ages.{phases}
@@ -23,7 +23,7 @@ use Rattle.bridge.proofs.Ahead.{reply-accepted, replied-once, replied-o
 use Rattle.bridge.proofs.ShownBytes.{done-progress, hidden, write-hidden, shown-joined, all-got}
 use Rattle.bridge.proofs.Writes.{all-written-done, done-all-written}
 use Rattle.bridge.proofs.Slots.{places, alone, no-holder}
-use Rattle.bridge.proofs.TableBytes.{table-shown}
+use Rattle.bridge.proofs.TableBytes.{table-meanwhile, table-since}
 use Rattle.bridge.proofs.Keeps.{keeps-sound, refusals-keep}
 use Rattle.bridge.proofs.Numbers.{opening-numbers, numbers-in-runs}
 use Rattle.bridge.proofs.Turns.{turn-sends, sends-for-transfers}
@@ -72,7 +72,7 @@ module _ (r : Run) (w : Lawful r) (x : Transfer r) (n : ℕ) (s : Stands r x n) 
     ordered = replied-order r w x;
     shown = λ m h. shown-joined r w x n s p (back (λ c l. (m c, h c l .0, h c l .1))) m h;
     hidden = hidden r w x n s;
-    table = λ t h. table-shown r w x n t h s p;
+    table = λ t h. table-meanwhile r w x n t (h .arrivals) (h .unwritten) s p;
   }
     where
       p : Past r x n
@@ -104,7 +104,7 @@ module _ (r : Run) (w : Lawful r) (x : Transfer r) (n : ℕ) (s : Stands r x n) 
 pub after : (r : Run) → Lawful r → (n : ℕ) → After r n
 after r w n = record {
   standing = λ x s. claims r w x n s;
-  unknown = λ t u. unknown-ticket (state r n) (buffer r n) t (world-sound r w n .0) (world-sound r w n .1) (no-holder r w n t u);
+  unknown = λ t u. unknown-ticket (state r n) (buffer r n) t (storage-sound r w n .0) (storage-sound r w n .1) (no-holder r w n t u);
 }
 
 -- the run of a list of calls is lawful

@@ -13,14 +13,14 @@ use lib.Dec.{eqb}
 use borrow.Author.Tests.{eq-eqb, ne-eqb}
 use Rattle.bridge.specs.Model.{outgoing, Slot, done, Ask, read, write, aged, sentSlot, sentFrame, writeFrame, opened, isWrite, askDevice}
 use Rattle.bridge.specs.Model.{askTable, askOffset, askCount, askGiven, carries}
-use Rattle.bridge.specs.Statement.{Run, world, state, buffer, answer, Lawful, Transfer, slotOf, Stands, accepted, chunks, lenOf}
+use Rattle.bridge.specs.Statement.{Run, storage, state, buffer, answer, Lawful, Transfer, slotOf, Stands, accepted, chunks, lenOf}
 use Rattle.bridge.specs.Statement.{commandFrame, Wrote, AllWritten}
 use Rattle.bridge.proofs.ReadWrite.{kinds-clash, carries-of}
 use Rattle.bridge.proofs.FrameLaws.{len-inside}
 use Rattle.bridge.proofs.Search.{none-some}
 use Rattle.bridge.proofs.Sound.{SlotOk, okFree, okReady, okWaiting, okDone, okGaveUp, Same, ReadyOk, aged-same, sent-write}
 use Rattle.bridge.proofs.Effects.{idle, elsewhere, getD-sets-in}
-use Rattle.bridge.proofs.Worlds.{world-sound, own-is}
+use Rattle.bridge.proofs.Storages.{storage-sound, own-is}
 use Rattle.bridge.proofs.Runs.{okAt, openedAt, view, Held, held, Move, stays, waits, served, gets, along-from, stands-back}
 use Rattle.bridge.proofs.Ages.{aged-keeps}
 use Rattle.bridge.proofs.Past.{advanced-progress}
@@ -71,7 +71,7 @@ module _ (r : Run) (w : Lawful r) (x : Transfer r) (wr : isWrite (x .ask) ≡ tr
       (carries-of (x .ask) (same .kind ∙ h .kind) wr) (c .mid .at) (same .device ∙ h .device)
       (same .table ∙ h .table) (same .offset ∙ h .offset) (same .count ∙ h .count)
       (take-same (buffer r n) (askGiven (x .ask)) (128 * slotOf r x + 8 * c .mid .chunk) (8 * c .mid .chunk) (lenOf r x (c .mid .chunk))
-      (omega (arith, world-sound r w n .1, openedAt r w x .bound, few, len-inside (askCount (x .ask)) (8 * c .mid .chunk) inside))
+      (omega (arith, storage-sound r w n .1, openedAt r w x .bound, few, len-inside (askCount (x .ask)) (8 * c .mid .chunk) inside))
       (omega (arith, lg, len-inside (askCount (x .ask)) (8 * c .mid .chunk) inside)) bytes)
     where
       same : Same (view r x n) (aged (view r x n))
@@ -189,7 +189,7 @@ module _ (r : Run) (w : Lawful r) (x : Transfer r) (wr : isWrite (x .ask) ≡ tr
       record {
         bytes = λ i q. ap (λ (b : List ℕ). getD b (128 * slotOf r x + i) 0) (openedAt r w x .given)
             ∙ getD-sets-in (buffer r (x .at)) (128 * slotOf r x) (askGiven (x .ask)) i
-            (omega (arith, world-sound r w (x .at) .1, openedAt r w x .bound, few, lg)) (omega (arith, lg, q));
+            (omega (arith, storage-sound r w (x .at) .1, openedAt r w x .bound, few, lg)) (omega (arith, lg, q));
         j = λ k. 0;
         wrote = λ k q. absurd (omega (arith, q, e));
         before = λ k q. absurd (omega (arith, q, e));
@@ -202,7 +202,7 @@ module _ (r : Run) (w : Lawful r) (x : Transfer r) (wr : isWrite (x .ask) ≡ tr
   -- a turn that served the slot moved it on
   served-grows : (c j n : ℕ) → Wrote r x c j → j < n → Stands r x n
       → view r x (suc j) .progress ≡ min (view r x j .progress + 8) (askCount (x .ask))
-  unfolding world
+  unfolding storage
   served-grows c j n q l s = go (moveAt r w x j (stands-back r w x (suc j) n s (omega (arith, q .since)) l) (q .since))
     where
       h : Held r x j

@@ -1,7 +1,9 @@
 // A bridge of four slots: transfers to and from the tables of devices on the bus.
 ghost use mathlib.Core.Path.{_≡_};
 ghost use Rattle.bridge.specs.Statement.{Demand3};
+ghost use Rattle.bridge.specs.Corollaries.{Corollaries};
 ghost use Rattle.bridge.specs.Calls.{Calls};
+ghost use Rattle.bridge.specs.Examples.{Examples};
 
 // A slot's phases.
 pub const FREE: u8 = 0;
@@ -81,7 +83,7 @@ pub struct Shown<'a> {
 
 // A place for the theorems in a contract.
 pub fn own_of(b: Bridge) -> u8
-    ensures { λ r. ⌜ (r ≡ b .own) × Demand3 × Calls ⌝ }
+    ensures { λ r. ⌜ (r ≡ b .own) × Demand3 × Corollaries × Calls × Examples ⌝ }
 {
     b.own
 }

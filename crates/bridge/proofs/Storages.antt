@@ -13,7 +13,7 @@ use lib.Dec.{ltb, eqb}
 use borrow.Author.Tests.{ne-eqb, eq-eqb, lt-ltb, le-ltb}
 use Rattle.bridge.specs.Model.{Bridge, Slot, Answer, Call, Result, plain, itsOwn, opening, turn, frame, status, bytes, close, reset, blank, slot}
 use Rattle.bridge.specs.Model.{fresh, aged, opened, agedBridge, sendFor, step}
-use Rattle.bridge.specs.Statement.{Run, world, state, buffer, answer, Lawful, accepted, turns, Ledger, newLedger, firstZero, noted}
+use Rattle.bridge.specs.Statement.{Run, storage, state, buffer, answer, Lawful, accepted, turns, Ledger, newLedger, firstGivable, noted}
 use Rattle.bridge.specs.Statement.{ledger}
 use Rattle.bridge.proofs.Search.{cases, Lowest}
 use Rattle.bridge.proofs.Sound.{Sound, aged-same, advanced-same, sent-same, slot-set-same, slot-set-other, no-ticket, has-ticket}
@@ -59,25 +59,25 @@ turns-mono r j m (suc n) h = go (turns-mono r j m n) (decLe m n)
 -- ── every state is sound ───────────────────────────────────────────────────────────────────────────────────────────
 
 module _ (r : Run) (w : Lawful r) where
-  pub world-sound : (n : ℕ) → Sound (state r n) × (length (buffer r n) ≡ 512)
-  unfolding world
-  world-sound zero = (fresh-sound (r .own) (w .own), w .buffer)
-  world-sound (suc n) =
-      let h = world-sound n in
+  pub storage-sound : (n : ℕ) → Sound (state r n) × (length (buffer r n) ≡ 512)
+  unfolding storage
+  storage-sound zero = (fresh-sound (r .own) (w .own), w .buffer)
+  storage-sound (suc n) =
+      let h = storage-sound n in
       kind-sound (state r n) (buffer r n) (r .calls n) (h .0) (h .1)
       (kind (state r n) (buffer r n) (h .0) (h .1) (r .calls n) (w .shaped n))
 
   pub kindAt : (n : ℕ) → Kind (state r n) (buffer r n) (r .calls n)
-  kindAt n = let h = world-sound n in kind (state r n) (buffer r n) (h .0) (h .1) (r .calls n) (w .shaped n)
+  kindAt n = let h = storage-sound n in kind (state r n) (buffer r n) (h .0) (h .1) (r .calls n) (w .shaped n)
 
   pub effectAt : (n k : ℕ) → k < 4 → Effect (state r n) (buffer r n) (r .calls n) k
-  effectAt n k l = effect (state r n) (buffer r n) (r .calls n) (world-sound n .0) k l (kindAt n)
+  effectAt n k l = effect (state r n) (buffer r n) (r .calls n) (storage-sound n .0) k l (kindAt n)
 
 -- ── the ledger ─────────────────────────────────────────────────────────────────────────────────────────────────────
 
 -- the first 0 of a list
-first-zero : (l : List ℕ) (k : ℕ) → k < length l → getD l k 0 ≡ 0 → ((e : ℕ) → e < k → getD l e 0 ≢ 0) → firstZero l ≡ k
-unfolding firstZero
+first-zero : (l : List ℕ) (k : ℕ) → k < length l → getD l k 0 ≡ 0 → ((e : ℕ) → e < k → getD l e 0 ≢ 0) → firstGivable l ≡ k
+unfolding firstGivable
 first-zero [] k h e f = absurd (omega arith)
 first-zero (t ∷ ts) zero h e f = rw (eq-eqb t 0 e)
 first-zero (t ∷ ts) (suc k) h e f = rw (ne-eqb t 0 (f 0 (omega arith)))
@@ -125,7 +125,7 @@ fresh-agrees o = record {
 }
 
 -- the lowest free slot by the ledger
-pub lowest-agrees : (g : Ledger) (s : Bridge) (k : ℕ) → Sound s → Agrees g s → Lowest (freeAt s) k → firstZero (g .tickets) ≡ k
+pub lowest-agrees : (g : Ledger) (s : Bridge) (k : ℕ) → Sound s → Agrees g s → Lowest (freeAt s) k → firstGivable (g .tickets) ≡ k
 lowest-agrees g s k h a w =
     first-zero (g .tickets) k (omega (arith, a .four, w .bound)) (a .each k (w .bound)
     ∙ no-ticket (s .tickets) (slot s k) (h .each k (w .bound)) (w .passes))
@@ -145,7 +145,7 @@ aging-keeps s = (refl, refl)
 module _ (r : Run) (w : Lawful r) where
   -- a call that the ledger does not note keeps every slot's ticket
   kept : (n k : ℕ) → k < 4 → isNoted (r .calls n) ≡ false → slot (state r (suc n)) k .ticket ≡ slot (state r n) k .ticket
-  unfolding world
+  unfolding storage
   kept n k l u = go (effectAt r w n k l)
     where
       noted-call : (d : Call) → r .calls n ≡ d → isNoted d ≡ true → slot (state r (suc n)) k .ticket ≡ slot (state r n) k .ticket
@@ -179,11 +179,11 @@ module _ (r : Run) (w : Lawful r) where
   noted-is n y c e f g = rw (f, eq-eqb (y .number) 0 e, g)
 
   agrees-step : (n : ℕ) → Agrees (ledger r n) (state r n) → Agrees (ledger r (suc n)) (state r (suc n))
-  unfolding world
+  unfolding storage
   agrees-step n a = go (kindAt r w n)
     where
       h : Sound (state r n)
-      h = world-sound r w n .0
+      h = storage-sound r w n .0
 
       answer-is : {u : Result} → step (state r n) (buffer r n) (r .calls n) ≡ u → answer r n ≡ u .answer
       answer-is z = ap (λ (u : Result). u .answer) z
@@ -218,17 +218,17 @@ module _ (r : Run) (w : Lawful r) where
           rw (noted-is n (openResult (state r n) (buffer r n) b k .answer) (opening itsOwn b) refl (answer-is z) e) (to z (record {
             own = a .own;
             given = refl;
-            four = length-set (ledger r n .tickets) (firstZero (ledger r n .tickets)) (suc (state r n .tickets)) ∙ a .four;
+            four = length-set (ledger r n .tickets) (firstGivable (ledger r n .tickets)) (suc (state r n .tickets)) ∙ a .four;
             each = each;
           }))
         where
-          kk : firstZero (ledger r n .tickets) ≡ k
+          kk : firstGivable (ledger r n .tickets) ≡ k
           kk = lowest-agrees (ledger r n) (state r n) k h a g
 
           s′ : Bridge
           s′ = openResult (state r n) (buffer r n) b k .state
 
-          each : (j : ℕ) → j < 4 → getD (set (ledger r n .tickets) (firstZero (ledger r n .tickets)) (suc (state r n .tickets))) j 0
+          each : (j : ℕ) → j < 4 → getD (set (ledger r n .tickets) (firstGivable (ledger r n .tickets)) (suc (state r n .tickets))) j 0
               ≡ slot s′ j .ticket
           each j m = rw kk (pick (ℕ-discrete j k))
             where
@@ -264,7 +264,7 @@ module _ (r : Run) (w : Lawful r) where
       go (resets o e l z) = rw (noted-is n (plain 0) (reset o) refl (answer-is z) e) (to z (fresh-agrees o))
 
   pub agrees : (n : ℕ) → Agrees (ledger r n) (state r n)
-  unfolding world ledger
+  unfolding storage ledger
   agrees zero = fresh-agrees (r .own)
   agrees (suc n) = agrees-step n (agrees n)
 
