@@ -19,7 +19,7 @@ use Rattle.bridge.specs.Statement.{Run, Lawful, ShapedLent, Shaped, Tran
 use Rattle.bridge.specs.Statement.{answer, ledger, matchesCall, Matches, Sent, Awaits, Replied, Device, Timeline, Arrives, Own, range}
 use Rattle.bridge.specs.Statement.{Meanwhile, Unwritten, Arrivals, Premises}
 use Rattle.bridge.specs.Examples.{directory, memory, holding, after, run, reply, Shows, before, alone, unchanging, AloneShows}
-use Rattle.bridge.specs.Examples.{together, written, TogetherShows, late, slow, LateShows, Examples}
+use Rattle.bridge.specs.Examples.{together, written, TogetherShows, late, slow, LateShows, silence, sendsOf, Reckonings, Examples}
 use Rattle.bridge.proofs.Openers.{everything}
 use Rattle.bridge.proofs.Search.{and-true, cases}
 
@@ -507,5 +507,21 @@ late-shows = record {
   closed = (late-closed, late-sent, late-gone);
 }
 
+-- ── reckonings ─────────────────────────────────────────────────────────────────────────────────────────────────────
+
+reckoned : Reckonings
+unfolding everything alone reply silence sendsOf
+reckoned = record {
+  first = refl;
+  replied = refl;
+  second = refl;
+  sends = refl;
+  notYet = refl;
+  givenUp = refl;
+  most = refl;
+  tooMany = refl;
+  zero = refl;
+}
+
 pub examples : Examples
-examples = record { aloneShows = alone-shows; togetherShows = together-shows; lateShows = late-shows }
+examples = record { aloneShows = alone-shows; togetherShows = together-shows; lateShows = late-shows; reckonings = reckoned }

@@ -12,12 +12,12 @@ use borrow.Author.Tests.{ne-eqb}
 use Rattle.bridge.specs.Model.{Frame, Bridge, Ask, Call, Result, itsOwn, other, opening, turn, frame, status, bytes, close, reset, from}
 use Rattle.bridge.specs.Model.{holderOf, openRefusal, open′, nextReady, agedBridge, sendFor, turn′, replyRefusal, frame′}
 use Rattle.bridge.specs.Model.{closeRefusal, close′, resetRefusal, reset′, bytes′, bytesRefusal, step, unless, changedBy, keeping, plain}
-use Rattle.bridge.specs.Model.{lentRefusal, lentList, noSpan, spanOf, span′}
+use Rattle.bridge.specs.Model.{lentRefusal, lentList, fresh, noSpan, spanOf, span′}
 use Rattle.bridge.specs.Statement.{state, buffer, answer, ticket}
-use Rattle.bridge.specs.Calls.{KeepsSound, RefusalsKeep}
+use Rattle.bridge.specs.Calls.{KeepsSound, FreshSound, RefusalsKeep}
 use Rattle.bridge.proofs.Sound.{Sound, sound-true, true-sound}
 use Rattle.bridge.proofs.Status.{span-number}
-use Rattle.bridge.proofs.CallKinds.{kind, kind-sound, frame-own, frame-other}
+use Rattle.bridge.proofs.CallKinds.{kind, kind-sound, frame-own, frame-other, fresh-sound}
 
 -- a lent list of the right length is the bridge's own to a call; one of a wrong length is refused, whatever the bridge's own is
 module _ (s : Bridge) (h : Sound s) where
@@ -58,6 +58,9 @@ module _ (s : Bridge) (h : Sound s) where
 
 pub keeps-sound : KeepsSound
 keeps-sound s b c e = sound-true (step s b c .state) (step-sound s (true-sound s e) b c)
+
+pub fresh-keeps : FreshSound
+fresh-keeps o h = sound-true (fresh o) (fresh-sound o h)
 
 -- ── refusals ───────────────────────────────────────────────────────────────────────────────────────────────────────
 

@@ -20,8 +20,8 @@ use Rattle.bridge.specs.Model.{Ask, Call, Lent, Result, itsOwn, other, o
 use Rattle.bridge.specs.Model.{isFree, isNone, lowestFree, openRefusal, open′, step, unless, plain}
 use Rattle.bridge.specs.Statement.{Replied, ticket, Run, Lawful, Shaped, Transfer, Stands, slotOf, state, buffer, answer, accepted}
 use Rattle.bridge.specs.Statement.{ledger}
-use Rattle.bridge.specs.Calls.{FrameInRun, NumbersInRun, NumbersInRuns, OpeningNumber, OpeningNumbers, OpeningInRun}
-use Rattle.bridge.proofs.Refusals.{lent-clear, lent-ten, open-later, open-ten, reply-later, reply-ten}
+use Rattle.bridge.specs.Calls.{FrameInRun, NumbersInRun, NumbersInRuns, OpeningNumber, OpeningNumbers, OpeningInRun, Acceptable, OpensExactly}
+use Rattle.bridge.proofs.Refusals.{OpenFacts, open-facts, open-lent, lent-clear, lent-ten, open-later, open-ten, reply-later, reply-ten}
 use Rattle.bridge.proofs.ReadWrite.{read-of}
 use Rattle.bridge.proofs.CallKinds.{WaitOk, wait-ok, awaits-ok, freeAt}
 use Rattle.bridge.proofs.Storages.{own-is, storage-sound, agrees}
@@ -173,6 +173,10 @@ full s = go (option-cases (lowestFree s))
         let w : Lowest (freeAt s) k = lowest-some (freeAt s) k z in
         (λ e. absurd (true≢false (sym e ∙ ap isNone z)), λ f. absurd (true≢false (sym (w .passes) ∙ f k (w .bound))))
 
+lowest-is : (s : Bridge) (k : ℕ) → lowestFree s ≡ some k → Lowest (freeAt s) k
+unfolding lowestFree
+lowest-is s k = lowest-some (freeAt s) k
+
 full-phases : (s : Bridge) → (isNone (lowestFree s) ≡ true) ↔ ((k : ℕ) → k < 4 → slot s k .phase ≢ free)
 full-phases s = (
   λ e k l z. true≢false (sym (ap isFree z) ∙ full s .0 e k l),
@@ -217,6 +221,49 @@ opening-numbers s b a n = (λ e. h .0 (sym (number-is s b a) ∙ e), λ p. numbe
             (λ y. first-if 10 (not (eqb (length b) 512)) (later s a) n (length b ≢ 512) (Later a Full Used)
             (not-test (eqb (length b) 512) (length b ≡ 512) (eqb-test (length b) 512))
             (λ z. chain s a n Full Used (full-phases s) (leb-test 4294967295 (s .tickets))))
+
+pub opens-exactly : OpensExactly
+unfolding step
+opens-exactly s b a = (there, back)
+  where
+    there : open′ s b a .answer .number ≡ 0 → Acceptable s b a
+    there e =
+        let z : openRefusal s (length b) a ≡ 0 = sym (number-is s b a) ∙ e in
+        let o : OpenFacts s a = open-facts s (length b) a z in
+        record {
+          accepts = open-lent s (length b) a z .0;
+          lent = open-lent s (length b) a z .1;
+          device = o .law .device;
+          table = o .law .table;
+          some = omega (arith, o .law .some);
+          few = o .law .few;
+          inside = o .law .inside;
+          room = free-slot (option-cases (lowestFree s)) (o .slotted);
+          ticket = o .ticketed;
+        }
+      where
+        free-slot : (lowestFree s ≡ none) ⊎ ((k : ℕ) × (lowestFree s ≡ some k)) → isNone (lowestFree s) ≡ false
+            → (k : ℕ) × (k < 4) × (slot s k .phase ≡ free)
+        free-slot (inl y) q = absurd (true≢false (sym (ap isNone y) ∙ q))
+        free-slot (inr (k, y)) q = let w = lowest-is s k y in (k, w .bound, free-phase (slot s k .phase) (w .passes))
+
+    back : Acceptable s b a → open′ s b a .answer .number ≡ 0
+    back c = opening-numbers s b a 0 .1 (inr (
+      λ z. true≢false (sym (c .accepts) ∙ z),
+      inr (
+        λ z. z (c .lent),
+        inr (
+          λ z. z (c .device, c .table),
+          inr (
+            λ z. z (c .some, c .few),
+            inr (
+              λ z. omega (arith, c .inside),
+              inr (λ z. z (c .room .0) (c .room .1) (c .room .2), inr (λ z. omega (arith, c .ticket), refl)),
+            ),
+          ),
+        ),
+      ),
+    ))
 
 -- ── in a run ───────────────────────────────────────────────────────────────────────────────────────────────────────
 

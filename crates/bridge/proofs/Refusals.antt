@@ -95,6 +95,10 @@ open-facts s n a e =
       ticketed = omega (arith, leb-false 4294967295 (s .tickets) (h4 .0));
     }
 
+pub open-lent : (s : Bridge) (n : ℕ) (a : Ask) → openRefusal s n a ≡ 0 → (sound s ≡ true) × (n ≡ 512)
+unfolding openRefusal
+open-lent s n a e = lent-ok s n (else-zero _ _ e .0)
+
 -- the chain after 11 and 10
 pub open-later : (s : Bridge) (n : ℕ) (a : Ask) → sound s ≡ true → n ≡ 512
     → openRefusal s n a ≡ (askRefusal (askDevice a) (askTable a) (askOffset a) (askCount a) orElse roomRefusal s)

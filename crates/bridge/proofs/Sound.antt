@@ -14,6 +14,7 @@ use borrow.Author.Tests.{not-true, eqb-true, eqb-false, ne-eqb, eq-eqb, lt-ltb, 
 use Rattle.bridge.specs.Model.{isZero, Bridge, Slot, free, ready, waiting, done, gaveUp, blank, slot, sound, soundPhase, soundSlot}
 use Rattle.bridge.specs.Model.{soundSlots, absent, distinct, askRefusal, ticked, aged, advanced, requested, sentSlot, isReady, isWaiting}
 use Rattle.bridge.specs.Model.{isFree, asks, carries, moved, partway}
+use Rattle.bridge.specs.Calls.{SoundNumbers}
 use Rattle.bridge.proofs.ReadWrite.{Told, carries-alone, kinds-clash, told-test, test-told, told-small}
 use Rattle.bridge.proofs.Refusals.{LawfulArgs, args-lawful, args-clear}
 use Rattle.bridge.proofs.Search.{and-intro, and-true}
@@ -594,7 +595,7 @@ set-sound s s′ k y h l o a t t′ e ok d = record {
         go (no p) (no p′) = rw (slot-set-other s s′ k i y e p, slot-set-other s s′ k j y e p′) (h .apart i j m m′ q)
 
 -- a sound state's phases and kinds are those that have names
-pub sound-numbers : (s : Bridge) → sound s ≡ true → (k : ℕ) → k < 4 → (slot s k .phase ≤ 4) × (slot s k .kind ≤ 1)
+pub sound-numbers : SoundNumbers
 sound-numbers s h k l = go (true-sound s h .each k l)
   where
     go : SlotOk (s .tickets) (slot s k) → (slot s k .phase ≤ 4) × (slot s k .kind ≤ 1)

@@ -12,7 +12,7 @@ use Rattle.bridge.specs.Statement.{Run, state, buffer, After, Lawful, Sh
 use Rattle.bridge.specs.Statement.{AllWritten, statusAt, Claims, ReadClaims, runOf, Demand3}
 use Rattle.bridge.specs.Calls.{Calls}
 use Rattle.bridge.proofs.ReadWrite.{read-of}
-use Rattle.bridge.proofs.Sound.{SlotOk, okFree, okReady, okWaiting, okDone, okGaveUp}
+use Rattle.bridge.proofs.Sound.{sound-numbers, SlotOk, okFree, okReady, okWaiting, okDone, okGaveUp}
 use Rattle.bridge.proofs.Runs.{begins-open, okAt, openedAt, view, Held, held}
 use Rattle.bridge.proofs.Storages.{storage-sound}
 use Rattle.bridge.proofs.Status.{done-is, gave-up-is, unfinished-is, unknown-ticket}
@@ -24,8 +24,8 @@ use Rattle.bridge.proofs.ShownBytes.{done-progress, hidden, write-hidde
 use Rattle.bridge.proofs.Writes.{all-written-done, done-all-written}
 use Rattle.bridge.proofs.Slots.{places, alone, no-holder}
 use Rattle.bridge.proofs.TableBytes.{table-meanwhile, table-since}
-use Rattle.bridge.proofs.Keeps.{keeps-sound, refusals-keep}
-use Rattle.bridge.proofs.Numbers.{opening-numbers, numbers-in-runs}
+use Rattle.bridge.proofs.Keeps.{keeps-sound, fresh-keeps, refusals-keep}
+use Rattle.bridge.proofs.Numbers.{opening-numbers, opens-exactly, numbers-in-runs}
 use Rattle.bridge.proofs.Turns.{turn-sends, sends-for-transfers}
 
 module _ (r : Run) (w : Lawful r) (x : Transfer r) (n : ℕ) (s : Stands r x n) where
@@ -123,9 +123,12 @@ demand3 own ho b lb cs sh n l = after (runOf own b cs) (listed own ho b lb cs sh
 pub calls : Calls
 calls = record {
   keepsSound = keeps-sound;
+  freshSound = fresh-keeps;
+  soundNumbers = sound-numbers;
   refusalsKeep = refusals-keep;
   turnSends = turn-sends;
   sendsForTransfers = sends-for-transfers;
   openingNumbers = opening-numbers;
+  opensExactly = opens-exactly;
   numbersInRuns = numbers-in-runs;
 }

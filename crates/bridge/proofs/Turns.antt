@@ -105,6 +105,7 @@ module _ (s : Bridge) (b : List ℕ) (h : Sound s) (lb : length b ≡ 512) where
 
     idle-yields : TurnYields s b (step s b (turn itsOwn) .answer)
     idle-yields = record {
+      sends = (λ e. none-some (sym silent ∙ e .1), λ p. absurd (unready (p .0) (p .1) (p .2)));
       silent = (λ e. unready, λ f. silent);
       yields = λ f. (λ e. none-some (sym silent ∙ e), λ p. absurd (unready (p .0) (omega (arith, p .1 .is)) (p .1 .readied)));
     }
@@ -147,6 +148,7 @@ module _ (s : Bridge) (b : List ℕ) (h : Sound s) (lb : length b ≡ 512) where
 
     sent-yields : TurnYields s b (step s b (turn itsOwn) .answer)
     sent-yields = record {
+      sends = (λ e. (k, bound, readied .phase), λ p. (_, sent));
       silent = (λ e. none-some (sym e ∙ sent), λ f. absurd (f k bound (readied .phase)));
       yields = λ f. (
         λ e. (

@@ -11,7 +11,7 @@ use Rattle.bus.specs.Ident.{idOf, idSpare, idTo, idKind}
 use Rattle.bus.specs.Request.{request}
 use Rattle.wire.specs.First.{First, Zero}
 use Rattle.bridge.specs.Model.{Frame, Bridge, Slot, free, ready, asks, carries, Answer, Ask, Call, Lent, itsOwn, opening, turn, frame, close}
-use Rattle.bridge.specs.Model.{reset, askDevice, askTable, askOffset, askCount, isWrite, slot, sound, aged, chunkLen, plain, step}
+use Rattle.bridge.specs.Model.{reset, askDevice, askTable, askOffset, askCount, isWrite, slot, sound, aged, chunkLen, fresh, plain, step}
 use Rattle.bridge.specs.Statement.{Replied, ticket, Run, Lawful, Transfer, Stands, slotOf, lastServed, answer, accepted, ledger}
 use Rattle.bridge.specs.Statement.{chunks, requestFrame, commandFrame}
 
@@ -20,6 +20,14 @@ use Rattle.bridge.specs.Statement.{chunks, requestFrame, commandFrame}
 -- every call handed a sound state leaves a sound one, whatever its arguments and its buffer
 abbrev pub KeepsSound : Type 0
 KeepsSound = (s : Bridge) (b : List ℕ) (c : Call) → sound s ≡ true → sound (step s b c .state) ≡ true
+
+-- so does a reset that is answered 0, whatever the state was: it leaves the fresh bridge
+abbrev pub FreshSound : Type 0
+FreshSound = (own : ℕ) → own ≤ 15 → sound (fresh own) ≡ true
+
+-- a sound state's phases and kinds are those that have names: 11 for a phase or kind that is none
+abbrev pub SoundNumbers : Type 0
+SoundNumbers = (s : Bridge) → sound s ≡ true → (k : ℕ) → k < 4 → (slot s k .phase ≤ 4) × (slot s k .kind ≤ 1)
 
 -- a refusal leaves state and buffer as they were, yields no frame and shows no bytes, and its other numbers are 0
 abbrev pub RefusalsKeep : Type 0
@@ -49,8 +57,10 @@ pub record NextBytes (own k : ℕ) (x : Slot) (b : List ℕ) (f : Frame) : Type 
       (f ≡ frameOf (idOf (x .offset + x .progress) cmd own (x .device) (x .table)) (take n (drop (128 * k + x .progress) b)))
       × (length (take n (drop (128 * k + x .progress) b)) ≡ n)
 
--- what an accepted turn yields: nothing exactly when no slot is ready after its aging, and else the first such slot's next bytes
+-- what an accepted turn yields: a frame exactly when a slot is ready after its aging, nothing exactly when none is, and the frame is
+-- for the first such slot's next bytes
 pub record TurnYields (s : Bridge) (b : List ℕ) (a : Answer) : Type 0 where
+  pub sends : ((f : Frame) × (a .sent ≡ some f)) ↔ ((k : ℕ) × (k < 4) × (aged (slot s k) .phase ≡ ready))
   pub silent : (a .sent ≡ none) ↔ ((k : ℕ) → k < 4 → aged (slot s k) .phase ≢ ready)
   pub yields : (f : Frame) → (a .sent ≡ some f) ↔ ((k : ℕ) × FirstReady s k × NextBytes (s .own) k (aged (slot s k)) b f)
 
@@ -86,6 +96,21 @@ OpeningNumber s b a =
 
 abbrev pub OpeningNumbers : Type 0
 OpeningNumbers = (s : Bridge) (b : List ℕ) (a : Ask) (n : ℕ) → (step s b (opening itsOwn a) .answer .number ≡ n) ↔ OpeningNumber s b a n
+
+-- so it is answered 0 exactly when none of them applies
+pub record Acceptable (s : Bridge) (b : List ℕ) (a : Ask) : Type 0 where
+  pub accepts : sound s ≡ true
+  pub lent : length b ≡ 512
+  pub device : askDevice a ≤ 15
+  pub table : askTable a ≤ 31
+  pub some : 1 ≤ askCount a
+  pub few : askCount a ≤ 128
+  pub inside : askOffset a + askCount a ≤ 2048
+  pub room : (k : ℕ) × (k < 4) × (slot s k .phase ≡ free)
+  pub ticket : s .tickets < 4294967295
+
+abbrev pub OpensExactly : Type 0
+OpensExactly = (s : Bridge) (b : List ℕ) (a : Ask) → (step s b (opening itsOwn a) .answer .number ≡ 0) ↔ Acceptable s b a
 
 -- ── Numbers in a run, by the calls alone ───────────────────────────────────────────────────────────────────────────
 
@@ -128,8 +153,11 @@ NumbersInRuns = (r : Run) → Lawful r → (n : ℕ) → NumbersInRun r n
 -- all of it
 pub record Calls : Type 0 where
   pub keepsSound : KeepsSound
+  pub freshSound : FreshSound
+  pub soundNumbers : SoundNumbers
   pub refusalsKeep : RefusalsKeep
   pub turnSends : TurnSends
   pub sendsForTransfers : SendsForTransfers
   pub openingNumbers : OpeningNumbers
+  pub opensExactly : OpensExactly
   pub numbersInRuns : NumbersInRuns

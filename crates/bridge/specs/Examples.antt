@@ -4,6 +4,7 @@ use Prim.Native.Nat.{ℕ, zero, suc, _≤_, _<_}
 use mathlib.Core.Path.{_≡_}
 use mathlib.Core.Logic.{_≢_}
 use mathlib.Core.List.{List, [], _∷_, _++_}
+use mathlib.Core.Option.{Option, none, some}
 use mathlib.Core.Bool.{true, false, cond}
 use lib.ListN.{replicate}
 use lib.Dec.{ltb}
@@ -12,7 +13,7 @@ use Rattle.bus.specs.Frames.{cmd, rsp, frameOf}
 use Rattle.bus.specs.Holder.{memoryOf}
 use Rattle.bus.specs.declared.Directory.{Directory}
 use Rattle.bridge.specs.Model.{Frame, Call, itsOwn, opening, turn, frame, status, close, read, write}
-use Rattle.bridge.specs.Statement.{Run, Lawful, Transfer, Stands, Done, statusAt, shownAt, showing, answer, Sent, Device, Timeline}
+use Rattle.bridge.specs.Statement.{Run, Lawful, Transfer, Stands, Done, statusAt, shownAt, showing, answer, answerTo, Sent, Device, Timeline}
 use Rattle.bridge.specs.Statement.{range, Arrives, Own, Meanwhile, Unwritten, Premises, runOf}
 
 -- device 5: table 7 has 16 bytes, 100 to 115, and all rights
@@ -154,8 +155,38 @@ pub record LateShows : Type 0 where
   -- the premise that fails: the transfer whose request is answered was closed
   pub closed : (y : Transfer (run late)) × Sent (run late) y 0 1 × (¬ Stands (run late) y 5)
 
+-- ── 01's reckonings of the bridge ──────────────────────────────────────────────────────────────────────────────────
+
+-- one read, and a device that never replies: event k is turn k
+unfoldable pub silence : List Call
+silence = opening itsOwn (read 5 7 6 10) ∷ replicate 61 (turn itsOwn)
+
+-- the first n events that yielded a frame
+unfoldable pub sendsOf : Run → ℕ → List ℕ
+sendsOf r zero = []
+sendsOf r (suc n) = sendsOf r n ++ yielded (answer r n .sent) n
+  where
+    yielded : Option Frame → ℕ → List ℕ
+    yielded none k = []
+    yielded (some f) k = k ∷ []
+
+pub record Reckonings : Type 0 where
+  -- bridge 0 reads 10 bytes, device 5, table 7, offset 6: first 0x1882B8 `06 00 08`; after reply 0x12830, 0x3882B8 `06 01 02`
+  pub first : answer (run alone) 1 .sent ≡ some (frameOf 0x1882B8 (0x06 ∷ 0x00 ∷ 0x08 ∷ []))
+  pub replied : reply 5 0 [] .id ≡ 0x12830
+  pub second : answer (run alone) 3 .sent ≡ some (frameOf 0x3882B8 (0x06 ∷ 0x01 ∷ 0x02 ∷ []))
+  -- silent device, alone: sends on turns 1, 21, 41; gives up on turn 61
+  pub sends : sendsOf (run silence) 62 ≡ 1 ∷ 21 ∷ 41 ∷ []
+  pub notYet : answerTo (run silence) 61 (status 1) .number ≡ 15
+  pub givenUp : answerTo (run silence) 62 (status 1) .number ≡ 16
+  -- 128 bytes accepted, 129 and 0 are 9
+  pub most : answerTo (run []) 0 (opening itsOwn (read 5 7 0 128)) .number ≡ 0
+  pub tooMany : answerTo (run []) 0 (opening itsOwn (read 5 7 0 129)) .number ≡ 9
+  pub zero : answerTo (run []) 0 (opening itsOwn (read 5 7 0 0)) .number ≡ 9
+
 -- all of it
 pub record Examples : Type 0 where
   pub aloneShows : AloneShows
   pub togetherShows : TogetherShows
   pub lateShows : LateShows
+  pub reckonings : Reckonings
