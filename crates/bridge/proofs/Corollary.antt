@@ -2,13 +2,13 @@
 use Prim.Native.Nat.{ℕ, _≤_, _<_}
 use mathlib.Core.Path.{_≡_, sym, _∙_, ap}
 use mathlib.Core.Logic.{_⊎_, inl, inr}
-use mathlib.Core.Bool.{Bool, true, false}
+use mathlib.Core.Bool.{true, false}
 use native.Mathlib.Omega.{arith}
 use native.Mathlib.Decide.{decLt}
 use Rattle.bridge.specs.Model.{isWrite, plain}
-use Rattle.bridge.specs.Statement.{Run, Lawful, Transfer, Stands, Done, GivenUp, statusAt, shownAt, chunks, turns, Replied, Failed}
+use Rattle.bridge.specs.Statement.{Run, Lawful, Transfer, Stands, Done, shownAt, chunks, Replied, Failed}
 use Rattle.bridge.specs.Statement.{ThreeFailed, AllWritten, Claims}
-use Rattle.bridge.specs.Corollaries.{Stays, EndedStays, WiderMeanwhile, Corollaries}
+use Rattle.bridge.specs.Corollaries.{Corollaries}
 use Rattle.bridge.proofs.Search.{cases}
 use Rattle.bridge.proofs.Storages.{turns-mono}
 use Rattle.bridge.proofs.Past.{past-read}

@@ -1,19 +1,18 @@
 -- Laws of bus that demand 3 uses of a device: a CMD gets no reply; a REQ's reply goes to the asked table and offset, and its bytes
 -- are the range; a device that replies has an own number of at most 15.
-use Prim.Native.Nat.{ℕ, zero, suc, _+_, _*_, _≤_}
+use Prim.Native.Nat.{ℕ, zero, suc, _*_, _≤_}
 use mathlib.Core.Path.{_≡_, refl, sym, _∙_, ap}
 use mathlib.Core.List.{List}
-use mathlib.Core.Bool.{Bool, true, false, cond, not, _&&_}
+use mathlib.Core.Bool.{Bool, true, false, _&&_}
 use native.Mathlib.Omega.{arith}
 use lib.ListN.{length, take, drop}
-use lib.Dec.{eqb, leb}
+use lib.Dec.{eqb}
 use borrow.Author.Tests.{eq-eqb, ne-eqb, leb-true, not-false}
-use Rattle.wire.specs.Order.{_if_else_, _orElse_}
 use Rattle.wire.proofs.Orders.{if-zero, else-zero}
 use Rattle.bus.specs.Ident.{idOf, idFrom, idKind}
 use Rattle.bus.specs.Frames.{cmd, req, rsp, frameOf, padded}
 use Rattle.bus.specs.Request.{request, requestOf}
-use Rattle.bus.specs.Holder.{soundTables, soundDirectory, directoryNumber, totalOf, byteOf, requestAt, serveNumber, noAnswer, answerWith}
+use Rattle.bus.specs.Holder.{soundDirectory, directoryNumber, byteOf, requestAt, serveNumber, noAnswer, answerWith}
 use Rattle.bus.specs.Holder.{replyTo, placeOf, actOf, servedBy, serveOf}
 use Rattle.bus.specs.declared.Served.{Served}
 use Rattle.bus.specs.declared.Frame.{Frame}

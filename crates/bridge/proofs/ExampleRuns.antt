@@ -1,27 +1,28 @@
 -- The example runs, proved by computation; what is said of every event is tested over the list of calls.
 use Prim.Native.Nat.{ℕ, zero, suc, _+_, _≤_, _<_}
 use mathlib.Core.Path.{_≡_, refl, sym, _∙_, ap, subst}
-use mathlib.Core.Logic.{_⊎_, inl, inr, _≢_}
+use mathlib.Core.Logic.{_⊎_, inl, inr}
 use mathlib.Core.List.{List, [], _∷_}
 use mathlib.Core.Option.{some}
-use mathlib.Core.Bool.{Bool, true, false, cond, not, _&&_, _||_, false≢true, true≢false}
+use mathlib.Core.Bool.{Bool, true, false, not, _&&_, _||_, false≢true, true≢false}
 use native.Mathlib.Nat.{add-suc, suc-add, add-zero}
 use native.Mathlib.Omega.{arith}
 use native.Mathlib.Decide.{decLt}
-use lib.ListN.{length, getD, replicate, List·getD-eq-default}
+use lib.ListN.{length, getD, List·getD-eq-default}
 use lib.Dec.{eqb, ltb, leb}
 use borrow.Author.Tests.{eqb-true, eqb-false, eq-eqb, lt-ltb, le-ltb, leb-true, not-true}
 use Rattle.bus.specs.Ident.{idOf, idFrom}
 use Rattle.bus.specs.Frames.{frameOf, req}
 use Rattle.bus.specs.Holder.{serveOf, answerWith}
-use Rattle.bridge.specs.Model.{Frame, Lent, itsOwn, other, Call, opening, turn, frame, status, bytes, close, reset, read, contentRefusal}
-use Rattle.bridge.specs.Statement.{Run, Lawful, ShapedLent, Shaped, Transfer, Closing, Stands, Done, shownAt, showing, accepted, turns}
-use Rattle.bridge.specs.Statement.{answer, ledger, matchesCall, Matches, Sent, Awaits, Replied, Device, Timeline, Arrives, Own, range}
-use Rattle.bridge.specs.Statement.{Meanwhile, Unwritten, Arrivals, Premises}
-use Rattle.bridge.specs.Examples.{directory, memory, holding, after, run, reply, Shows, before, alone, unchanging, AloneShows}
+use Rattle.bridge.specs.Model.{Frame, Lent, itsOwn, other, Call, opening, turn, frame, status, bytes, close, reset, read, askDevice, contentRefusal}
+use Rattle.bridge.specs.Statement.{Run, Lawful, ShapedLent, Shaped, Transfer, Closing, Stands, accepted, turns}
+use Rattle.bridge.specs.Statement.{answer, ledger, matchesCall, Matches, Sent, Replied, Device, Timeline, Arrives, Own, range}
+use Rattle.bridge.specs.Statement.{Meanwhile}
+use Rattle.bridge.specs.Examples.{directory, memory, holding, after, run, reply, before, alone, unchanging, AloneShows}
 use Rattle.bridge.specs.Examples.{together, written, TogetherShows, late, slow, LateShows, silence, sendsOf, Reckonings, Examples}
 use Rattle.bridge.proofs.Openers.{everything}
-use Rattle.bridge.proofs.Search.{and-true, cases}
+use Rattle.bridge.proofs.Search.{and-true}
+use Rattle.bridge.proofs.CallKinds.{isFrame}
 
 -- ── tests of every call of a list ──────────────────────────────────────────────────────────────────────────────────
 
@@ -86,15 +87,6 @@ isClosing (status t) = false
 isClosing (bytes l t) = false
 isClosing (close t) = true
 isClosing (reset o) = true
-
-abbrev isFrame : Call → Bool
-isFrame (opening l a) = false
-isFrame (turn l) = false
-isFrame (frame l f) = true
-isFrame (status t) = false
-isFrame (bytes l t) = false
-isFrame (close t) = false
-isFrame (reset o) = false
 
 -- a reply that arrives under device 5's number
 underFive : Run → ℕ → Call → Bool
@@ -209,6 +201,34 @@ before-small : (m : ℕ) → before m ≤ m
 before-small zero = omega arith
 before-small (suc m) = omega arith
 
+-- where replies arrive under device 5's number at two events only, and each is its own
+two-own : (cs : List Call) (t : Timeline) (x : Transfer (run cs)) (n i j : ℕ) (g h : Frame) → askDevice (x .ask) ≡ 5
+    → every (λ k c. not (underFive (run cs) k c) || (eqb k i || eqb k j)) 0 cs ≡ true
+    → run cs .calls i ≡ frame itsOwn g → Own (run cs) t i g → run cs .calls j ≡ frame itsOwn h → Own (run cs) t j h
+    → (m : ℕ) (f : Frame) → Arrives (run cs) x n m f → Own (run cs) t m f
+two-own cs t x n i j g h d e p o q u m f a = go (or-either (eqb m i) (eqb m j)
+    (under-five cs (λ k. eqb k i || eqb k j) e m f (a .call) (a .passes) (a .device ∙ d)))
+  where
+    go : (eqb m i ≡ true) ⊎ (eqb m j ≡ true) → Own (run cs) t m f
+    go (inl z) = its-own (run cs) t i m g f (eqb-true m i z) p o (a .call)
+    go (inr z) = its-own (run cs) t j m h f (eqb-true m j z) q u (a .call)
+
+-- a moment between two replies
+between : (r : Run) (x : Transfer r) (n : ℕ) (t : Timeline) (τ c m c′ m′ : ℕ) → m < n → Replied r x c m → t .answered m ≤ τ → m′ < n
+    → Replied r x c′ m′ → τ ≤ t .when m′ → Meanwhile r x n t τ
+between r x n t τ c m c′ m′ l p a l′ p′ u = record {
+  c = c;
+  m = m;
+  firstBefore = l;
+  first = p;
+  since = a;
+  c′ = c′;
+  m′ = m′;
+  before = l′;
+  last = p′;
+  until = u;
+}
+
 -- ── one asker ──────────────────────────────────────────────────────────────────────────────────────────────────────
 
 alone-x : Transfer (run alone)
@@ -218,11 +238,6 @@ alone-x = record { at = 0; lent = itsOwn; ask = read 5 7 6 10; call = refl; acce
 alone-stands : (y : Transfer (run alone)) (n : ℕ) → y .at < n → Stands (run alone) y n
 unfolding everything every alone reply
 alone-stands y n l = still-stands alone 0 refl y n (omega arith) l
-
-alone-two : (m : ℕ) (f : Frame) → run alone .calls m ≡ frame itsOwn f → contentRefusal (ledger (run alone) m .own) f ≡ 0 → idFrom (f .id) ≡ 5
-    → (eqb m 2 || eqb m 4) ≡ true
-unfolding everything every alone reply underFive
-alone-two = under-five alone (λ k. eqb k 2 || eqb k 4) refl
 
 alone-own2 : Own (run alone) unchanging 2 (reply 5 0 (106 ∷ 107 ∷ 108 ∷ 109 ∷ 110 ∷ 111 ∷ 112 ∷ 113 ∷ []))
 unfolding everything alone reply directory memory
@@ -239,14 +254,6 @@ alone-call2 = refl
 alone-call4 : run alone .calls 4 ≡ frame itsOwn (reply 5 8 (114 ∷ 115 ∷ []))
 unfolding alone
 alone-call4 = refl
-
-alone-own : (m : ℕ) (f : Frame) → Arrives (run alone) alone-x 5 m f → Own (run alone) unchanging m f
-unfolding alone-x
-alone-own m f a = go (or-either (eqb m 2) (eqb m 4) (alone-two m f (a .call) (a .passes) (a .device)))
-  where
-    go : (eqb m 2 ≡ true) ⊎ (eqb m 4 ≡ true) → Own (run alone) unchanging m f
-    go (inl e) = its-own (run alone) unchanging 2 m _ f (eqb-true m 2 e) alone-call2 alone-own2 (a .call)
-    go (inr e) = its-own (run alone) unchanging 4 m _ f (eqb-true m 4 e) alone-call4 alone-own4 (a .call)
 
 alone-sent : Sent (run alone) alone-x 0 1
 unfolding everything alone reply alone-x
@@ -265,7 +272,7 @@ unfolding everything alone reply alone-x
 alone-replied′ = replied-next alone alone-x 1 3 (alone-stands alone-x 4 (omega arith)) alone-sent′ (omega arith) refl
 
 alone-shows : AloneShows
-unfolding everything every shaped shapedLent alone reply alone-x directory memory
+unfolding everything every underFive shaped shapedLent alone reply alone-x directory memory
 alone-shows = record {
   lawful = run-lawful alone refl;
   x = alone-x;
@@ -273,24 +280,13 @@ alone-shows = record {
   stands = alone-stands alone-x 5 (omega arith);
   premises = record {
     arrivals = record {
-      own = alone-own;
+      own = two-own alone unchanging alone-x 5 2 4 _ _ refl refl alone-call2 alone-own2 alone-call4 alone-own4;
       current = λ m f a y c s. alone-stands y m (omega (arith, s .stands .0, before-small m));
     };
     unwritten = record { directory = λ τ τ′ a b. refl; unchanged = λ τ τ′ a b. refl };
   };
   done = refl;
-  meanwhile = record {
-    c = 0;
-    m = 2;
-    firstBefore = omega arith;
-    first = alone-replied;
-    since = omega arith;
-    c′ = 1;
-    m′ = 4;
-    before = omega arith;
-    last = alone-replied′;
-    until = omega arith;
-  };
+  meanwhile = between (run alone) alone-x 5 unchanging 3 0 2 1 4 (omega arith) alone-replied (omega arith) (omega arith) alone-replied′ (omega arith);
   shown = refl;
   same = refl;
 }
@@ -304,11 +300,6 @@ together-x = record { at = 1; lent = itsOwn; ask = read 5 7 6 10; call = refl; a
 together-stands : (y : Transfer (run together)) (n : ℕ) → y .at < n → Stands (run together) y n
 unfolding everything every together reply
 together-stands y n l = still-stands together 0 refl y n (omega arith) l
-
-together-two : (m : ℕ) (f : Frame) → run together .calls m ≡ frame itsOwn f → contentRefusal (ledger (run together) m .own) f ≡ 0
-    → idFrom (f .id) ≡ 5 → (eqb m 28 || eqb m 30) ≡ true
-unfolding everything every together reply underFive
-together-two = under-five together (λ k. eqb k 28 || eqb k 30) refl
 
 abbrev first-reply : Frame
 first-reply = reply 5 128 (1 ∷ 2 ∷ 108 ∷ 109 ∷ 110 ∷ 111 ∷ 112 ∷ 113 ∷ [])
@@ -333,14 +324,6 @@ together-call28 = refl
 together-call30 : run together .calls 30 ≡ frame itsOwn second-reply
 unfolding together
 together-call30 = refl
-
-together-own : (m : ℕ) (f : Frame) → Arrives (run together) together-x 33 m f → Own (run together) written m f
-unfolding together-x
-together-own m f a = go (or-either (eqb m 28) (eqb m 30) (together-two m f (a .call) (a .passes) (a .device)))
-  where
-    go : (eqb m 28 ≡ true) ⊎ (eqb m 30 ≡ true) → Own (run together) written m f
-    go (inl e) = its-own (run together) written 28 m _ f (eqb-true m 28 e) together-call28 together-own28 (a .call)
-    go (inr e) = its-own (run together) written 30 m _ f (eqb-true m 30 e) together-call30 together-own30 (a .call)
 
 -- frames come after the first write
 together-after : (m : ℕ) → isFrame (run together .calls m) ≡ true → 4 ≤ m
@@ -381,7 +364,7 @@ unfolding everything every shaped shapedLent together reply
 together-lawful = run-lawful together refl
 
 together-shows : TogetherShows
-unfolding everything together reply together-x directory memory after
+unfolding everything every underFive together reply together-x directory memory after
 together-shows = record {
   shows = record {
     lawful = together-lawful;
@@ -390,7 +373,7 @@ together-shows = record {
     stands = together-stands together-x 33 (omega arith);
     premises = record {
       arrivals = record {
-        own = together-own;
+        own = two-own together written together-x 33 28 30 _ _ refl refl together-call28 together-own28 together-call30 together-own30;
         current = λ m f a y c s. together-stands y m (omega (arith, s .stands .0, before-small m));
       };
       unwritten = record {
@@ -399,18 +382,7 @@ together-shows = record {
       };
     };
     done = refl;
-    meanwhile = record {
-      c = 0;
-      m = 28;
-      firstBefore = omega arith;
-      first = together-replied;
-      since = omega arith;
-      c′ = 1;
-      m′ = 30;
-      before = omega arith;
-      last = together-replied′;
-      until = omega arith;
-    };
+    meanwhile = between (run together) together-x 33 written 29 0 28 1 30 (omega arith) together-replied (omega arith) (omega arith) together-replied′ (omega arith);
     shown = refl;
     same = refl;
   };
@@ -458,16 +430,6 @@ late-call5 : run late .calls 5 ≡ frame itsOwn (reply 5 0 (100 ∷ 101 ∷ 102 
 unfolding late
 late-call5 = refl
 
-late-one : (m : ℕ) (f : Frame) → run late .calls m ≡ frame itsOwn f → contentRefusal (ledger (run late) m .own) f ≡ 0 → idFrom (f .id) ≡ 5
-    → eqb m 5 ≡ true
-unfolding everything every late reply underFive
-late-one = under-five late (λ k. eqb k 5) refl
-
-late-own : (m : ℕ) (f : Frame) → Arrives (run late) late-x 6 m f → Own (run late) slow m f
-unfolding late-x
-late-own m f a =
-    its-own (run late) slow 5 m _ f (eqb-true m 5 (late-one m f (a .call) (a .passes) (a .device))) late-call5 late-own5 (a .call)
-
 late-sent′ : Sent (run late) late-x 0 4
 unfolding everything late reply late-x
 late-sent′ = record { stands = late-stands 4 (omega arith); isRead = refl; chunk = omega arith; turned = refl; yields = refl }
@@ -481,27 +443,16 @@ unfolding everything every shaped shapedLent late reply
 late-lawful = run-lawful late refl
 
 late-shows : LateShows
-unfolding everything late reply late-x directory memory
+unfolding everything every underFive late reply late-x directory memory
 late-shows = record {
   lawful = late-lawful;
   x = late-x;
   opened = refl;
   stands = late-stands 6 (omega arith);
-  own = late-own;
+  own = two-own late slow late-x 6 5 5 _ _ refl refl late-call5 late-own5 late-call5 late-own5;
   unwritten = record { directory = λ τ τ′ a b. refl; unchanged = λ τ τ′ a b. refl };
   done = refl;
-  meanwhile = record {
-    c = 0;
-    m = 5;
-    firstBefore = omega arith;
-    first = late-replied;
-    since = omega arith;
-    c′ = 0;
-    m′ = 5;
-    before = omega arith;
-    last = late-replied;
-    until = omega arith;
-  };
+  meanwhile = between (run late) late-x 6 slow 5 0 5 0 5 (omega arith) late-replied (omega arith) (omega arith) late-replied (omega arith);
   shown = refl;
   asked = refl;
   closed = (late-closed, late-sent, late-gone);

@@ -1,6 +1,6 @@
 -- Every call keeps a sound state sound, and a refusal changes nothing.
 use Prim.Native.Nat.{ℕ}
-use mathlib.Core.Path.{_≡_, refl, sym, _∙_, ap, subst}
+use mathlib.Core.Path.{_≡_, refl, sym, _∙_, ap}
 use mathlib.Core.Logic.{_≢_}
 use mathlib.Core.List.{List}
 use mathlib.Core.Option.{Option, none, some}
@@ -13,7 +13,7 @@ use Rattle.bridge.specs.Model.{Frame, Bridge, Ask, Call, Result, itsOwn,
 use Rattle.bridge.specs.Model.{holderOf, openRefusal, open′, nextReady, agedBridge, sendFor, turn′, replyRefusal, frame′}
 use Rattle.bridge.specs.Model.{closeRefusal, close′, resetRefusal, reset′, bytes′, bytesRefusal, step, unless, changedBy, keeping, plain}
 use Rattle.bridge.specs.Model.{lentRefusal, lentList, fresh, noSpan, spanOf, span′}
-use Rattle.bridge.specs.Statement.{state, buffer, answer, ticket}
+use Rattle.bridge.specs.Statement.{state, buffer, answer}
 use Rattle.bridge.specs.Calls.{KeepsSound, FreshSound, RefusalsKeep}
 use Rattle.bridge.proofs.Sound.{Sound, sound-true, true-sound}
 use Rattle.bridge.proofs.Status.{span-number}

@@ -1,10 +1,9 @@
 -- Laws of the refusals: what follows from 0, and what an accepted state and buffer leave of a chain.
-use Prim.Native.Nat.{ℕ, zero, suc, _+_, _≤_, _<_}
-use mathlib.Core.Path.{_≡_, refl, sym, _∙_, ap}
+use Prim.Native.Nat.{ℕ, _+_, _≤_, _<_}
+use mathlib.Core.Path.{_≡_, refl, sym}
 use mathlib.Core.Logic.{_≢_}
-use mathlib.Core.Bool.{Bool, true, false, not}
+use mathlib.Core.Bool.{true, false}
 use native.Mathlib.Omega.{arith}
-use lib.Dec.{leb, ltb, eqb}
 use borrow.Author.Tests.{eqb-true, eqb-false, eq-eqb, ne-eqb, le-ltb, ltb-false, leb-false, not-false}
 use Rattle.wire.specs.Order.{_if_else_, _orElse_}
 use Rattle.wire.proofs.Orders.{if-zero, else-zero, else-some}

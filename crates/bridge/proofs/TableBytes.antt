@@ -3,13 +3,11 @@ use Prim.Native.Nat.{ℕ, _+_, _*_, _/_, _≤_, _<_}
 use mathlib.Core.Path.{_≡_, refl, sym, _∙_, ap, ap₂}
 use mathlib.Core.Logic.{_⊎_, inl, inr}
 use mathlib.Core.List.{List}
-use mathlib.Core.Option.{none, some}
-use mathlib.Core.Bool.{Bool, true, false, cond, not, _&&_}
+use mathlib.Core.Option.{some}
+use mathlib.Core.Bool.{true}
 use native.Mathlib.Omega.{arith}
 use lib.ListN.{length, take, drop, length-take, length-drop}
 use lib.Seq.{getD-take, getD-drop, ext-getD, take-take}
-use lib.Dec.{eqb}
-use borrow.Author.Tests.{eqb-true, eq-eqb, ne-eqb, leb-true, not-false}
 use Rattle.bus.specs.Frames.{cmd, req, rsp, frameOf, content}
 use Rattle.bus.specs.Holder.{startOf, requestAt, placeOf, answerWith, serveOf}
 use Rattle.bus.specs.Ident.{idOf, idOffset, idKind, idFrom, idTable}

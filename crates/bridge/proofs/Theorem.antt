@@ -23,7 +23,7 @@ use Rattle.bridge.proofs.Ahead.{reply-accepted, replied-once, replied-o
 use Rattle.bridge.proofs.ShownBytes.{done-progress, hidden, write-hidden, shown-joined, all-got}
 use Rattle.bridge.proofs.Writes.{all-written-done, done-all-written}
 use Rattle.bridge.proofs.Slots.{places, alone, no-holder}
-use Rattle.bridge.proofs.TableBytes.{table-meanwhile, table-since}
+use Rattle.bridge.proofs.TableBytes.{table-meanwhile}
 use Rattle.bridge.proofs.Keeps.{keeps-sound, fresh-keeps, refusals-keep}
 use Rattle.bridge.proofs.Numbers.{opening-numbers, opens-exactly, numbers-in-runs}
 use Rattle.bridge.proofs.Turns.{turn-sends, sends-for-transfers}

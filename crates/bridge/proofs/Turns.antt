@@ -4,12 +4,10 @@ use mathlib.Core.Path.{_≡_, refl, sym, _∙_, ap, ap₂, subst}
 use mathlib.Core.Logic.{_⊎_, inl, inr, _≢_}
 use mathlib.Core.List.{List}
 use mathlib.Core.Option.{Option, none, some}
-use mathlib.Core.Bool.{true, false, not, true≢false}
+use mathlib.Core.Bool.{true, false, true≢false}
 use native.Mathlib.Omega.{arith}
 use native.Mathlib.Decide.{decLt}
 use lib.ListN.{length, take, drop, length-take, length-drop}
-use lib.Dec.{eqb}
-use borrow.Author.Tests.{not-false, eqb-true, eq-eqb}
 use Rattle.bus.specs.Frames.{cmd, req, frameOf}
 use Rattle.bus.specs.Ident.{idOf}
 use Rattle.bus.specs.Request.{request}

@@ -1,7 +1,7 @@
 -- Beside demand 3: what follows from it in a few lines.
 use Prim.Native.Nat.{ℕ, _≤_, _<_}
 use mathlib.Core.Path.{_≡_}
-use mathlib.Core.Bool.{true, false}
+use mathlib.Core.Bool.{false}
 use Rattle.bridge.specs.Model.{isWrite}
 use Rattle.bridge.specs.Statement.{Run, Lawful, Transfer, Stands, Done, GivenUp, shownAt, showing, Replied, Timeline, range, Arrivals}
 use Rattle.bridge.specs.Statement.{Unwritten}

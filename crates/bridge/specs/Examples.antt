@@ -1,11 +1,10 @@
 -- Example runs beside demand 3: its premises hold of runs, and it says what they show; and without the premise on late replies it
 -- would be false.
-use Prim.Native.Nat.{ℕ, zero, suc, _≤_, _<_}
+use Prim.Native.Nat.{ℕ, zero, suc}
 use mathlib.Core.Path.{_≡_}
-use mathlib.Core.Logic.{_≢_}
 use mathlib.Core.List.{List, [], _∷_, _++_}
 use mathlib.Core.Option.{Option, none, some}
-use mathlib.Core.Bool.{true, false, cond}
+use mathlib.Core.Bool.{cond}
 use lib.ListN.{replicate}
 use lib.Dec.{ltb}
 use Rattle.bus.specs.Ident.{idOf}
@@ -13,7 +12,7 @@ use Rattle.bus.specs.Frames.{cmd, rsp, frameOf}
 use Rattle.bus.specs.Holder.{memoryOf}
 use Rattle.bus.specs.declared.Directory.{Directory}
 use Rattle.bridge.specs.Model.{Frame, Call, itsOwn, opening, turn, frame, status, close, read, write}
-use Rattle.bridge.specs.Statement.{Run, Lawful, Transfer, Stands, Done, statusAt, shownAt, showing, answer, answerTo, Sent, Device, Timeline}
+use Rattle.bridge.specs.Statement.{Run, Lawful, Transfer, Stands, Done, shownAt, showing, answer, answerTo, Sent, Device, Timeline}
 use Rattle.bridge.specs.Statement.{range, Arrives, Own, Meanwhile, Unwritten, Premises, runOf}
 
 -- device 5: table 7 has 16 bytes, 100 to 115, and all rights
