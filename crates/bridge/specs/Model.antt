@@ -1,4 +1,4 @@
--- 01 "Bridge": the seven calls as functions of the state, the lent buffer and the arguments.
+-- 01 "Bridge": the seven calls as functions of the state, the lent buffer and the arguments, with the paper's words.
 use Prim.Native.Nat.{ℕ, zero, suc, _+_, _*_, _%_, _-_, min}
 use mathlib.Core.List.{List, [], _∷_, map}
 use mathlib.Core.Option.{Option, none, some}
@@ -92,7 +92,7 @@ abbrev pub askGiven : Ask → List ℕ
 askGiven (read d t o n) = []
 askGiven (write d t o bs) = bs
 
--- device 0..15 and table 0..31 (else 7), 1..128 bytes (else 9), offset plus count at most 2,048 (else 8)
+-- opening takes device 0..15 and table 0..31 (else 7), 1..128 bytes (else 9), offset plus count at most 2,048 (else 8)
 unfoldable pub askRefusal : (device table offset count : ℕ) → ℕ
 askRefusal device table offset count =
     7 if ltb 15 device
@@ -111,7 +111,7 @@ blank = record { ticket = 0; offset = 0; phase = free; kind = 0; device = 0; tab
 unfoldable pub slot : Bridge → ℕ → Slot
 slot s k = getD (s .slots) k blank
 
--- the fresh bridge of an own number: its search starts at slot 0
+-- the FRESH bridge of an own number. Its search starts at slot 0, so slot 3 counts as last served
 unfoldable pub fresh : ℕ → Bridge
 fresh own = record { slots = replicate 4 blank; tickets = 0; own = own; last = 3 }
 
@@ -133,7 +133,7 @@ moved x phase progress sends left = record {
   left = left;
 }
 
--- ── A sound state ──────────────────────────────────────────────────────────────────────────────────────────────────
+-- ── A SOUND state ──────────────────────────────────────────────────────────────────────────────────────────────────
 
 abbrev pub isZero : ℕ → Bool
 isZero n = eqb n 0
@@ -183,10 +183,10 @@ sound s =
 
 -- ── Searches ───────────────────────────────────────────────────────────────────────────────────────────────────────
 
--- the first of `fuel` slots from `start` on, around the four, that passes a test
+-- the first of n slots from `start` on, slot 0 after slot 3, that passes a test
 unfoldable pub firstSlot : (ℕ → Bool) → ℕ → ℕ → Option ℕ
 firstSlot p start zero = none
-firstSlot p start (suc fuel) = cond (p (start % 4)) (some (start % 4)) (firstSlot p (suc start) fuel)
+firstSlot p start (suc n) = cond (p (start % 4)) (some (start % 4)) (firstSlot p (suc start) n)
 
 -- a slot that an opening may take
 abbrev pub givable : Slot → Bool
@@ -204,6 +204,7 @@ holderOf s ticket = firstSlot (λ k. not (isFree (slot s k .phase)) && eqb (slot
 unfoldable pub nextReady : Bridge → Option ℕ
 nextReady s = firstSlot (λ k. isReady (slot s k .phase)) (suc (s .last)) 4
 
+-- whether a search failed, and what it found
 abbrev pub isNone : Option ℕ → Bool
 isNone none = true
 isNone (some k) = false
@@ -244,20 +245,22 @@ unless n r s b = cond (eqb n 0) r (record { answer = plain n; state = s; buffer 
 abbrev pub changedBy : ℕ → Bridge → Bridge → Changed
 changedBy n after before = record { bridge = cond (eqb n 0) after before; number = n }
 
--- 11, 10 of a call that takes a buffer, of this length, for its transfers
+-- 11: state unsound; 10: lent memory of wrong length. A lent buffer of exactly 512 bytes; n is its length
 unfoldable pub lentRefusal : Bridge → ℕ → ℕ
 lentRefusal s n = 11 if not (sound s) else 10 if not (eqb n 512) else 0
 
 -- ── Opening ────────────────────────────────────────────────────────────────────────────────────────────────────────
 
--- Order: 11, 10, 7, 9, 8, 12, 13
+-- 12 / 13: no free slot / tickets used up
 unfoldable pub roomRefusal : Bridge → ℕ
 roomRefusal s = 12 if isNone (lowestFree s) else 13 if leb 4294967295 (s .tickets) else 0
 
+-- Order: 11, 10, 7, 9, 8, 12, 13
 unfoldable pub openRefusal : Bridge → ℕ → Ask → ℕ
 openRefusal s n a =
     lentRefusal s n orElse askRefusal (askDevice a) (askTable a) (askOffset a) (askCount a) orElse roomRefusal s
 
+-- the slot that it takes
 unfoldable pub opened : Ask → ℕ → Slot
 opened a ticket = record {
   ticket = ticket;
@@ -272,11 +275,11 @@ opened a ticket = record {
   left = 0;
 }
 
--- a write's bytes are copied into its slot: 128 per slot
+-- a write's bytes are copied into its slot (128 bytes of the buffer per slot), and their number is the count
 abbrev pub withGiven : List ℕ → ℕ → List ℕ → List ℕ
 withGiven b k given = sets b (128 * k) given
 
--- it takes the lowest free slot and the next ticket
+-- it takes the lowest free slot and the next ticket, from 1 to 4,294,967,295
 unfoldable pub open′ : Bridge → List ℕ → Ask → Result
 open′ s b a = unless (openRefusal s (length b) a) (record {
   answer = record { number = 0; ticket = suc (s .tickets); sent = none; shown = [] };
@@ -297,11 +300,11 @@ ticked x =
 unfoldable pub aged : Slot → Slot
 aged x = cond (isWaiting (x .phase)) (ticked x) x
 
--- a turn first ages each waiting read
+-- of all slots
 unfoldable pub agedBridge : Bridge → Bridge
 agedBridge s = withSlots s (map aged (s .slots))
 
--- eight bytes a frame, the last shorter: the length of the part that starts at `progress`
+-- a transfer goes in order, eight bytes a frame, the last shorter: the length of the part that starts at `progress`
 unfoldable pub chunkLen : ℕ → ℕ → ℕ
 chunkLen count progress = min 8 (count - progress)
 
@@ -321,7 +324,7 @@ writeFrame own k x b = frameOf (idOf (x .offset + x .progress) cmd own (x .devic
 unfoldable pub sentFrame : ℕ → ℕ → Slot → List ℕ → Frame
 sentFrame own k x b = cond (carries (x .kind)) (writeFrame own k x b) (readFrame own k x)
 
--- past the current eight bytes: ready for the next, with no sends counted, or done
+-- past the current eight bytes: the next are ready with no sends counted, or the transfer is done
 unfoldable pub advanced : Slot → Slot
 advanced x = moved x (cond (ltb (x .progress + 8) (x .count)) ready done) (min (x .progress + 8) (x .count)) 0 0
 
@@ -342,30 +345,31 @@ sendFor s b (some k) = record {
   buffer = b;
 }
 
--- refusals 11, 10
+-- a turn (refusals 11, 10) first ages each waiting read, then sends
 unfoldable pub turn′ : Bridge → List ℕ → Result
 turn′ s b = unless (lentRefusal s (length b)) (sendFor (agedBridge s) b (nextReady (agedBridge s))) s b
 
 -- ── Frame ──────────────────────────────────────────────────────────────────────────────────────────────────────────
 
--- 1, 2, 3, 4, 5 (only RSP served)
+-- of an incoming frame: 1, 2, 3, 4, 5 (only RSP served)
 unfoldable pub contentRefusal : ℕ → Frame → ℕ
 contentRefusal own f = headNumber own f orElse (5 if not (eqb (idKind (f .id)) rsp) else 0)
 
--- it matches if its table is 6 and it has the device, reply offset and length that a waiting read awaits
+-- it MATCHES if its table is 6 and it has the device, reply offset and length that a waiting read awaits
 unfoldable pub awaits : Bridge → Frame → ℕ → Bool
 awaits s f k =
     isWaiting (slot s k .phase) && eqb (idTable (f .id)) 6 && eqb (idFrom (f .id)) (slot s k .device)
     && eqb (idOffset (f .id)) (128 * k + slot s k .progress) && eqb (f .len) (chunkLen (slot s k .count) (slot s k .progress))
 
+-- the slot of that read
 unfoldable pub awaiting : Bridge → Frame → Option ℕ
 awaiting s f = firstSlot (awaits s f) 0 4
 
--- 11, 10, 1, 2, 3, 4, 5, 17
+-- an incoming frame: 11, 10, 1, 2, 3, 4, 5, 17 (reply matches no waiting read)
 unfoldable pub replyRefusal : Bridge → ℕ → Frame → ℕ
 replyRefusal s n f = lentRefusal s n orElse contentRefusal (s .own) f orElse (17 if isNone (awaiting s f) else 0)
 
--- it is stored; the next eight bytes are ready, or the read is done
+-- it is stored; the next eight bytes are ready with no sends counted, or the read is done
 unfoldable pub frame′ : Bridge → List ℕ → Frame → Result
 frame′ s b f = unless (replyRefusal s (length b) f) (record {
   answer = plain 0;
@@ -378,7 +382,7 @@ frame′ s b f = unless (replyRefusal s (length b) f) (record {
 
 -- ── Status, bytes, closing, reset ──────────────────────────────────────────────────────────────────────────────────
 
--- of a held slot: 0 done, 16 gave up, 15 not finished
+-- of a held slot: 0 done, 16 gave up, 15 not finished. Done write means sent, no more
 unfoldable pub phaseNumber : ℕ → ℕ
 phaseNumber phase = 0 if eqb phase done else 16 if eqb phase gaveUp else 15
 
@@ -413,7 +417,7 @@ unfoldable pub bytes′ : Bridge → List ℕ → ℕ → Answer
 bytes′ s b t =
     record { number = span′ s (length b) t .number; ticket = 0; sent = none; shown = partOf b (span′ s (length b) t) }
 
--- closing (11, 14) frees the slot in any state
+-- closing (11, 14) frees the slot in any state, and freed slots are used again
 unfoldable pub closeRefusal : Bridge → ℕ → ℕ
 closeRefusal s t = 11 if not (sound s) else 14 if isNone (holderOf s t) else 0
 
