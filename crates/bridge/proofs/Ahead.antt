@@ -9,12 +9,12 @@ use Rattle.bridge.specs.Model.{aged, askCount, isWaiting, isReady, asks}
 use Rattle.bridge.specs.Statement.{Run, state, buffer, answer, Lawful, Transfer, slotOf, Stands, turns, chunks, Sent, Matches, Awaits}
 use Rattle.bridge.specs.Statement.{Replied, ThreeFailed}
 use Rattle.bridge.proofs.Search.{none-some}
-use Rattle.bridge.proofs.Sound.{SlotOk, okFree, okReady, okWaiting, okDone, okGaveUp, ReadyOk, ready-ok, sent-read, aged-same}
+use Rattle.bridge.proofs.Sound.{ReadyOk, ready-ok, sent-read, aged-same}
 use Rattle.bridge.proofs.Sound.{advanced-same}
 use Rattle.bridge.proofs.CallKinds.{Kind, nothing, opens, sends, idles, takes, closes, resets, isFrame, awaits-true, WaitOk, wait-ok}
 use Rattle.bridge.proofs.Effects.{idle, elsewhere}
 use Rattle.bridge.proofs.Storages.{turns-same, turns-more, turns-none, turns-step, kindAt}
-use Rattle.bridge.proofs.Runs.{okAt, openedAt, view, Held, held, Move, stays, waits, served, gets, move, move-same, along-from}
+use Rattle.bridge.proofs.Runs.{full-done, okAt, openedAt, view, Held, held, Move, stays, waits, served, gets, move, move-same, along-from}
 use Rattle.bridge.proofs.Runs.{stands-before, stands-back}
 use Rattle.bridge.proofs.Ages.{AgeCase, asleep, ticks, again, expires, ageCase, aged-keeps, phases}
 use Rattle.bridge.proofs.Sends.{MatchesOk, matches-ok, matches-true, turn-unfit, fits-awaited, awaited-matches, sends-own}
@@ -330,24 +330,14 @@ module _ (r : Run) (w : Lawful r) (x : Transfer r) where
 
   -- the last chunk's reply makes the read done
   pub replied-done : (n m : ℕ) → Stands r x n → m < n → Replied r x (chunks r x - 1) m → view r x n .phase ≡ done
-  replied-done n m s l p = go (okAt r w x n)
+  replied-done n m s l p = full-done r w x n s full
     where
-      h : Held r x n
-      h = held r w x n s
-
       a : (view r x m .progress ≡ 8 * (chunks r x - 1)) × (view r x (suc m) .progress ≡ min (8 * (chunks r x - 1) + 8) (askCount (x .ask)))
           × (asks (view r x (suc m) .kind) ≡ true)
       a = reply-taken (chunks r x - 1) m n p l s
 
       full : askCount (x .ask) ≤ view r x n .progress
       full = omega (arith, a .1, grown (suc m) n (omega (arith, p .awaits .stands .0)) (a .2) l s .progress, openedAt r w x .law .some)
-
-      go : SlotOk (state r n .tickets) (view r x n) → view r x n .phase ≡ done
-      go (okFree q) = absurd (omega (arith, ap (λ (y : Slot). y .ticket) q, h .ticket, openedAt r w x .ticketed))
-      go (okReady q c m i v l) = absurd (omega (arith, full, m .below, h .count))
-      go (okWaiting q c m v i i′ l l′) = absurd (omega (arith, full, m .below, h .count))
-      go (okDone q c p i l) = q
-      go (okGaveUp q c m v i l) = absurd (omega (arith, full, m .below, h .count))
 
   -- three failed sends make it give up
   pub failed-thrice : (n : ℕ) → Stands r x n → ThreeFailed r x n → view r x n .phase ≡ gaveUp

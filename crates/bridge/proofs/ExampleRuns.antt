@@ -14,9 +14,9 @@ use borrow.Author.Tests.{eqb-true, eqb-false, eq-eqb, lt-ltb, le-ltb, leb-true, 
 use Rattle.bus.specs.Ident.{idOf, idFrom}
 use Rattle.bus.specs.Frames.{frameOf, req}
 use Rattle.bus.specs.Holder.{serveOf, answerWith}
-use Rattle.bridge.specs.Model.{Frame, Lent, itsOwn, other, Call, opening, turn, frame, status, bytes, close, reset, read, askDevice, contentRefusal}
+use Rattle.bridge.specs.Model.{Frame, Lent, itsOwn, other, Call, opening, turn, frame, status, bytes, close, reset, read, isWrite, askDevice, contentRefusal}
 use Rattle.bridge.specs.Statement.{Run, Lawful, ShapedLent, Shaped, Transfer, Closing, Stands, accepted, turns}
-use Rattle.bridge.specs.Statement.{answer, ledger, matchesCall, Matches, Sent, Replied, Device, Timeline, Arrives, Own, range}
+use Rattle.bridge.specs.Statement.{chunks, requestFrame, answer, ledger, matchesCall, Matches, Sent, Replied, Device, Timeline, Arrives, Own, range}
 use Rattle.bridge.specs.Statement.{Meanwhile}
 use Rattle.bridge.specs.Examples.{directory, memory, holding, after, run, reply, before, alone, unchanging, AloneShows}
 use Rattle.bridge.specs.Examples.{together, written, TogetherShows, late, slow, LateShows, silence, sendsOf, Reckonings, Examples}
@@ -156,15 +156,16 @@ module _ (cs : List Call) where
       go (reset o) e = absurd (false≢true e)
 
   -- a read that sent its request at the turn right before the reply
-  replied-next : (x : Transfer (run cs)) (c j : ℕ) → Stands (run cs) x (suc j) → Sent (run cs) x c j → turns (run cs) j (suc j) < 20
-      → Matches (run cs) x c (suc j) → Replied (run cs) x c (suc j)
-  replied-next x c j s t l e = record {
+  replied-next : (x : Transfer (run cs)) (c j : ℕ) → ((n : ℕ) → x .at < n → Stands (run cs) x n) → x .at < j → isWrite (x .ask) ≡ false
+      → c < chunks (run cs) x → accepted (run cs) j ≡ true → answer (run cs) j .sent ≡ some (requestFrame (run cs) x c j)
+      → turns (run cs) j (suc j) < 20 → Matches (run cs) x c (suc j) → Replied (run cs) x c (suc j)
+  replied-next x c j s g rd l a y t e = record {
     awaits = record {
-      stands = s;
+      stands = s (suc j) (omega arith);
       j = j;
       before = omega arith;
-      sent = t;
-      soon = l;
+      sent = record { stands = s j g; isRead = rd; chunk = l; turned = a; yields = y };
+      soon = t;
       unmatched = λ m a b. absurd (omega arith);
     };
     matches = e;
@@ -255,21 +256,13 @@ alone-call4 : run alone .calls 4 ≡ frame itsOwn (reply 5 8 (114 ∷ 115 ∷ []
 unfolding alone
 alone-call4 = refl
 
-alone-sent : Sent (run alone) alone-x 0 1
-unfolding everything alone reply alone-x
-alone-sent = record { stands = alone-stands alone-x 1 (omega arith); isRead = refl; chunk = omega arith; turned = refl; yields = refl }
-
 alone-replied : Replied (run alone) alone-x 0 2
 unfolding everything alone reply alone-x
-alone-replied = replied-next alone alone-x 0 1 (alone-stands alone-x 2 (omega arith)) alone-sent (omega arith) refl
-
-alone-sent′ : Sent (run alone) alone-x 1 3
-unfolding everything alone reply alone-x
-alone-sent′ = record { stands = alone-stands alone-x 3 (omega arith); isRead = refl; chunk = omega arith; turned = refl; yields = refl }
+alone-replied = replied-next alone alone-x 0 1 (alone-stands alone-x) (omega arith) refl (omega arith) refl refl (omega arith) refl
 
 alone-replied′ : Replied (run alone) alone-x 1 4
 unfolding everything alone reply alone-x
-alone-replied′ = replied-next alone alone-x 1 3 (alone-stands alone-x 4 (omega arith)) alone-sent′ (omega arith) refl
+alone-replied′ = replied-next alone alone-x 1 3 (alone-stands alone-x) (omega arith) refl (omega arith) refl refl (omega arith) refl
 
 alone-shows : AloneShows
 unfolding everything every underFive shaped shapedLent alone reply alone-x directory memory
@@ -343,21 +336,13 @@ together-same τ w =
     let u : τ < 33 = omega (arith, w .until, w .before) in
     rw (le-ltb τ 4 l, lt-ltb τ 33 u)
 
-together-sent : Sent (run together) together-x 0 27
-unfolding everything together reply together-x
-together-sent = record { stands = together-stands together-x 27 (omega arith); isRead = refl; chunk = omega arith; turned = refl; yields = refl }
-
 together-replied : Replied (run together) together-x 0 28
 unfolding everything together reply together-x
-together-replied = replied-next together together-x 0 27 (together-stands together-x 28 (omega arith)) together-sent (omega arith) refl
-
-together-sent′ : Sent (run together) together-x 1 29
-unfolding everything together reply together-x
-together-sent′ = record { stands = together-stands together-x 29 (omega arith); isRead = refl; chunk = omega arith; turned = refl; yields = refl }
+together-replied = replied-next together together-x 0 27 (together-stands together-x) (omega arith) refl (omega arith) refl refl (omega arith) refl
 
 together-replied′ : Replied (run together) together-x 1 30
 unfolding everything together reply together-x
-together-replied′ = replied-next together together-x 1 29 (together-stands together-x 30 (omega arith)) together-sent′ (omega arith) refl
+together-replied′ = replied-next together together-x 1 29 (together-stands together-x) (omega arith) refl (omega arith) refl refl (omega arith) refl
 
 together-lawful : Lawful (run together)
 unfolding everything every shaped shapedLent together reply
@@ -399,7 +384,7 @@ late-x : Transfer (run late)
 unfolding everything late reply
 late-x = record { at = 3; lent = itsOwn; ask = read 5 7 8 8; call = refl; accepted = refl }
 
-late-stands : (n : ℕ) → 3 < n → Stands (run late) late-x n
+late-stands : (n : ℕ) → late-x .at < n → Stands (run late) late-x n
 unfolding everything every late reply late-x
 late-stands n l = still-stands late 3 refl late-x n (omega arith) l
 
@@ -430,13 +415,9 @@ late-call5 : run late .calls 5 ≡ frame itsOwn (reply 5 0 (100 ∷ 101 ∷ 102 
 unfolding late
 late-call5 = refl
 
-late-sent′ : Sent (run late) late-x 0 4
-unfolding everything late reply late-x
-late-sent′ = record { stands = late-stands 4 (omega arith); isRead = refl; chunk = omega arith; turned = refl; yields = refl }
-
 late-replied : Replied (run late) late-x 0 5
 unfolding everything late reply late-x
-late-replied = replied-next late late-x 0 4 (late-stands 5 (omega arith)) late-sent′ (omega arith) refl
+late-replied = replied-next late late-x 0 4 late-stands (omega arith) refl (omega arith) refl refl (omega arith) refl
 
 late-lawful : Lawful (run late)
 unfolding everything every shaped shapedLent late reply

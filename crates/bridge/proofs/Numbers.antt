@@ -8,12 +8,12 @@ use mathlib.Core.Bool.{Bool, true, false, cond, not, _&&_, _||_, false≢true, t
 use native.Mathlib.Omega.{arith}
 use lib.ListN.{length}
 use lib.Dec.{leb, ltb, eqb}
-use borrow.Author.Tests.{eqb-true, eqb-false, eq-eqb, lt-ltb, le-leb, ltb-true, ltb-false, leb-true}
+use borrow.Author.Tests.{eqb-true, eqb-false, eq-eqb, ne-eqb, lt-ltb, le-leb, ltb-true, ltb-false, leb-true}
 use Rattle.bus.specs.Frames.{rsp, headNumber}
 use Rattle.bus.specs.Ident.{idSpare, idTo, idKind}
 use Rattle.wire.specs.Order.{_if_else_, _orElse_}
 use Rattle.wire.specs.First.{First, Zero}
-use Rattle.bridge.specs.Model.{askRefusal, roomRefusal, resetRefusal}
+use Rattle.bridge.specs.Model.{askRefusal, roomRefusal, resetRefusal, bytes, bytes′, span′, bytesRefusal}
 use Rattle.bridge.specs.Model.{Frame, turn, frame, close, reset, waiting, isWrite, turn′, agedBridge, nextReady, lentRefusal, frame′}
 use Rattle.bridge.specs.Model.{replyRefusal, close′, closeRefusal, holderOf, reset′, contentRefusal, awaits, awaiting, Bridge, free}
 use Rattle.bridge.specs.Model.{Ask, Call, Lent, Result, itsOwn, other, opening, askDevice, askTable, askOffset, askCount, slot, sound}
@@ -491,6 +491,10 @@ module _ (r : Run) (w : Lawful r) (n : ℕ) where
       let c = first-if 11 (ltb 15 o) 0 m (15 < o) Zero (ltb-test 15 o) (λ z. (sym, sym)) in
       (λ u. c .0 (sym q ∙ u), λ p. q ∙ c .1 p)
 
+  other-bytes : (b : List ℕ) (t : ℕ) → length b ≢ 512 → step (state r n) (buffer r n) (bytes (other b) t) .answer ≡ plain 10
+  unfolding step bytes′ span′ bytesRefusal _if_else_
+  other-bytes b t d = rw (ss, ne-eqb (length b) 512 d)
+
   -- for the call that is made
   made : (c : Call) (m : ℕ) (Q : Type 0) → r .calls n ≡ c → (step (state r n) (buffer r n) c .answer .number ≡ m) ↔ Q
       → (answer r n .number ≡ m) ↔ Q
@@ -506,6 +510,7 @@ module _ (r : Run) (w : Lawful r) (n : ℕ) where
         openedAt r w (record { at = n; lent = l; ask = a; call = e; accepted = z }) .ticketed ∙ ap suc (sym (agrees r w n .given));
     turns = λ l e m. made (turn l) m _ e (turns-number l (shaped-as (turn l) e) m);
     frames = λ l f e m. made (frame l f) m _ e (frames-number l f e (shaped-as (frame l f) e) m);
+    others = λ b t e. ap (λ (c : Call). step (state r n) (buffer r n) c .answer) e ∙ other-bytes b t (shaped-as (bytes (other b) t) e);
     closes = λ t e m. made (close t) m _ e (closes-number t m);
     resets = λ o e m. made (reset o) m _ e (resets-number o m);
   }

@@ -11,13 +11,13 @@ use lib.Seq.{sets}
 use lib.Dec.{eqb}
 use borrow.Author.Tests.{eq-eqb}
 use Rattle.bus.specs.Frames.{content}
-use Rattle.bridge.specs.Model.{Frame, ready, isFree, Bridge, Slot, Ask, Call, Lent, Result, itsOwn, opening, turn, frame, close, reset}
+use Rattle.bridge.specs.Model.{Frame, ready, done, isFree, Bridge, Slot, Ask, Call, Lent, Result, itsOwn, opening, turn, frame, close, reset}
 use Rattle.bridge.specs.Model.{askKind, askDevice, askTable, askOffset, askCount, askGiven, slot, aged, advanced, sentSlot, sentFrame}
 use Rattle.bridge.specs.Model.{opened, awaits, contentRefusal, step}
 use Rattle.bridge.specs.Statement.{Run, storage, state, buffer, answer, Lawful, Transfer, ticket, slotOf, Closing, Stands, accepted}
 use Rattle.bridge.specs.Statement.{ledger}
 use Rattle.bridge.proofs.Search.{Lowest}
-use Rattle.bridge.proofs.Sound.{held-free, SlotOk, Sound, Same, same-refl, ReadyOk, aged-same, advanced-same, sent-same}
+use Rattle.bridge.proofs.Sound.{SlotOk, okFree, okReady, okWaiting, okDone, okGaveUp, held-free, Sound, Same, same-refl, ReadyOk, aged-same, advanced-same, sent-same}
 use Rattle.bridge.proofs.Sound.{slot-set-same, no-ticket}
 use Rattle.bridge.proofs.CallKinds.{Kind, nothing, opens, sends, idles, takes, closes, resets, LawfulAsk, freeAt, WaitOk, AwaitsOk}
 use Rattle.bridge.proofs.CallKinds.{isOpening, isNoted}
@@ -193,7 +193,21 @@ module _ (r : Run) (w : Lawful r) (x : Transfer r) where
   pub held-slot : (n : ℕ) → Stands r x n → isFree (view r x n .phase) ≡ false
   held-slot n s = held-free (state r n .tickets) (view r x n) (okAt n) (omega (arith, held n s .ticket, openedAt r w x .ticketed))
 
-  -- induction along a standing transfer's life, from any event b on
+  -- a standing transfer that got to its count is done
+  pub full-done : (n : ℕ) → Stands r x n → askCount (x .ask) ≤ view r x n .progress → view r x n .phase ≡ done
+  full-done n s full = go (okAt n)
+    where
+      h : Held r x n
+      h = held n s
+
+      go : SlotOk (state r n .tickets) (view r x n) → view r x n .phase ≡ done
+      go (okFree q) = absurd (omega (arith, ap (λ (y : Slot). y .ticket) q, h .ticket, openedAt r w x .ticketed))
+      go (okReady q c m i v l) = absurd (omega (arith, m .below, h .count))
+      go (okWaiting q c m v i i′ l l′) = absurd (omega (arith, m .below, h .count))
+      go (okDone q c p i l) = q
+      go (okGaveUp q c m v i l) = absurd (omega (arith, m .below, h .count))
+
+  -- induction over a standing transfer's events, from any event b on
   pub along-from : (b : ℕ) → x .at < b → (P : ℕ → Type 0) → P b
       → ((n : ℕ) → Stands r x (suc n) → b ≤ n → Held r x n → Move r x n → P n → P (suc n)) → (n : ℕ) → b ≤ n → Stands r x n → P n
   along-from b at P base step zero l s = absurd (omega arith)

@@ -18,10 +18,10 @@ use Rattle.bridge.specs.Statement.{commandFrame, Wrote, AllWritten}
 use Rattle.bridge.proofs.ReadWrite.{kinds-clash, carries-of}
 use Rattle.bridge.proofs.FrameLaws.{len-inside}
 use Rattle.bridge.proofs.Search.{none-some}
-use Rattle.bridge.proofs.Sound.{SlotOk, okFree, okReady, okWaiting, okDone, okGaveUp, Same, ReadyOk, aged-same, sent-write}
+use Rattle.bridge.proofs.Sound.{Same, ReadyOk, aged-same, sent-write}
 use Rattle.bridge.proofs.Effects.{idle, elsewhere, getD-sets-in}
 use Rattle.bridge.proofs.Storages.{storage-sound, own-is}
-use Rattle.bridge.proofs.Runs.{okAt, openedAt, view, Held, held, Move, stays, waits, served, gets, along-from, stands-back}
+use Rattle.bridge.proofs.Runs.{full-done, okAt, openedAt, view, Held, held, Move, stays, waits, served, gets, along-from, stands-back}
 use Rattle.bridge.proofs.Ages.{aged-keeps}
 use Rattle.bridge.proofs.Past.{advanced-progress}
 use Rattle.bridge.proofs.Ahead.{moveAt}
@@ -251,11 +251,8 @@ module _ (r : Run) (w : Lawful r) (x : Transfer r) (wr : isWrite (x .ask) ≡ tr
       omega (arith, e, m, passed n s a c l′)
 
   pub all-written-done : (n : ℕ) → Stands r x n → AllWritten r x n → view r x n .phase ≡ done
-  all-written-done n s a = go (okAt r w x n)
+  all-written-done n s a = full-done r w x n s full
     where
-      h : Held r x n
-      h = held r w x n s
-
       last : chunks r x - 1 < chunks r x
       last = omega (arith, openedAt r w x .law .some)
 
@@ -267,13 +264,6 @@ module _ (r : Run) (w : Lawful r) (x : Transfer r) (wr : isWrite (x .ask) ≡ tr
         progress-le (suc (a .j (chunks r x - 1))) n (omega (arith, a .wrote (chunks r x - 1) last .since))
             (a .before (chunks r x - 1) last) s,
       )
-
-      go : SlotOk (state r n .tickets) (view r x n) → view r x n .phase ≡ done
-      go (okFree q) = absurd (omega (arith, ap (λ (y : Slot). y .ticket) q, h .ticket, openedAt r w x .ticketed))
-      go (okReady q c m i v l) = absurd (omega (arith, full, m .below, h .count))
-      go (okWaiting q c m v i i′ l l′) = absurd (omega (arith, full, m .below, h .count))
-      go (okDone q c p i l) = q
-      go (okGaveUp q c m v i l) = absurd (omega (arith, full, m .below, h .count))
 
   pub done-all-written : (n : ℕ) → Stands r x n → view r x n .progress ≡ askCount (x .ask) → AllWritten r x n
   done-all-written n s e =

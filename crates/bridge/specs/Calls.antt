@@ -10,7 +10,7 @@ use Rattle.bus.specs.Frames.{cmd, req, rsp, frameOf}
 use Rattle.bus.specs.Ident.{idOf, idSpare, idTo, idKind}
 use Rattle.bus.specs.Request.{request}
 use Rattle.wire.specs.First.{First, Zero}
-use Rattle.bridge.specs.Model.{Frame, Bridge, Slot, free, ready, asks, carries, Answer, Ask, Call, Lent, itsOwn, opening, turn, frame, close}
+use Rattle.bridge.specs.Model.{Frame, Bridge, Slot, free, ready, asks, carries, Answer, Ask, Call, Lent, itsOwn, other, opening, turn, frame, bytes, close}
 use Rattle.bridge.specs.Model.{reset, askDevice, askTable, askOffset, askCount, isWrite, slot, sound, aged, chunkLen, fresh, plain, step}
 use Rattle.bridge.specs.Statement.{Replied, ticket, Run, Lawful, Transfer, Stands, slotOf, lastServed, answer, accepted, ledger}
 use Rattle.bridge.specs.Statement.{chunks, requestFrame, commandFrame}
@@ -137,12 +137,13 @@ FrameInRun r n l f =
     (First (¬ ((x : Transfer r) × (c : ℕ) × Replied r x c n)) 17
     Zero))))))
 
--- of call n, whichever it is; status and the bytes call are told by demand 3
+-- of call n, whichever it is; status, and the bytes call with the bridge's buffer, are told by demand 3
 pub record NumbersInRun (r : Run) (n : ℕ) : Type 0 where
   pub opens : (l : Lent) (a : Ask) → r .calls n ≡ opening l a → (m : ℕ) → (answer r n .number ≡ m) ↔ OpeningInRun r n l a m
   pub tickets : (l : Lent) (a : Ask) → r .calls n ≡ opening l a → answer r n .number ≡ 0 → answer r n .ticket ≡ suc (ledger r n .given)
   pub turns : (l : Lent) → r .calls n ≡ turn l → (m : ℕ) → (answer r n .number ≡ m) ↔ First (l ≢ itsOwn) 10 Zero m
   pub frames : (l : Lent) (f : Frame) → r .calls n ≡ frame l f → (m : ℕ) → (answer r n .number ≡ m) ↔ FrameInRun r n l f m
+  pub others : (b : List ℕ) (t : ℕ) → r .calls n ≡ bytes (other b) t → answer r n ≡ plain 10
   pub closes : (t : ℕ) → r .calls n ≡ close t → (m : ℕ) →
       (answer r n .number ≡ m) ↔ First ((x : Transfer r) → Stands r x n → ticket r x ≢ t) 14 Zero m
   pub resets : (o : ℕ) → r .calls n ≡ reset o → (m : ℕ) → (answer r n .number ≡ m) ↔ First (15 < o) 11 Zero m
