@@ -5,6 +5,8 @@ ghost use Rattle.bridge.specs.Corollaries.{Corollaries};
 ghost use Rattle.bridge.specs.Calls.{Calls};
 ghost use Rattle.bridge.specs.Examples.{Examples};
 
+mod state;
+
 // A slot's phases.
 pub const FREE: u8 = 0;
 
