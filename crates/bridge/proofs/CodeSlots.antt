@@ -11,7 +11,8 @@ use lib.Dec.{eqb, leb, ltb}
 use borrow.Author.Needs.{length-unmapped}
 use borrow.Author.Tests.{le-leb, lt-leb, lt-ltb, le-ltb, eq-eqb}
 use Rattle.bridge.specs.Model.{Bridge, Slot, waiting, ready, done, gaveUp, isReady, isWaiting, blank, slot, moved, soundSlot, soundSlots}
-use Rattle.bridge.specs.Model.{absent, distinct, sound, firstSlot, nextReady, ticked, aged, advanced}
+use Rattle.bridge.specs.Model.{absent, distinct, sound, firstSlot, nextReady, lowestFree, holderOf, awaiting, orFour}
+use Rattle.bridge.specs.Model.{Frame, isNone, from, ticked, aged, advanced}
 
 -- ── Four slots one by one ──────────────────────────────────────────────────────────────────────────────────────────
 
@@ -93,6 +94,87 @@ module _ (p : ℕ → Bool) (s i : ℕ) where
 pub whole : (b : Bridge) → nextReady b ≡ firstSlot (readyIn (b .slots)) (b .last + 1) 4
 unfolding nextReady slot
 whole b = ap (λ (n : ℕ). firstSlot (readyIn (b .slots)) n 4) (sym (add-one (b .last)))
+
+-- a search finds nothing, or one of the four slots
+abbrev pub Small : Option ℕ → Type 0
+Small none = Unit {0}
+Small (some k) = k < 4
+
+small-first : (p : ℕ → Bool) (start fuel : ℕ) → Small (firstSlot p start fuel)
+unfolding firstSlot
+small-first p start zero = tt
+small-first p start (suc fuel) = go (p (start % 4)) (small-first p (suc start) fuel)
+  where
+    go : (b : Bool) → Small (firstSlot p (suc start) fuel) → Small (cond b (some (start % 4)) (firstSlot p (suc start) fuel))
+    go true h = omega arith
+    go false h = h
+
+free-small : (s : Bridge) → Small (lowestFree s)
+unfolding lowestFree
+free-small s = small-first _ 0 4
+
+holder-small : (s : Bridge) (t : ℕ) → Small (holderOf s t)
+unfolding holderOf
+holder-small s t = small-first _ 0 4
+
+ready-small : (s : Bridge) → Small (nextReady s)
+unfolding nextReady
+ready-small s = small-first _ (suc (s .last)) 4
+
+awaiting-small : (s : Bridge) (f : Frame) → Small (awaiting s f)
+unfolding awaiting
+awaiting-small s f = small-first _ 0 4
+
+-- what the code has of a search: the slot's number, or 4
+is-none : (o : Option ℕ) (k : ℕ) → Small o → k ≡ orFour o → k ≡ 4 → o ≡ none
+is-none none k m e h = refl
+is-none (some j) k m e h = absurd (omega arith)
+
+is-some : (o : Option ℕ) (k : ℕ) → Small o → k ≡ orFour o → (k ≡ 4 → ⊥) → (o ≡ some k) × (k < 4)
+is-some none k m e h = absurd (h e)
+is-some (some j) k m e h = (ap some (sym e), omega arith)
+
+from-some : (o : Option ℕ) (k : ℕ) → Small o → k ≡ orFour o → isNone o ≡ false → (k ≡ from o) × (k < 4)
+from-some none k m e h = absurd (let z : _≡_ {A = Bool} true false = h in let y : _≡_ {A = ℕ} 0 1 = cc in omega arith)
+from-some (some j) k m e h = (e, omega arith)
+
+-- of each search
+module _ (s : Bridge) (k : ℕ) (e : k ≡ orFour (lowestFree s)) where
+  pub free-none : k ≡ 4 → lowestFree s ≡ none
+  free-none = is-none (lowestFree s) k (free-small s) e
+
+  pub free-some : (k ≡ 4 → ⊥) → (lowestFree s ≡ some k) × (k < 4)
+  free-some = is-some (lowestFree s) k (free-small s) e
+
+  pub free-from : isNone (lowestFree s) ≡ false → (k ≡ from (lowestFree s)) × (k < 4)
+  free-from = from-some (lowestFree s) k (free-small s) e
+
+module _ (s : Bridge) (t k : ℕ) (e : k ≡ orFour (holderOf s t)) where
+  pub holder-none : k ≡ 4 → holderOf s t ≡ none
+  holder-none = is-none (holderOf s t) k (holder-small s t) e
+
+  pub holder-some : (k ≡ 4 → ⊥) → (holderOf s t ≡ some k) × (k < 4)
+  holder-some = is-some (holderOf s t) k (holder-small s t) e
+
+  pub holder-from : isNone (holderOf s t) ≡ false → (k ≡ from (holderOf s t)) × (k < 4)
+  holder-from = from-some (holderOf s t) k (holder-small s t) e
+
+module _ (s : Bridge) (k : ℕ) (e : k ≡ orFour (nextReady s)) where
+  pub ready-none : k ≡ 4 → nextReady s ≡ none
+  ready-none = is-none (nextReady s) k (ready-small s) e
+
+  pub ready-some : (k ≡ 4 → ⊥) → (nextReady s ≡ some k) × (k < 4)
+  ready-some = is-some (nextReady s) k (ready-small s) e
+
+module _ (s : Bridge) (f : Frame) (k : ℕ) (e : k ≡ orFour (awaiting s f)) where
+  pub awaiting-none : k ≡ 4 → awaiting s f ≡ none
+  awaiting-none = is-none (awaiting s f) k (awaiting-small s f) e
+
+  pub awaiting-some : (k ≡ 4 → ⊥) → (awaiting s f ≡ some k) × (k < 4)
+  awaiting-some = is-some (awaiting s f) k (awaiting-small s f) e
+
+  pub awaiting-from : isNone (awaiting s f) ≡ false → (k ≡ from (awaiting s f)) × (k < 4)
+  awaiting-from = from-some (awaiting s f) k (awaiting-small s f) e
 
 -- ── Aging ──────────────────────────────────────────────────────────────────────────────────────────────────────────
 

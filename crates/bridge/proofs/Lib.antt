@@ -1,3 +1,4 @@
+pub mod CodeCalls
 pub mod CodeSlots
 pub mod Search
 pub mod Refusals

@@ -5,7 +5,10 @@ ghost use Rattle.bridge.specs.Corollaries.{Corollaries};
 ghost use Rattle.bridge.specs.Calls.{Calls};
 ghost use Rattle.bridge.specs.Examples.{Examples};
 
+pub mod ending;
+pub mod opening;
 mod state;
+pub mod tickets;
 
 // A slot's phases.
 pub const FREE: u8 = 0;
