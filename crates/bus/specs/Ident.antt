@@ -1,0 +1,91 @@
+-- 01 "Identifier and frame": the 29-bit identifier, by sums, quotients and remainders.
+use Prim.Native.Nat.{ℕ, zero, suc, _+_, _*_, _/_, _%_, _^_}
+use mathlib.Core.Bool.{not}
+use lib.Dec.{leb, ltb, eqb}
+use Rattle.wire.specs.Order.{_if_else_}
+pub use Rattle.bus.specs.declared.Parts.{Parts}
+use Rattle.bus.specs.declared.Packed.{Packed}
+use Rattle.bus.specs.declared.Packed.the-variants as P
+use Rattle.bus.specs.declared.Unpacked.{Unpacked}
+use Rattle.bus.specs.declared.Unpacked.the-variants as U
+
+-- a row's part of an identifier: it divided by 2 to the row's lowest bit, modulo 2 to the row's width
+abbrev pub row : ℕ → ℕ → ℕ → ℕ
+row low width id = id / 2 ^ low % 2 ^ width
+
+-- bits 0-1: spare, must be 0
+unfoldable pub idSpare : ℕ → ℕ
+idSpare id = row 0 2 id
+
+-- bit 2: table, bit 4; bits 3-6: table, bits 0-3
+unfoldable pub idTable : ℕ → ℕ
+idTable id = row 2 1 id * 16 + row 3 4 id
+
+-- bits 7-10: to
+unfoldable pub idTo : ℕ → ℕ
+idTo id = row 7 4 id
+
+-- bits 11-14: from
+unfoldable pub idFrom : ℕ → ℕ
+idFrom id = row 11 4 id
+
+-- bits 15-17: type; `kind` is our name for it
+unfoldable pub idKind : ℕ → ℕ
+idKind id = row 15 3 id
+
+-- bits 18-28: offset
+unfoldable pub idOffset : ℕ → ℕ
+idOffset id = row 18 11 id
+
+unfoldable pub partsOf : ℕ → Parts
+partsOf id = record { offset = idOffset id; kind = idKind id; from = idFrom id; to = idTo id; table = idTable id }
+
+-- the identifier: the sum of each row's part times 2 to the row's lowest bit
+unfoldable pub idOf : (offset kind from to table : ℕ) → ℕ
+idOf offset kind from to table =
+    table / 16 * 2 ^ 2 + table % 16 * 2 ^ 3 + to * 2 ^ 7 + from * 2 ^ 11 + kind * 2 ^ 15 + offset * 2 ^ 18
+
+-- parts that no row holds. 01 gives no number for them; ours are those of its opening: 5 type, 7 device or table, 8 offset
+unfoldable pub packNumber : Parts → ℕ
+packNumber p =
+    5 if ltb 7 (p .kind)
+    else 7 if ltb 15 (p .from)
+    else 7 if ltb 15 (p .to)
+    else 7 if ltb 31 (p .table)
+    else 8 if ltb 2047 (p .offset)
+    else 0
+
+unfoldable pub packed : ℕ → ℕ → Packed
+packed zero id = P.Is id
+packed (suc n) id = P.Refused (suc n)
+
+unfoldable pub packOf : Parts → Packed
+packOf p = packed (packNumber p) (idOf (p .offset) (p .kind) (p .from) (p .to) (p .table))
+
+-- 1: identifier 2^29 or more; 2: spare bits set
+unfoldable pub unpackNumber : ℕ → ℕ
+unpackNumber id = 1 if leb (2 ^ 29) id else 2 if not (eqb (idSpare id) 0) else 0
+
+unfoldable pub unpacked : ℕ → Parts → Unpacked
+unpacked zero p = U.Is p
+unpacked (suc n) p = U.Refused (suc n)
+
+unfoldable pub unpackOf : ℕ → Unpacked
+unpackOf id = unpacked (unpackNumber id) (partsOf id)
+
+-- the paper's number and values of each answer: in a refusal every other number is 0
+abbrev pub packedNumber : Packed → ℕ
+packedNumber (P.Is id) = 0
+packedNumber (P.Refused n) = n
+
+abbrev pub packedId : Packed → ℕ
+packedId (P.Is id) = id
+packedId (P.Refused n) = 0
+
+abbrev pub unpackedNumber : Unpacked → ℕ
+unpackedNumber (U.Is p) = 0
+unpackedNumber (U.Refused n) = n
+
+abbrev pub unpackedParts : Unpacked → Parts
+unpackedParts (U.Is p) = p
+unpackedParts (U.Refused n) = record { offset = 0; kind = 0; from = 0; to = 0; table = 0 }
