@@ -9,6 +9,7 @@ use lib.ListN.{replicate}
 use borrow.Author.Tests.{ltb-false, eq-eqb, eqb-true, not-false}
 use Rattle.wire.proofs.Orders.{order, if-zero}
 use Rattle.bus.specs.Request.{Request, requestOf, reserved, readNumber, asked, readRequestOf, request, requestNumber, wroteRequest, requestBytesOf}
+use Rattle.bus.specs.Rows.{ReadAfterWrite}
 use Rattle.bus.specs.declared.Asked.{Asked}
 use Rattle.bus.specs.declared.Asked.the-variants as A
 use Rattle.bus.specs.declared.RequestBytes.{RequestBytes}
@@ -59,14 +60,13 @@ request-back q h =
     rw (t, o, n)
 
 pub reads-back : (q : Request) → Holds q → readRequestOf (q .table) (q .offset / 8) (q .offset % 8 * 32 + q .count) ≡ A.Is q
-unfolding readRequestOf readNumber
+unfolding readRequestOf readNumber asked
 reads-back q h =
     let z : reserved (q .table) (q .offset % 8 * 32 + q .count) ≡ false = is-clear _ _ (omega arith) (omega arith) in
     let n : 0 ≡ readNumber (q .table) (q .offset % 8 * 32 + q .count) = search order depth 6 in
     go _ (sym n)
   where
     go : (m : ℕ) → m ≡ 0 → asked m (requestOf (q .table) (q .offset / 8) (q .offset % 8 * 32 + q .count)) ≡ A.Is q
-    unfolding asked
     go zero e = ap A.Is (request-back q h)
     go (suc m) e = absurd (omega arith)
 
@@ -77,22 +77,19 @@ module _ (a b c : ℕ) (ha : a < 256) (hb : b < 256) (hc : c < 256) (clean : res
   read-holds = record { table = omega arith; count = omega arith; offset = omega arith }
 
   pub bytes-back : requestBytesOf (requestOf a b c) ≡ record { number = 0; bytes = a ∷ b ∷ c ∷ [] }
-  unfolding requestBytesOf wroteRequest request
+  unfolding requestBytesOf wroteRequest request requestOf
   bytes-back =
       let n = held (requestOf a b c) read-holds in
       let e = clear a c clean in
       rw (n, same-table e, same-high, same-low e)
     where
       same-table : (a / 32 ≡ 0) × (c / 16 % 2 ≡ 0) → requestOf a b c .table ≡ a
-      unfolding requestOf
       same-table e = omega arith
 
       same-high : requestOf a b c .offset / 8 ≡ b
-      unfolding requestOf
       same-high = omega arith
 
       same-low : (a / 32 ≡ 0) × (c / 16 % 2 ≡ 0) → requestOf a b c .offset % 8 * 32 + requestOf a b c .count ≡ c
-      unfolding requestOf
       same-low e = omega arith
 
 pub write-after-read : (a b c : ℕ) → a < 256 → b < 256 → c < 256 → (q : Request) → readRequestOf a b c ≡ A.Is q
@@ -104,12 +101,11 @@ write-after-read a b c ha hb hc q e =
 
 pub read-after-write : (q : Request) → requestBytesOf q .number ≡ 0 → (a b c : ℕ) → requestBytesOf q .bytes ≡ a ∷ b ∷ c ∷ []
     → readRequestOf a b c ≡ A.Is q
-unfolding requestBytesOf
+unfolding requestBytesOf wroteRequest request
 read-after-write q e a b c k = go (requestNumber q) refl e k
   where
     go : (m : ℕ) → requestNumber q ≡ m → wroteRequest m (request (q .table) (q .offset) (q .count)) .number ≡ 0
         → wroteRequest m (request (q .table) (q .offset) (q .count)) .bytes ≡ a ∷ b ∷ c ∷ [] → readRequestOf a b c ≡ A.Is q
-    unfolding wroteRequest request
     go zero n z l =
         let ea : q .table ≡ a = cc in
         let eb : q .offset / 8 ≡ b = cc in
@@ -146,3 +142,7 @@ pub wrote-yes : (k n : ℕ) (bs : List ℕ) → k ≡ n → k ≡ 0 → _≡_ {A
 unfolding wroteRequest
 wrote-yes k zero bs e h = refl
 wrote-yes k (suc n) bs e h = absurd (omega arith)
+
+pub answer-back : (q : Request) (r : RequestBytes) → r ≡ requestBytesOf q → ReadAfterWrite q r
+answer-back q r e z a b c k =
+    read-after-write q (sym (ap (λ (x : RequestBytes). x .number) e) ∙ z) a b c (sym (ap (λ (x : RequestBytes). x .bytes) e) ∙ k)

@@ -1,10 +1,6 @@
 use borrow.Author.Needs.{needs}
 use Rattle.bus.proofs.ident.head_number.Statement.{statement}
 use Rattle.bus.proofs.ident.head_number.Tie as tie
-use Rattle.bus.proofs.ident.head_number.Reads as reads
-use Rattle.bus.proofs.ident.head_number.Lts as lts
-use Rattle.bus.proofs.ident.unpack_number.Reads as unpack-number-reads
-use Rattle.bus.proofs.rows.to_of.Reads as to-of-reads
 use Rattle.wire.proofs.Orders.{order}
 use Rattle.bus.proofs.IdentLaws.{head-is}
 

@@ -1,10 +1,6 @@
 use borrow.Author.Needs.{needs}
 use Rattle.bus.proofs.ident.pack.Statement.{statement}
 use Rattle.bus.proofs.ident.pack.Tie as tie
-use Rattle.bus.proofs.ident.pack.Reads as reads
-use Rattle.bus.proofs.ident.pack.Lts as lts
-use Rattle.bus.proofs.ident.pack_number.Reads as pack-number-reads
-use Rattle.bus.proofs.rows.id_of.Reads as id-of-reads
 use mathlib.Core.Path.{_≡_, sym, _∙_}
 use native.Mathlib.Omega.{arith}
 use Rattle.bus.specs.Ident.{packOf, idOf}

@@ -1,10 +1,6 @@
 use borrow.Author.Needs.{needs}
 use Rattle.bus.proofs.ident.read_head.Statement.{statement}
 use Rattle.bus.proofs.ident.read_head.Tie as tie
-use Rattle.bus.proofs.ident.read_head.Reads as reads
-use Rattle.bus.proofs.ident.read_head.Lts as lts
-use Rattle.bus.proofs.ident.head_number.Reads as head-number-reads
-use Rattle.bus.proofs.rows.parts_of.Reads as parts-of-reads
 use Rattle.bus.specs.Frames.{headOf}
 use Rattle.bus.proofs.IdentLaws.{unpacked-no, unpacked-yes, some-zero}
 

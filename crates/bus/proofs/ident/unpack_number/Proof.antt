@@ -1,7 +1,5 @@
 use Rattle.bus.proofs.ident.unpack_number.Statement.{statement}
 use Rattle.bus.proofs.ident.unpack_number.Tie as tie
-use Rattle.bus.proofs.ident.unpack_number.Reads as reads
-use Rattle.bus.proofs.ident.unpack_number.Lts as lts
 use Rattle.bus.specs.Ident.{unpackNumber, idSpare}
 use Rattle.bus.proofs.IdentLaws.{spare-is}
 use Rattle.wire.proofs.Orders.{order}

@@ -1,10 +1,6 @@
 use borrow.Author.Needs.{needs}
 use Rattle.bus.proofs.requests.read_request.Statement.{statement}
 use Rattle.bus.proofs.requests.read_request.Tie as tie
-use Rattle.bus.proofs.requests.read_request.Reads as reads
-use Rattle.bus.proofs.requests.read_request.Lts as lts
-use Rattle.bus.proofs.rows.is_reserved.Reads as is-reserved-reads
-use Rattle.bus.proofs.rows.request_of.Reads as request-of-reads
 use mathlib.Core.Path.{_≡_, sym, _∙_}
 use native.Mathlib.Omega.{arith}
 use Rattle.bus.specs.Request.{readRequestOf}

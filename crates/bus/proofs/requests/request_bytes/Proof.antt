@@ -1,13 +1,10 @@
 use borrow.Author.Needs.{needs}
 use Rattle.bus.proofs.requests.request_bytes.Statement.{statement}
 use Rattle.bus.proofs.requests.request_bytes.Tie as tie
-use Rattle.bus.proofs.requests.request_bytes.Reads as reads
-use Rattle.bus.proofs.requests.request_bytes.Lts as lts
-use Rattle.bus.proofs.requests.request_number.Reads as request-number-reads
 use mathlib.Core.Path.{_≡_, sym, _∙_}
 use native.Mathlib.Omega.{arith}
 use Rattle.bus.specs.Request.{requestBytesOf, request}
-use Rattle.bus.proofs.RequestLaws.{holds, wrote-no, wrote-yes, read-after-write}
+use Rattle.bus.proofs.RequestLaws.{holds, wrote-no, wrote-yes, answer-back}
 
 request-number-requires : tie.Need-request-number-requires
 request-number-requires c κs = search needs
@@ -15,7 +12,7 @@ request-number-requires c κs = search needs
 returns : tie.Need-returns
 unfolding requestBytesOf
 returns c = let e = wrote-no _ _ _ (c .before .request-number .ensures) (c .if1 .taken) in
-    (e, λ z a b d k. read-after-write (c .before .before .args .q) (rw e at z) a b d (rw e at k))
+    (e, answer-back (c .before .before .args .q) _ e)
 
 cast-t6 : tie.Need-cast-t6
 cast-t6 c = omega (arith, holds (c .before .before .before .args .q) (sym (c .before .before .request-number .ensures) ∙ c .before .if1 .left))
@@ -32,7 +29,7 @@ add-t10 c = let h = holds (c .before .before .before .before .before .args .q) (
 returns-2 : tie.Need-returns-2
 unfolding requestBytesOf request
 returns-2 c = let e = wrote-yes _ _ _ (c .before .before .before .before .request-number .ensures) (c .before .before .before .if1 .left) in
-    (e, λ z a b d k. read-after-write (c .before .before .before .before .before .args .q) (rw e at z) a b d (rw e at k))
+    (e, answer-back (c .before .before .before .before .before .args .q) _ e)
 
 pub request-bytes-spec : {M : Type 1} → statement M
 request-bytes-spec =
