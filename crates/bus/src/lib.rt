@@ -1,4 +1,7 @@
 // The CAN bus of a Megasquirt: identifiers, frames, request bytes, and the table holder.
+pub mod ident;
+pub mod requests;
+mod rows;
 
 // The parts of an identifier; `kind` is its type: 0 CMD, 1 REQ, 2 RSP, 7 XTND.
 #[repr(C)]

@@ -53,3 +53,13 @@ pub else-zero : (a b : ℕ) → (a orElse b) ≡ 0 → (a ≡ 0) × (b ≡ 0)
 unfolding _orElse_
 else-zero zero b e = (refl, e)
 else-zero (suc a) b e = absurd (omega arith)
+
+-- a chain after a chain is one chain
+pub if-orElse : (n : ℕ) (b : Bool) (r s : ℕ) → (((suc n) if b else r) orElse s) ≡ ((suc n) if b else (r orElse s))
+unfolding _if_else_ _orElse_
+if-orElse n true r s = refl
+if-orElse n false r s = refl
+
+pub zero-orElse : (s : ℕ) → (0 orElse s) ≡ s
+unfolding _orElse_
+zero-orElse s = refl

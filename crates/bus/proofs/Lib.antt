@@ -1,0 +1,2 @@
+pub mod IdentLaws
+pub mod RequestLaws

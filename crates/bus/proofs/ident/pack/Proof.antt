@@ -1,0 +1,29 @@
+use borrow.Author.Needs.{needs}
+use Rattle.bus.proofs.ident.pack.Statement.{statement}
+use Rattle.bus.proofs.ident.pack.Tie as tie
+use mathlib.Core.Path.{_≡_, sym, _∙_}
+use native.Mathlib.Omega.{arith}
+use Rattle.bus.specs.Ident.{packOf, idOf}
+use Rattle.bus.proofs.IdentLaws.{packed-no, packed-yes, some-zero, unpack-after-pack, lawful, id-small}
+
+pack-number-requires : tie.Need-pack-number-requires
+pack-number-requires c κs = search needs
+
+returns : tie.Need-returns
+unfolding packOf
+returns c = let e = packed-no _ _ _ (c .before .pack-number .ensures) (c .if1 .taken) in ((e, c .before .pack-number .ensures), λ id q. unpack-after-pack (c .before .before .args .p) id (sym e ∙ q))
+
+id-of-requires : tie.Need-id-of-requires
+id-of-requires c κs = search needs
+
+cast-t5 : tie.Need-cast-t5
+cast-t5 c = let p = c .before .before .before .args .p in
+    let l = lawful p (sym (c .before .before .pack-number .ensures) ∙ c .before .if1 .left) in
+    omega (arith, c .id-of .ensures, id-small (p .offset) (p .kind) (p .from) (p .to) (p .table) (l .offset) (l .kind) (l .from) (l .to) (l .table))
+
+returns-2 : tie.Need-returns-2
+unfolding packOf
+returns-2 c = let e = packed-yes _ _ _ _ (c .before .before .pack-number .ensures) (c .before .if1 .left) (c .id-of .ensures) in ((e, some-zero _ _ (c .before .before .pack-number .ensures) (c .before .if1 .left)), λ id q. unpack-after-pack (c .before .before .before .args .p) id (sym e ∙ q))
+
+pub pack-spec : {M : Type 1} → statement M
+pack-spec = tie.close (tie.spec pack-number-requires returns id-of-requires cast-t5 returns-2)

@@ -1,0 +1,31 @@
+use Rattle.bus.proofs.ident.pack_number.Statement.{statement}
+use Rattle.bus.proofs.ident.pack_number.Tie as tie
+use Rattle.wire.proofs.Orders.{order}
+use Rattle.bus.specs.Ident.{packNumber}
+
+returns : tie.Need-returns
+unfolding packNumber
+returns c = search order depth 20
+
+returns-2 : tie.Need-returns-2
+unfolding packNumber
+returns-2 c = search order depth 20
+
+returns-3 : tie.Need-returns-3
+unfolding packNumber
+returns-3 c = search order depth 20
+
+returns-4 : tie.Need-returns-4
+unfolding packNumber
+returns-4 c = search order depth 20
+
+returns-5 : tie.Need-returns-5
+unfolding packNumber
+returns-5 c = search order depth 20
+
+returns-6 : tie.Need-returns-6
+unfolding packNumber
+returns-6 c = search order depth 20
+
+pub pack-number-spec : {M : Type 1} → statement M
+pack-number-spec = tie.close (tie.spec returns returns-2 returns-3 returns-4 returns-5 returns-6)

@@ -1,0 +1,67 @@
+use borrow.Author.Needs.{needs}
+use Rattle.bus.proofs.rows.id_of.Statement.{statement}
+use Rattle.bus.proofs.rows.id_of.Tie as tie
+use mathlib.Core.Path.{refl}
+use Rattle.bus.specs.Ident.{idOf}
+
+cast-result : tie.Need-cast-result
+cast-result c = search needs
+
+mul-result : tie.Need-mul-result
+mul-result c = search needs
+
+cast-result-2 : tie.Need-cast-result-2
+cast-result-2 c = search needs
+
+mul-result-2 : tie.Need-mul-result-2
+mul-result-2 c = search needs
+
+add-result : tie.Need-add-result
+add-result c = search needs
+
+mul-result-3 : tie.Need-mul-result-3
+mul-result-3 c = search needs
+
+add-result-2 : tie.Need-add-result-2
+add-result-2 c = search needs
+
+mul-result-4 : tie.Need-mul-result-4
+mul-result-4 c = search needs
+
+add-result-3 : tie.Need-add-result-3
+add-result-3 c = search needs
+
+mul-result-5 : tie.Need-mul-result-5
+mul-result-5 c = search needs
+
+add-result-4 : tie.Need-add-result-4
+add-result-4 c = search needs
+
+mul-result-6 : tie.Need-mul-result-6
+mul-result-6 c = search needs
+
+add-result-5 : tie.Need-add-result-5
+add-result-5 c = search needs
+
+returns : tie.Need-returns
+unfolding idOf
+returns c = refl
+
+pub id-of-spec : {M : Type 1} → statement M
+id-of-spec =
+    tie.close
+    (tie.spec
+    cast-result
+    mul-result
+    cast-result-2
+    mul-result-2
+    add-result
+    mul-result-3
+    add-result-2
+    mul-result-4
+    add-result-3
+    mul-result-5
+    add-result-4
+    mul-result-6
+    add-result-5
+    returns)

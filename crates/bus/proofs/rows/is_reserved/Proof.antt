@@ -1,0 +1,11 @@
+use Rattle.bus.proofs.rows.is_reserved.Statement.{statement}
+use Rattle.bus.proofs.rows.is_reserved.Tie as tie
+use mathlib.Core.Path.{refl}
+use Rattle.bus.specs.Request.{reserved}
+
+returns : tie.Need-returns
+unfolding reserved
+returns c = refl
+
+pub is-reserved-spec : {M : Type 1} → statement M
+is-reserved-spec = tie.close (tie.spec returns)

@@ -1,0 +1,98 @@
+// The 29-bit identifier, packed and unpacked by sums, quotients and remainders.
+use crate::Frame;
+use crate::Packed;
+use crate::Parts;
+use crate::Unpacked;
+use crate::rows::id_of;
+use crate::rows::parts_of;
+use crate::rows::to_of;
+ghost use mathlib.Core.Path.{_≡_};
+ghost use Rattle.bus.specs.Ident.{packNumber, packOf, packedNumber, unpackNumber, unpackOf, unpackedNumber};
+ghost use Rattle.bus.specs.Frames.{headNumber, headOf};
+ghost use Rattle.bus.specs.Rows.{UnpackAfterPack, PackAfterUnpack, RowLaw};
+
+fn pack_number(p: Parts) -> u8
+    ensures { λ r. ⌜ r ≡ packNumber p ⌝ }
+{
+    if 7 < p.kind {
+        return 5;
+    }
+    if 15 < p.from {
+        return 7;
+    }
+    if 15 < p.to {
+        return 7;
+    }
+    if 31 < p.table {
+        return 7;
+    }
+    if 2047 < p.offset {
+        return 8;
+    }
+    0
+}
+
+// The identifier of parts that its rows hold; else 5 (type), 7 (device or table) or 8 (offset).
+pub fn pack(p: Parts) -> Packed
+    ensures { λ r. ⌜ (r ≡ packOf p) × (packedNumber r ≡ packNumber p) ⌝ }
+    ensures back { λ r. ⌜ UnpackAfterPack p r ⌝ }
+{
+    let number = pack_number(p);
+    if number != 0 {
+        return Packed::Refused(number);
+    }
+    Packed::Is(id_of(p.offset, p.kind, p.from, p.to, p.table) as u32)
+}
+
+fn unpack_number(id: u32) -> u8
+    ensures { λ r. ⌜ r ≡ unpackNumber id ⌝ }
+{
+    if 536870912 <= id {
+        return 1;
+    }
+    if id % 4 != 0 {
+        return 2;
+    }
+    0
+}
+
+// The parts of a lawful identifier; 1 for 2^29 or more, 2 for spare bits.
+pub fn unpack(id: u32) -> Unpacked
+    ensures { λ r. ⌜ (r ≡ unpackOf id) × (unpackedNumber r ≡ unpackNumber id) ⌝ }
+    ensures back { λ r. ⌜ PackAfterUnpack id r ⌝ }
+    ensures rows { λ r. ⌜ RowLaw id r ⌝ }
+{
+    let number = unpack_number(id);
+    if number != 0 {
+        return Unpacked::Refused(number);
+    }
+    Unpacked::Is(parts_of(id))
+}
+
+// 1, 2, 3 and 4, by which every receiver of this own number judges a frame; else 0.
+pub fn head_number(own: u8, f: Frame) -> u8
+    ensures { λ r. ⌜ r ≡ headNumber own f ⌝ }
+{
+    let number = unpack_number(f.id);
+    if number != 0 {
+        return number;
+    }
+    if 8 < f.len {
+        return 3;
+    }
+    if to_of(f.id) != own {
+        return 4;
+    }
+    0
+}
+
+// The parts of the identifier of a frame that a receiver of this own number does not refuse; else 1, 2, 3 or 4.
+pub fn read_head(own: u8, f: Frame) -> Unpacked
+    ensures { λ r. ⌜ (r ≡ headOf own f) × (unpackedNumber r ≡ headNumber own f) ⌝ }
+{
+    let number = head_number(own, f);
+    if number != 0 {
+        return Unpacked::Refused(number);
+    }
+    Unpacked::Is(parts_of(f.id))
+}

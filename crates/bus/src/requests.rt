@@ -1,0 +1,57 @@
+// The three request bytes.
+use crate::Asked;
+use crate::Request;
+use crate::RequestBytes;
+use crate::rows::is_reserved;
+use crate::rows::request_of;
+ghost use mathlib.Core.Path.{_≡_};
+ghost use Rattle.bus.specs.Request.{readNumber, readRequestOf, askedNumber, requestNumber, requestBytesOf};
+ghost use Rattle.bus.specs.Rows.{ReadAfterWrite, WriteAfterRead};
+
+// The request in three bytes; 6 where a reserved bit is set.
+pub fn read_request(a: u8, b: u8, c: u8) -> Asked
+    ensures { λ r. ⌜ (r ≡ readRequestOf a b c) × (askedNumber r ≡ readNumber a c) ⌝ }
+    ensures back { λ r. ⌜ WriteAfterRead a b c r ⌝ }
+{
+    if is_reserved(a, c) {
+        return Asked::Refused(6);
+    }
+    Asked::Is(request_of(a, b, c))
+}
+
+fn request_number(q: Request) -> u8
+    ensures { λ r. ⌜ r ≡ requestNumber q ⌝ }
+{
+    if 31 < q.table {
+        return 7;
+    }
+    if 15 < q.count {
+        return 9;
+    }
+    if 2047 < q.offset {
+        return 8;
+    }
+    0
+}
+
+// The bytes of a request that they can hold; else 7 (table), 9 (count) or 8 (offset).
+pub fn request_bytes(q: Request) -> RequestBytes
+    ensures { λ r. ⌜ r ≡ requestBytesOf q ⌝ }
+    ensures back { λ r. ⌜ ReadAfterWrite q r ⌝ }
+{
+    let number = request_number(q);
+    if number != 0 {
+        return RequestBytes {
+            number,
+            bytes: [0; 3],
+        };
+    }
+    RequestBytes {
+        number: 0,
+        bytes: [
+            q.table,
+            (q.offset / 8) as u8,
+            (q.offset % 8 * 32) as u8 + q.count,
+        ],
+    }
+}
