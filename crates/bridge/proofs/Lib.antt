@@ -1,3 +1,4 @@
+pub mod CodeFrames
 pub mod CodeCalls
 pub mod CodeSlots
 pub mod Search

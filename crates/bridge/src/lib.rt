@@ -6,9 +6,11 @@ ghost use Rattle.bridge.specs.Calls.{Calls};
 ghost use Rattle.bridge.specs.Examples.{Examples};
 
 pub mod ending;
+pub mod incoming;
 pub mod opening;
 mod state;
 pub mod tickets;
+pub mod turning;
 
 // A slot's phases.
 pub const FREE: u8 = 0;

@@ -4,6 +4,7 @@ ghost use mathlib.Core.Bool.{false, cond, not, _&&_, _||_};
 ghost use mathlib.Core.List.{[], _∷_};
 ghost use lib.ListN.{getD};
 ghost use lib.Dec.{eqb};
+ghost use Rattle.bus.specs.Holder.{noAnswer};
 ghost use Rattle.bridge.specs.Model.{asks, carries, isFree, isReady, isWaiting, blank, moved, askRefusal, soundPhase, soundSlot};
 ghost use Rattle.bridge.specs.Model.{soundSlots, distinct, sound, lentRefusal, firstSlot, orFour, lowestFree, holderOf, nextReady};
 ghost use Rattle.bridge.specs.Model.{aged, agedBridge, chunkLen, advanced};
@@ -14,6 +15,7 @@ use crate::GAVE_UP;
 use crate::READ;
 use crate::READY;
 use crate::Slot;
+use crate::Stepped;
 use crate::WAITING;
 use crate::WRITE;
 
@@ -190,6 +192,27 @@ pub fn lent_number(b: Bridge, n: usize) -> u8
         return 10;
     }
     0
+}
+
+// A bridge with a number and no frame.
+pub fn plain(b: Bridge, number: u8) -> Stepped
+    ensures { λ r. ⌜ r ≡ record { bridge = b; answer = noAnswer number } ⌝ }
+{
+    let bytes = [0u8; 8];
+    let frame = bus::Frame {
+        id: 0,
+        len: 0,
+        bytes: bytes,
+    };
+    let answer = bus::Served {
+        number: number,
+        answers: 0,
+        frame: frame,
+    };
+    Stepped {
+        bridge: b,
+        answer: answer,
+    }
 }
 
 // The first of four tests that holds, or 4.
