@@ -231,3 +231,17 @@ some-zero k n e h = sym h ∙ e
 pub head-is : (own : ℕ) (f : Frame) → headNumber own f ≡ (unpackNumber (f .id) orElse (3 if ltb 8 (f .len) else 4 if not (eqb (idTo (f .id)) own) else 0))
 unfolding headNumber unpackNumber
 head-is own f = rw (if-orElse, if-orElse, zero-orElse)
+
+-- ── Sizes of the parts of any number ───────────────────────────────────────────────────────────────────────────────
+
+pub table-small : (id : ℕ) → idTable id ≤ 31
+unfolding idTable
+table-small id = omega arith
+
+pub from-small : (id : ℕ) → idFrom id ≤ 15
+unfolding idFrom
+from-small id = omega arith
+
+pub offset-small : (id : ℕ) → idOffset id ≤ 2047
+unfolding idOffset
+offset-small id = omega arith

@@ -21,22 +21,26 @@ sizeOf d k = getD (d .sizes) k 0
 unfoldable pub rightOf : Directory → ℕ → ℕ
 rightOf d k = getD (d .rights) k 0
 
+-- the sum of the first k numbers of a list
+unfoldable pub sumTo : List ℕ → ℕ → ℕ
+sumTo l zero = 0
+sumTo l (suc k) = sumTo l k + getD l k 0
+
 -- 32 tables lie back to back; table k starts at the sum of the sizes before it
 unfoldable pub startOf : Directory → ℕ → ℕ
-startOf d zero = 0
-startOf d (suc k) = startOf d k + sizeOf d k
+startOf d k = sumTo (d .sizes) k
 
 unfoldable pub totalOf : Directory → ℕ
 totalOf d = startOf d 32
 
 -- of the first n tables: size 0..2,056, right 0 none, 1 read, 2 read and write
-unfoldable pub soundTables : Directory → ℕ → Bool
-soundTables d zero = true
-soundTables d (suc n) = soundTables d n && leb (sizeOf d n) 2056 && leb (rightOf d n) 2
+unfoldable pub soundTables : (sizes rights : List ℕ) → ℕ → Bool
+soundTables sizes rights zero = true
+soundTables sizes rights (suc n) = soundTables sizes rights n && leb (getD sizes n 0) 2056 && leb (getD rights n 0) 2
 
 -- total at most 32,768, own number 0..15
 unfoldable pub soundDirectory : Directory → Bool
-soundDirectory d = leb (d .own) 15 && soundTables d 32 && leb (totalOf d) 32768
+soundDirectory d = leb (d .own) 15 && soundTables (d .sizes) (d .rights) 32 && leb (totalOf d) 32768
 
 -- 11: directory or own number unsound
 unfoldable pub directoryNumber : Directory → ℕ

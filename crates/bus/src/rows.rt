@@ -2,6 +2,7 @@
 use crate::Parts;
 use crate::Request;
 ghost use mathlib.Core.Path.{_≡_};
+ghost use Prim.Native.Nat.{_≤_};
 ghost use Rattle.bus.specs.Ident.{idTable, idTo, idFrom, idKind, idOffset, idOf, partsOf};
 ghost use Rattle.bus.specs.Request.{reserved, requestOf};
 
@@ -68,7 +69,7 @@ pub fn is_reserved(a: u8, c: u8) -> bool
 
 // The request in three bytes, whatever their reserved bits are.
 pub fn request_of(a: u8, b: u8, c: u8) -> Request
-    ensures { λ r. ⌜ r ≡ requestOf a b c ⌝ }
+    ensures { λ r. ⌜ (r ≡ requestOf a b c) × (r .table ≤ 31) × (r .offset ≤ 2047) ⌝ }
 {
     Request {
         table: a % 32,

@@ -63,3 +63,13 @@ if-orElse n false r s = refl
 pub zero-orElse : (s : ℕ) → (0 orElse s) ≡ s
 unfolding _orElse_
 zero-orElse s = refl
+
+-- a test that does not hold is passed over, whatever its number
+pub if-skip : (n : ℕ) (b : Bool) (r : ℕ) → b ≡ false → (n if b else r) ≡ 0 → r ≡ 0
+unfolding _if_else_
+if-skip n true r e h = let z : _≡_ {A = Bool} true false = e in absurd (let w : _≡_ {A = ℕ} 0 1 = cc in omega arith)
+if-skip n false r e h = h
+
+-- a call gave 0
+pub none : (x a : ℕ) → x ≡ a → x ≡ 0 → 0 ≡ a
+none x a e k = sym k ∙ e

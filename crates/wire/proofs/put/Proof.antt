@@ -1,9 +1,6 @@
 use borrow.Author.Needs.{needs}
 use Rattle.wire.proofs.put.Statement.{statement}
 use Rattle.wire.proofs.put.Tie as tie
-use Rattle.wire.proofs.put.Reads as reads
-use Rattle.wire.proofs.put.Lts as lts
-use Rattle.wire.proofs.copy.Reads as copy-reads
 use mathlib.Core.Path.{sym, _∙_}
 use native.Mathlib.Omega.{arith}
 use Rattle.wire.proofs.Puts.{put-fits, put-over}

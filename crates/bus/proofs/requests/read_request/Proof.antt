@@ -23,7 +23,7 @@ returns-2 : tie.Need-returns-2
 unfolding readRequestOf
 returns-2 c = let a = c .before .before .before .args in
     let n = read-yes (a .a) (a .c) (sym (c .before .before .is-reserved .ensures) ∙ c .before .if1 .left) in
-    let e = asked-yes _ _ _ _ n (omega arith) (c .request-of .ensures) in
+    let e = asked-yes _ _ _ _ n (omega arith) (c .request-of .ensures .0) in
     ((e, n), λ q k. write-after-read (a .a) (a .b) (a .c) (search needs) (search needs) (search needs) q (sym e ∙ k))
 
 pub read-request-spec : {M : Type 1} → statement M

@@ -2,6 +2,7 @@ use borrow.Author.Needs.{needs}
 use Rattle.bus.proofs.rows.request_of.Statement.{statement}
 use Rattle.bus.proofs.rows.request_of.Tie as tie
 use mathlib.Core.Path.{refl}
+use native.Mathlib.Omega.{arith}
 use Rattle.bus.specs.Request.{requestOf}
 
 mul-t7 : tie.Need-mul-t7
@@ -15,7 +16,7 @@ add-t10 c = search needs
 
 returns : tie.Need-returns
 unfolding requestOf
-returns c = refl
+returns c = (refl, omega arith, omega arith)
 
 pub request-of-spec : {M : Type 1} → statement M
 request-of-spec = tie.close (tie.spec mul-t7 cast-t9 add-t10 returns)

@@ -1,0 +1,79 @@
+-- Laws of frames: bytes padded with zeros, and the bytes that count.
+use mathlib.Core.Path.{_≡_, refl, sym, _∙_, ap}
+use mathlib.Core.List.{List, [], _∷_, _++_}
+use Prim.Native.Nat.{ℕ, zero, suc, _+_, _-_, _≤_, _<_}
+use native.Mathlib.Nat.{zero-add}
+use native.Mathlib.Omega.{arith}
+use lib.ListN.{length, getD, take, drop, replicate, length-append, length-take, length-drop, length-replicate, List·getD-append}
+use lib.Seq.{take-append-add, take-take, take-append-seam, getD-append-add, getD-take, length-take-le}
+use borrow.Author.Tests.{ltb-false}
+use Rattle.wire.specs.Put.{putAt, putOf}
+use Rattle.wire.proofs.Orders.{if-zero}
+use Rattle.wire.proofs.Puts.{put-fits}
+use Rattle.bus.specs.Frames.{Frame, padded, content, headNumber}
+
+drop-same : (n m a : ℕ) → drop n (replicate m a) ≡ replicate (m - n) a
+drop-same zero m a = let e : m - 0 ≡ m = omega arith in rw e
+drop-same (suc n) zero a = let e : 0 - suc n ≡ 0 = omega arith in rw e
+drop-same (suc n) (suc m) a = let e : suc m - suc n ≡ m - n = omega arith in rw e (drop-same n m a)
+
+take-same : (n m a : ℕ) → n ≤ m → take n (replicate m a) ≡ replicate n a
+take-same zero m a h = refl
+take-same (suc n) zero a h = absurd (omega arith)
+take-same (suc n) (suc m) a h = ap (λ (l : List ℕ). a ∷ l) (take-same n m a (omega arith))
+
+zeros-at : (n i : ℕ) → _≡_ {A = ℕ} (getD (replicate n 0) i 0) 0
+zeros-at zero i = refl
+zeros-at (suc n) zero = refl
+zeros-at (suc n) (suc i) = zeros-at n i
+
+-- bytes, then zeros
+pub padded-is : (bs : List ℕ) → length bs ≤ 8 → padded bs ≡ bs ++ replicate (8 - length bs) 0
+unfolding padded
+padded-is bs h =
+    let e : length bs + (8 - length bs) ≡ 8 = omega arith in
+    (rw e at (take-append-add bs (replicate 8 0) (8 - length bs))) ∙ ap (λ (l : List ℕ). bs ++ l) (take-same (8 - length bs) 8 0 (omega arith))
+
+-- a copy into eight zeros
+pub padded-put : (bs : List ℕ) → length bs ≤ 8 → putOf (replicate 8 0) 0 bs ≡ padded bs
+unfolding putAt
+padded-put bs h =
+    put-fits (replicate 8 0) 0 bs (omega arith)
+    ∙ rw zero-add (ap (λ (l : List ℕ). bs ++ l) (drop-same (length bs) 8 0))
+    ∙ sym (padded-is bs h)
+
+pub padded-length : (bs : List ℕ) → length bs ≤ 8 → length (padded bs) ≡ 8
+padded-length bs h = rw (padded-is bs h, length-append, length-replicate) (omega arith)
+
+pub padded-in : (bs : List ℕ) → length bs ≤ 8 → (i : ℕ) → i < length bs → getD (padded bs) i 0 ≡ getD bs i 0
+padded-in bs h i l = rw (padded-is bs h) (List·getD-append bs (replicate (8 - length bs) 0) 0 i l)
+
+pub padded-after : (bs : List ℕ) → length bs ≤ 8 → (i : ℕ) → length bs ≤ i → getD (padded bs) i 0 ≡ 0
+padded-after bs h i l =
+    let e : length bs + (i - length bs) ≡ i = omega arith in
+    rw (padded-is bs h) ((rw e at (getD-append-add bs (replicate (8 - length bs) 0) (i - length bs) 0)) ∙ zeros-at (8 - length bs) (i - length bs))
+
+-- the bytes of a frame that count
+pub content-length : (f : Frame) → length (f .bytes) ≡ 8 → f .len ≤ 8 → length (content f) ≡ f .len
+unfolding content
+content-length f h l = length-take-le (f .len) (f .bytes) (omega arith)
+
+pub content-at : (f : Frame) (i : ℕ) → i < f .len → getD (content f) i 0 ≡ getD (f .bytes) i 0
+unfolding content
+content-at f i h = getD-take (f .len) (f .bytes) i 0 h
+
+-- the length of a frame that no receiver refuses
+pub head-short : (own : ℕ) (f : Frame) → headNumber own f ≡ 0 → f .len ≤ 8
+unfolding headNumber
+head-short own f h =
+    let h1 = if-zero 0 _ _ h in
+    let h2 = if-zero 1 _ _ (h1 .1) in
+    let h3 = if-zero 2 _ _ (h2 .1) in
+    ltb-false 8 (f .len) (h3 .0)
+
+-- a part of a list: n bytes from a place
+pub part-is : (m : List ℕ) (at n : ℕ) → take (at + n - at) (drop at m) ≡ take n (drop at m)
+part-is m at n = let e : at + n - at ≡ n = omega arith in rw e
+
+pub part-length : (m : List ℕ) (at n : ℕ) → at + n ≤ length m → length (take n (drop at m)) ≡ n
+part-length m at n h = length-take-le n (drop at m) (simp length-drop (omega arith))

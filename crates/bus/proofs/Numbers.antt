@@ -1,0 +1,139 @@
+-- Each number is given exactly when the paper says.
+use mathlib.Core.Path.{_≡_, refl, sym, _∙_, ap, subst}
+use mathlib.Core.Logic.{_⊎_, inl, inr, _≢_}
+use mathlib.Core.Bool.{Bool, true, false, not}
+use mathlib.Core.List.{List}
+use Prim.Native.Nat.{ℕ, zero, suc, _+_, _≤_, _<_, _^_}
+use native.Mathlib.Omega.{arith}
+use lib.Dec.{leb, ltb, eqb}
+use lib.ListN.{length}
+use borrow.Author.Tests.{ltb-true, ltb-false, leb-true, leb-false, eqb-true, eqb-false, not-true, not-false}
+use Rattle.wire.specs.Order.{_if_else_, _orElse_}
+use Rattle.wire.specs.First.{First, Zero}
+use Rattle.wire.proofs.Firsts.{link, links, neither}
+use Rattle.wire.proofs.Orders.{if-orElse, zero-orElse}
+use Rattle.bus.specs.Ident.{idSpare, idTo, idKind, idOffset}
+use Rattle.bus.specs.Frames.{Frame, cmd, req, xtnd, headNumber}
+use Rattle.bus.specs.Holder.{Directory, soundDirectory, totalOf, sizeOf, rightOf, directoryNumber, lengthNumber, commandNumber, askNumber, queryNumber}
+use Rattle.bus.specs.Holder.{kindNumber, serveNumber, byteOf, requestAt, reservedAt, tableOf}
+use Rattle.bus.specs.Demand2.{SoundDirectory, CommandNumber, AskNumber, QueryNumber, KindNumber, ServeNumber}
+use Rattle.bus.proofs.Directories.{sound-says, says-sound}
+use Rattle.bus.proofs.Cases.{command-case, ask-case, query-case, other-case}
+
+-- ── What a test says ───────────────────────────────────────────────────────────────────────────────────────────────
+
+apart : (b : Bool) → b ≡ true → b ≡ false → ⊥
+apart true e f = let z : _≡_ {A = Bool} true false = f in let w : _≡_ {A = ℕ} 0 1 = cc in omega arith
+apart false e f = let z : _≡_ {A = Bool} false true = e in let w : _≡_ {A = ℕ} 0 1 = cc in omega arith
+
+ne-true : (a b : ℕ) → not (eqb a b) ≡ true → a ≢ b
+ne-true a b e = eqb-false a b (not-true _ e)
+
+ne-false : (a b : ℕ) → not (eqb a b) ≡ false → ¬ (a ≢ b)
+ne-false a b e n = n (eqb-true a b (not-false _ e))
+
+lt-false : (a b : ℕ) → ltb a b ≡ false → ¬ (a < b)
+lt-false a b e h = omega (arith, ltb-false a b e)
+
+le-false : (a b : ℕ) → leb a b ≡ false → ¬ (a ≤ b)
+le-false a b e h = omega (arith, leb-false a b e)
+
+-- the first of two tests that lets a number pass
+choose : {P : Type 0} (a b : Bool) → (a ≡ true → ¬ P) → (b ≡ true → ¬ P) → (a ≡ false → b ≡ false → P) → First P 9 Zero (0 if a else 0 if b else 9)
+unfolding _if_else_
+choose true b p q h = inr (p refl, refl)
+choose false true p q h = inr (q refl, refl)
+choose false false p q h = inl (h refl refl, refl)
+
+-- ── Numbers by type ────────────────────────────────────────────────────────────────────────────────────────────────
+
+-- a range that is too long, then 0
+abbrev Range : ℕ → ℕ → ℕ → Type 0
+Range size end = First (size < end) 8 Zero
+
+range-number : (size end : ℕ) → Range size end (8 if ltb size end else 0)
+range-number size end = link 8 (ltb size end) 0 Zero (ltb-true _ _) (lt-false _ _) (λ e. refl)
+
+abbrev Missing : (P : Type 0) → ℕ → (ℕ → Type 0) → ℕ → Type 0
+Missing P size rest = First ((size ≡ 0) ⊎ P) 7 rest
+
+command-numbers : (len size right offset : ℕ)
+    → First (len ≡ 0) 6 (Missing (right ≢ 2) size (Range size (offset + len))) (commandNumber len size right offset)
+unfolding commandNumber
+command-numbers len size right offset =
+    link 6 (eqb len 0) _ (Missing (right ≢ 2) size (Range size (offset + len))) (eqb-true _ _) (eqb-false _ _)
+    (λ l. links 7 (eqb size 0) (not (eqb right 2)) _ (Range size (offset + len))
+    (λ e. inl (eqb-true _ _ e)) (λ e. inr (ne-true _ _ e)) (λ e g. neither (eqb-false _ _ e) (ne-false _ _ g))
+    (λ s r. range-number size (offset + len)))
+
+few : (n : ℕ) → eqb n 0 ≡ false → ltb 8 n ≡ false → (1 ≤ n) × (n ≤ 8)
+few zero e g = absurd (eqb-false 0 0 e refl)
+few (suc n) e g = (omega arith, ltb-false 8 (suc n) g)
+
+abbrev Count : ℕ → (ℕ → Type 0) → ℕ → Type 0
+Count n rest = First (¬ ((1 ≤ n) × (n ≤ 8))) 9 rest
+
+ask-numbers : (len : ℕ) (v : Bool) (size right offset count : ℕ)
+    → First ((len ≢ 3) ⊎ (v ≡ true)) 6 (Missing (right ≡ 0) size (Count count (Range size (offset + count)))) (askNumber len v size right offset count)
+unfolding askNumber
+ask-numbers len v size right offset n =
+    links 6 (not (eqb len 3)) v _ (Missing (right ≡ 0) size (Count n (Range size (offset + n))))
+    (λ e. inl (ne-true _ _ e)) (λ e. inr e) (λ e g. neither (ne-false _ _ e) (λ t. apart _ t g))
+    (λ l c. links 7 (eqb size 0) (eqb right 0) _ (Count n (Range size (offset + n)))
+    (λ e. inl (eqb-true _ _ e)) (λ e. inr (eqb-true _ _ e)) (λ e g. neither (eqb-false _ _ e) (eqb-false _ _ g))
+    (λ s r. links 9 (eqb n 0) (ltb 8 n) _ (Range size (offset + n))
+    (λ e h. omega (arith, eqb-true n 0 e)) (λ e h. omega (arith, ltb-true 8 n e)) (λ e g k. k (few n e g))
+    (λ y z. range-number size (offset + n))))
+
+abbrev Queries : ℕ → ℕ → Type 0
+Queries n = First (¬ ((n ≡ 1) ⊎ (n ≡ 5))) 9 Zero
+
+one-or-five : (n : ℕ) → Queries n (0 if eqb n 1 else 0 if eqb n 5 else 9)
+one-or-five n =
+    choose (eqb n 1) (eqb n 5) (λ z k. k (inl (eqb-true n 1 z))) (λ z k. k (inr (eqb-true n 5 z)))
+    (λ y z. neither (eqb-false n 1 y) (eqb-false n 5 z))
+
+query-numbers : (len first : ℕ) (v : Bool) (count : ℕ)
+    → First (len ≡ 0) 6 (First (first ≢ 0x80) 5 (First ((len ≢ 4) ⊎ (v ≡ true)) 6 (Queries count))) (queryNumber len first v count)
+unfolding queryNumber
+query-numbers len first v count =
+    link 6 (eqb len 0) _ (First (first ≢ 0x80) 5 (First ((len ≢ 4) ⊎ (v ≡ true)) 6 (Queries count))) (eqb-true _ _) (eqb-false _ _)
+    (λ l. link 5 (not (eqb first 0x80)) _ (First ((len ≢ 4) ⊎ (v ≡ true)) 6 (Queries count)) (ne-true _ _) (ne-false _ _)
+    (λ b. links 6 (not (eqb len 4)) v _ (Queries count)
+    (λ e. inl (ne-true _ _ e)) (λ e. inr e) (λ e g. neither (ne-false _ _ e) (λ t. apart _ t g))
+    (λ y z. one-or-five count)))
+
+module _ (d : Directory) (f : Frame) where
+  kind-numbers : KindNumber d f (kindNumber d f)
+  kind-numbers =
+      record {
+        command = λ k. subst (CommandNumber d f) (sym (command-case d f k)) (command-numbers _ _ _ _);
+        request = λ k. subst (AskNumber d f) (sym (ask-case d f k)) (ask-numbers _ _ _ _ _ _);
+        query = λ k. subst (QueryNumber f) (sym (query-case d f k)) (query-numbers _ _ _ _);
+        other = other-case d f;
+      }
+
+-- ── All numbers ────────────────────────────────────────────────────────────────────────────────────────────────────
+
+module _ (d : Directory) (m : List ℕ) (f : Frame) where
+  -- the four parts of the order as one chain
+  whole : serveNumber d (length m) f
+      ≡ (11 if not (soundDirectory d) else 10 if not (eqb (length m) (totalOf d)) else 1 if leb (2 ^ 29) (f .id) else 2 if not (eqb (idSpare (f .id)) 0)
+      else 3 if ltb 8 (f .len) else 4 if not (eqb (idTo (f .id)) (d .own)) else kindNumber d f)
+  unfolding serveNumber directoryNumber lengthNumber headNumber
+  whole = rw (if-orElse, zero-orElse, if-orElse, zero-orElse, if-orElse, if-orElse, if-orElse, if-orElse, zero-orElse)
+
+  pub serve-numbers : ServeNumber d m f (serveNumber d (length m) f)
+  serve-numbers =
+      let r4 = First (idTo (f .id) ≢ d .own) 4 (KindNumber d f) in
+      let r3 = First (8 < f .len) 3 r4 in
+      let r2 = First (idSpare (f .id) ≢ 0) 2 r3 in
+      let r1 = First (2 ^ 29 ≤ f .id) 1 r2 in
+      let r10 = First (length m ≢ totalOf d) 10 r1 in
+      rw whole
+      (link 11 _ _ r10 (λ e s. apart _ (says-sound d s) (not-true _ e)) (λ e k. k (sound-says d (not-false _ e)))
+      (λ s. link 10 _ _ r1 (ne-true _ _) (ne-false _ _)
+      (λ l. link 1 _ _ r2 (leb-true _ _) (le-false _ _)
+      (λ i. link 2 _ _ r3 (ne-true _ _) (ne-false _ _)
+      (λ p. link 3 _ _ r4 (ltb-true _ _) (lt-false _ _)
+      (λ n. link 4 _ _ (KindNumber d f) (ne-true _ _) (ne-false _ _) (λ t. kind-numbers d f)))))))

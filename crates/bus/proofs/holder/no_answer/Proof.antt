@@ -1,0 +1,12 @@
+use Rattle.bus.proofs.holder.no_answer.Statement.{statement}
+use Rattle.bus.proofs.holder.no_answer.Tie as tie
+use mathlib.Core.Path.{refl}
+use Rattle.bus.specs.Frames.{noFrame}
+use Rattle.bus.specs.Holder.{noAnswer}
+
+returns : tie.Need-returns
+unfolding noAnswer noFrame
+returns c = refl
+
+pub no-answer-spec : {M : Type 1} → statement M
+no-answer-spec = tie.close (tie.spec returns)

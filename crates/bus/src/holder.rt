@@ -1,0 +1,308 @@
+// The table holder.
+use crate::Directory;
+use crate::Frame;
+use crate::Request;
+use crate::Served;
+use crate::ident::head_number;
+use crate::rows::from_of;
+use crate::rows::id_of;
+use crate::rows::is_reserved;
+use crate::rows::kind_of;
+use crate::rows::offset_of;
+use crate::rows::request_of;
+use crate::rows::table_of;
+ghost use mathlib.Core.Path.{_≡_};
+ghost use Prim.Native.Nat.{ℕ, _+_, _*_, _≤_, _<_};
+ghost use mathlib.Core.List.{List};
+ghost use lib.ListN.{length, take, drop};
+ghost use lib.Seq.{sets};
+ghost use Rattle.bus.specs.Frames.{padded};
+ghost use Rattle.bus.specs.Holder.{startOf, totalOf, soundTables, soundDirectory, directoryNumber, lengthNumber, commandNumber, askNumber, queryNumber, kindNumber, serveNumber, byteOf, requestAt, noAnswer, replyTo, placeOf, protocol, actOf, memoryAct, serveOf, memoryOf};
+ghost use Rattle.bus.specs.Demand2.{Demand2};
+
+// Where table k starts: the sum of the sizes before it.
+fn start(d: Directory, k: usize) -> usize
+    requires { ⌜ k ≤ 32 ⌝ }
+    ensures { λ r. ⌜ (r ≡ startOf d k) × (r ≤ 65535 * k) ⌝ }
+{
+    let sizes = d.sizes;
+    let mut sum: usize = 0;
+    let mut i = 0;
+    while i < k {
+        sum += sizes[i] as usize;
+        i += 1;
+    }
+    sum
+}
+
+fn tables_sound(d: Directory) -> bool
+    ensures { λ r. ⌜ r ≡ soundTables (d .sizes) (d .rights) 32 ⌝ }
+{
+    let sizes = d.sizes;
+    let rights = d.rights;
+    let mut i = 0;
+    while i < 32 {
+        if 2056 < sizes[i] {
+            return false;
+        }
+        if 2 < rights[i] {
+            return false;
+        }
+        i += 1;
+    }
+    true
+}
+
+// 11 for an unsound directory, else 0.
+pub fn directory_number(d: Directory) -> u8
+    ensures { λ r. ⌜ r ≡ directoryNumber d ⌝ }
+{
+    if 15 < d.own {
+        return 11;
+    }
+    if !tables_sound(d) {
+        return 11;
+    }
+    if 32768 < start(d, 32) {
+        return 11;
+    }
+    0
+}
+
+// 10 for memory of another length n than the directory's total, else 0.
+pub fn length_number(d: Directory, n: usize) -> u8
+    ensures { λ r. ⌜ r ≡ lengthNumber d n ⌝ }
+{
+    if n != start(d, 32) {
+        return 10;
+    }
+    0
+}
+
+fn command_number(len: u8, size: u16, right: u8, offset: u16) -> u8
+    ensures { λ r. ⌜ r ≡ commandNumber len size right offset ⌝ }
+{
+    if len == 0 {
+        return 6;
+    }
+    if size == 0 {
+        return 7;
+    }
+    if right != 2 {
+        return 7;
+    }
+    if (size as u32) < offset as u32 + len as u32 {
+        return 8;
+    }
+    0
+}
+
+fn ask_number(len: u8, reserved: bool, size: u16, right: u8, offset: u16, count: u8) -> u8
+    ensures { λ r. ⌜ r ≡ askNumber len reserved size right offset count ⌝ }
+{
+    if len != 3 {
+        return 6;
+    }
+    if reserved {
+        return 6;
+    }
+    if size == 0 {
+        return 7;
+    }
+    if right == 0 {
+        return 7;
+    }
+    if count == 0 {
+        return 9;
+    }
+    if 8 < count {
+        return 9;
+    }
+    if (size as u32) < offset as u32 + count as u32 {
+        return 8;
+    }
+    0
+}
+
+fn query_number(len: u8, first: u8, reserved: bool, count: u8) -> u8
+    ensures { λ r. ⌜ r ≡ queryNumber len first reserved count ⌝ }
+{
+    if len == 0 {
+        return 6;
+    }
+    if first != 0x80 {
+        return 5;
+    }
+    if len != 4 {
+        return 6;
+    }
+    if reserved {
+        return 6;
+    }
+    if count == 1 {
+        return 0;
+    }
+    if count == 5 {
+        return 0;
+    }
+    9
+}
+
+// 5, 6, 7, 9 and 8, by the frame's type.
+fn kind_number(d: Directory, f: Frame) -> u8
+    ensures { λ r. ⌜ r ≡ kindNumber d f ⌝ }
+{
+    let id = f.id;
+    let kind = kind_of(id);
+    if kind == 7 {
+        let reserved = is_reserved(f.bytes[1], f.bytes[3]);
+        return query_number(f.len, f.bytes[0], reserved, f.bytes[3] % 16);
+    }
+    let t = table_of(id) as usize;
+    let size = d.sizes[t];
+    let right = d.rights[t];
+    if kind == 0 {
+        return command_number(f.len, size, right, offset_of(id));
+    }
+    if kind == 1 {
+        let reserved = is_reserved(f.bytes[0], f.bytes[2]);
+        return ask_number(f.len, reserved, size, right, offset_of(id), f.bytes[2] % 16);
+    }
+    5
+}
+
+// The number of the answer: the refusals in their order, or 0; n is the memory's length.
+fn serve_number(d: Directory, n: usize, f: Frame) -> u8
+    ensures { λ r. ⌜ r ≡ serveNumber d n f ⌝ }
+{
+    let directory = directory_number(d);
+    if directory != 0 {
+        return directory;
+    }
+    let length = length_number(d, n);
+    if length != 0 {
+        return length;
+    }
+    let head = head_number(d.own, f);
+    if head != 0 {
+        return head;
+    }
+    kind_number(d, f)
+}
+
+// A number and no frame.
+fn no_answer(number: u8) -> Served
+    ensures { λ r. ⌜ r ≡ noAnswer number ⌝ }
+{
+    Served {
+        number,
+        answers: 0,
+        frame: Frame {
+            id: 0,
+            len: 0,
+            bytes: [0; 8],
+        },
+    }
+}
+
+// The bytes, and zeros up to eight.
+fn eight(bytes: &[u8]) -> [u8; 8]
+    requires { ⌜ length (now bytes) ≤ 8 ⌝ }
+    ensures { λ r. ⌜ r ≡ padded (now (bytes .entry)) ⌝ }
+{
+    let mut out = [0u8; 8];
+    wire::put(&mut out, 0, bytes);
+    out
+}
+
+// RSP to the sender of a frame, to the table and offset that the request asks for.
+fn reply(d: Directory, f: Frame, q: Request, bytes: &[u8]) -> Served
+    requires { ⌜ (d .own ≤ 15) × (q .table ≤ 31) × (q .offset ≤ 2047) × (length (now bytes) ≤ 8) × (q .count ≡ length (now bytes)) ⌝ }
+    ensures { λ r. ⌜ r ≡ replyTo d f q (now (bytes .entry)) ⌝ }
+{
+    let id = id_of(q.offset, 2, d.own, from_of(f.id), q.table);
+    Served {
+        number: 0,
+        answers: 1,
+        frame: Frame {
+            id: id as u32,
+            len: q.count,
+            bytes: eight(bytes),
+        },
+    }
+}
+
+// Where a frame's offset lies in memory.
+fn place(d: Directory, f: Frame) -> usize
+    ensures { λ r. ⌜ r ≡ placeOf d f ⌝ }
+{
+    start(d, table_of(f.id) as usize) + offset_of(f.id) as usize
+}
+
+// 2, then the two blocking factors, high byte first.
+fn protocol_of(d: Directory) -> [u8; 5]
+    ensures { λ r. ⌜ r ≡ protocol d ⌝ }
+{
+    let t = wire::two_bytes(d.table_blocking);
+    let w = wire::two_bytes(d.write_blocking);
+    [2, t[0], t[1], w[0], w[1]]
+}
+
+// The answer to a protocol query that is not refused.
+fn answer_query(d: Directory, f: Frame) -> Served
+    requires { ⌜ (d .own ≤ 15) × (requestAt f 1 .count ≤ 5) ⌝ }
+    ensures { λ r. ⌜ r ≡ replyTo d f (requestAt f 1) (take (requestAt f 1 .count) (protocol d)) ⌝ }
+{
+    let q = request_of(f.bytes[1], f.bytes[2], f.bytes[3]);
+    let bytes = protocol_of(d);
+    let n = q.count as usize;
+    reply(d, f, q, &bytes[..n])
+}
+
+// The answer to a request that is not refused.
+fn answer_ask(d: Directory, memory: &[u8], f: Frame) -> Served
+    requires { ⌜ (d .own ≤ 15) × (requestAt f 0 .count ≤ 8) × (placeOf d f + requestAt f 0 .count ≤ length (now memory)) ⌝ }
+    ensures { λ r. ⌜ r ≡ replyTo d f (requestAt f 0) (take (requestAt f 0 .count) (drop (placeOf d f) (now (memory .entry)))) ⌝ }
+{
+    let q = request_of(f.bytes[0], f.bytes[1], f.bytes[2]);
+    let at = place(d, f);
+    let end = at + q.count as usize;
+    reply(d, f, q, &memory[at..end])
+}
+
+// The first n bytes of an array, stored from a place on.
+fn store(memory: &mut [u8], at: usize, bytes: [u8; 8], n: usize)
+    requires { ⌜ (n ≤ 8) × (at + n ≤ length (now memory)) ⌝ }
+    ensures { λ _. ⌜ now (memory .exit) ≡ sets (now (memory .entry)) at (take n bytes) ⌝ }
+{
+    wire::put(memory, at, &bytes[..n]);
+}
+
+// What a frame that is not refused does.
+fn act(d: Directory, memory: &mut [u8], f: Frame) -> Served
+    requires { ⌜ serveNumber d (length (now memory)) f ≡ 0 ⌝ }
+    ensures { λ r. ⌜ (r ≡ actOf d (now (memory .entry)) f) × (now (memory .exit) ≡ memoryAct d (now (memory .entry)) f) ⌝ }
+{
+    let kind = kind_of(f.id);
+    if kind == 0 {
+        let bytes = f.bytes;
+        store(memory, place(d, f), bytes, f.len as usize);
+        return no_answer(0);
+    }
+    if kind == 1 {
+        return answer_ask(d, &memory[..], f);
+    }
+    answer_query(d, f)
+}
+
+// What the holder of these tables, which lie back to back in memory, does with a frame.
+pub fn serve(d: Directory, memory: &mut [u8], f: Frame) -> Served
+    ensures { λ r. ⌜ (r ≡ serveOf d (now (memory .entry)) f) × (now (memory .exit) ≡ memoryOf d (now (memory .entry)) f) ⌝ }
+    ensures demand2 { λ r. ⌜ Demand2 d (now (memory .entry)) f ⌝ }
+{
+    let number = serve_number(d, memory.len(), f);
+    if number != 0 {
+        return no_answer(number);
+    }
+    act(d, memory, f)
+}

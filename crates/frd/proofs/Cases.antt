@@ -1,0 +1,196 @@
+-- Which case of a definition holds, by what a reader tested. These laws, and not the definitions, are what proofs cite.
+use Prim.Native.Nat.{ℕ, zero, suc, _+_, _<_, _≤_}
+use mathlib.Core.Path.{_≡_, refl, sym, ap, _∙_}
+use mathlib.Core.Bool.{Bool, true, false, cond}
+use mathlib.Core.List.{List}
+use native.Mathlib.Omega.{arith}
+use borrow.Author.Tests.{eq-eqb, ne-eqb, eqb-true, eqb-false, lt-ltb, le-ltb, ltb-false}
+use lib.Dec.{eqb}
+use lib.ListN.{length, drop}
+use Rattle.wire.specs.BigEndian.{beAt}
+use Rattle.wire.proofs.Orders.{if-yes, if-no, if-zero, if-skip}
+use Rattle.frd.specs.Counter.{counterOf}
+use Rattle.frd.specs.Header.{signaturePlace, signatureLen, signaturePart, headFor, headAnswer}
+use Rattle.frd.specs.Blocks.{blockLen, kindIn, counterIn, recordPlace, restNumber, foundOf, judged, blockOf, blockAt, blockNumber, blockAnswer}
+use Rattle.frd.specs.declared.Header.{Header}
+use Rattle.frd.specs.declared.Part.{Part}
+use Rattle.frd.specs.declared.Head.{Head}
+use Rattle.frd.specs.declared.Head.the-variants.{Is, Refused as HeadRefused}
+use Rattle.frd.specs.declared.Block.{Block}
+use Rattle.frd.specs.declared.Block.the-variants.{Data, Time, End, Refused}
+
+-- a header that a number refuses, and one that none does
+pub head-refused : (n : ℕ) (h : Header) (x : ℕ) → x ≡ n → (x ≡ 0 → ⊥) → HeadRefused x ≡ headFor n h
+unfolding headFor
+head-refused zero h x e k = absurd (k e)
+head-refused (suc n) h x e k = ap HeadRefused e
+
+pub head-stands : (n : ℕ) (h g : Header) → 0 ≡ n → g ≡ h → Is g ≡ headFor n h
+unfolding headFor
+head-stands zero h g e k = ap Is k
+head-stands (suc n) h g e k = absurd (omega arith)
+
+-- where its signature stands
+pub part-refused : (n x : ℕ) → x ≡ n → (x ≡ 0 → ⊥) → _≡_ {A = Part} (record { number = x; start = 0; len = 0 }) (signaturePart n)
+unfolding signaturePart
+part-refused zero x e k = absurd (k e)
+part-refused (suc n) x e k = rw e
+
+pub part-stands : (n x : ℕ) → x ≡ n → x ≡ 0 → _≡_ {A = Part} (record { number = x; start = signaturePlace; len = signatureLen }) (signaturePart n)
+unfolding signaturePart
+part-stands zero x e k = rw e
+part-stands (suc n) x e k = absurd (omega arith)
+
+-- the same of a block
+pub block-refused : (n at : ℕ) (b : Block) (x : ℕ) → x ≡ n → (x ≡ 0 → ⊥) → Refused x at ≡ judged n at b
+unfolding judged
+block-refused zero at b x e k = absurd (k e)
+block-refused (suc n) at b x e k = ap (λ (m : ℕ). Refused m at) e
+
+pub block-stands : (n at : ℕ) (b : Block) → n ≡ 0 → judged n at b ≡ b
+unfolding judged
+block-stands zero at b e = refl
+block-stands (suc n) at b e = absurd (omega arith)
+
+-- lengths by type
+pub data-len : (l k : ℕ) → k ≡ 1 → blockLen l k ≡ l + 2
+unfolding blockLen
+data-len l k e = sym (if-yes (l + 2) (eqb k 1) _ (eq-eqb k 1 e))
+
+pub time-len : (l k : ℕ) → k ≡ 2 → blockLen l k ≡ 6
+unfolding blockLen
+time-len l k e = sym (if-no (l + 2) (eqb k 1) _ 6 (ne-eqb k 1 (λ z. omega arith)) (if-yes 6 (eqb k 2) 0 (eq-eqb k 2 e)))
+
+pub no-len : (l k : ℕ) → (k ≡ 1 → ⊥) → (k ≡ 2 → ⊥) → blockLen l k ≡ 0
+unfolding blockLen
+no-len l k a b = sym (if-no (l + 2) (eqb k 1) _ 0 (ne-eqb k 1 a) (if-no 6 (eqb k 2) 0 0 (ne-eqb k 2 b) refl))
+
+-- the type of a block that has a length
+pub data Kind (k : ℕ) : Type 0 where
+  is-data : k ≡ 1 → Kind k
+  is-time : k ≡ 2 → Kind k
+  is-none : (k ≡ 1 → ⊥) → (k ≡ 2 → ⊥) → Kind k
+
+kind-by : (k : ℕ) (a b : Bool) → eqb k 1 ≡ a → eqb k 2 ≡ b → Kind k
+kind-by k true b p q = is-data (eqb-true _ _ p)
+kind-by k false true p q = is-time (eqb-true _ _ q)
+kind-by k false false p q = is-none (eqb-false _ _ p) (eqb-false _ _ q)
+
+pub kind-of : (k : ℕ) → Kind k
+kind-of k = kind-by k _ _ refl refl
+
+-- what is found in the rest of the file
+module _ (c at : ℕ) (t : List ℕ) where
+  pub found-end : length t ≡ 0 → foundOf c at t ≡ End
+  unfolding foundOf
+  found-end h = rw (eq-eqb (length t) 0 h)
+
+  pub found-data : (length t ≡ 0 → ⊥) → kindIn t ≡ 1 → foundOf c at t ≡ Data (counterIn t) (recordPlace at) (eqb (counterIn t) c)
+  unfolding foundOf
+  found-data h e = rw (ne-eqb (length t) 0 h, eq-eqb (kindIn t) 1 e)
+
+  pub found-time : (length t ≡ 0 → ⊥) → (kindIn t ≡ 1 → ⊥) → foundOf c at t ≡ Time (counterIn t) (beAt 4 t 2) (eqb (counterIn t) c)
+  unfolding foundOf
+  found-time h e = rw (ne-eqb (length t) 0 h, ne-eqb (kindIn t) 1 e)
+
+-- the number of the rest of the file, and what follows where it is 0
+module _ (l : ℕ) (t : List ℕ) where
+  pub rest-none : length t ≡ 0 → 0 ≡ restNumber l t
+  unfolding restNumber
+  rest-none h = if-yes 0 _ _ (eq-eqb _ _ h)
+
+  pub rest-unknown : (length t ≡ 0 → ⊥) → blockLen l (kindIn t) ≡ 0 → 25 ≡ restNumber l t
+  unfolding restNumber
+  rest-unknown h e = if-no 0 _ _ 25 (ne-eqb _ _ h) (if-yes 25 _ _ (eq-eqb _ _ e))
+
+  pub rest-whole : (length t ≡ 0 → ⊥) → (blockLen l (kindIn t) ≡ 0 → ⊥) → blockLen l (kindIn t) ≤ length t → 0 ≡ restNumber l t
+  unfolding restNumber
+  rest-whole h a b = if-no 0 _ _ 0 (ne-eqb _ _ h) (if-no 25 _ _ 0 (ne-eqb _ _ a) (if-no 20 _ _ 0 (le-ltb _ _ b) refl))
+
+  pub rest-known : (length t ≡ 0 → ⊥) → restNumber l t ≡ 0 → (blockLen l (kindIn t) ≡ 0 → ⊥) × (blockLen l (kindIn t) ≤ length t)
+  unfolding restNumber
+  rest-known h e =
+      let a = if-zero 24 _ _ (if-skip 0 _ _ (ne-eqb (length t) 0 h) e) in
+      let b = if-zero 19 _ _ (a .1) in
+      (eqb-false _ _ (a .0), ltb-false _ _ (b .0))
+
+-- nothing left is the end
+pub block-end : (l c at : ℕ) (t : List ℕ) → length t ≡ 0 → blockOf l c at t ≡ End
+unfolding blockOf
+block-end l c at t h = block-stands _ at _ (sym (rest-none l t h)) ∙ found-end c at t h
+
+-- known blocks have two bytes at least
+pub two-bytes : (l k : ℕ) → (blockLen l k ≡ 0 → ⊥) → 2 ≤ blockLen l k
+two-bytes l k h = by (kind-of k)
+  where
+    by : Kind k → 2 ≤ blockLen l k
+    by (is-data e) = omega (arith, data-len l k e)
+    by (is-time e) = omega (arith, time-len l k e)
+    by (is-none a b) = absurd (h (no-len l k a b))
+
+-- so the rest of a file that no number refuses is not one byte
+pub rest-two : (l : ℕ) (t : List ℕ) → restNumber l t ≡ 0 → length t ≡ 1 → ⊥
+rest-two l t e h = let k = rest-known l t (λ z. omega arith) e in omega (arith, two-bytes l (kindIn t) (k .0), k .1)
+
+-- a place of a file
+module _ (l n : ℕ) (f : List ℕ) (at : ℕ) where
+  pub at-past : length f < at → Refused 23 at ≡ blockAt l n f at
+  unfolding blockAt blockNumber
+  at-past h = block-refused _ at _ 23 (if-yes 23 _ _ (lt-ltb _ _ h)) (λ z. omega arith)
+
+  pub at-within : at ≤ length f → blockAt l n f at ≡ blockOf l (counterOf n) at (drop at f)
+  unfolding blockAt blockOf blockNumber
+  at-within h = ap (λ (m : ℕ). judged m at (foundOf (counterOf n) at (drop at f))) (sym (if-no 23 _ _ (restNumber l (drop at f)) (le-ltb _ _ h) refl))
+
+-- the numbers of the answers
+pub head-read : (n : ℕ) (h : Header) (r : Head) → r ≡ headFor n h → (r ≡ headFor n h) × (headAnswer r .number ≡ n)
+unfolding headFor
+head-read zero h r e = (e, ap (λ (x : Head). headAnswer x .number) e)
+head-read (suc n) h r e = (e, ap (λ (x : Head). headAnswer x .number) e)
+
+judged-number : (n at : ℕ) (b : Block) → blockAnswer b .number ≡ 0 → blockAnswer (judged n at b) .number ≡ n
+unfolding judged
+judged-number zero at b e = e
+judged-number (suc n) at b e = refl
+
+found-by : (c s m : ℕ) (r a b : Bool) → blockAnswer (cond a End (cond b (Data c s r) (Time c m r))) .number ≡ 0
+found-by c s m r true b = refl
+found-by c s m r false true = refl
+found-by c s m r false false = refl
+
+found-number : (c at : ℕ) (t : List ℕ) → blockAnswer (foundOf c at t) .number ≡ 0
+unfolding foundOf
+found-number c at t = found-by _ _ _ _ (eqb (length t) 0) (eqb (kindIn t) 1)
+
+pub block-read : (l n : ℕ) (f : List ℕ) (at : ℕ) (r : Block) → r ≡ blockAt l n f at → (r ≡ blockAt l n f at) × (blockAnswer r .number ≡ blockNumber l f at)
+unfolding blockAt
+block-read l n f at r e =
+    (e, ap (λ (x : Block). blockAnswer x .number) e ∙ judged-number (blockNumber l f at) at (foundOf (counterOf n) at (drop at f)) (found-number (counterOf n) at (drop at f)))
+
+-- what the rest of the file begins with, and the facts of each case
+pub data View (l c at : ℕ) (t : List ℕ) : Type 0 where
+  at-end : length t ≡ 0 → blockOf l c at t ≡ End → View l c at t
+  of-data : kindIn t ≡ 1 → l + 2 ≤ length t → blockOf l c at t ≡ Data (counterIn t) (recordPlace at) (eqb (counterIn t) c) → View l c at t
+  of-time : kindIn t ≡ 2 → 6 ≤ length t → blockOf l c at t ≡ Time (counterIn t) (beAt 4 t 2) (eqb (counterIn t) c) → View l c at t
+  of-refusal : (m : ℕ) → (m ≡ 0 → ⊥) → blockOf l c at t ≡ Refused m at → View l c at t
+
+module _ (l c at : ℕ) (t : List ℕ) where
+  view-whole : Kind (kindIn t) → (length t ≡ 0 → ⊥) → restNumber l t ≡ 0 → View l c at t
+  unfolding blockOf
+  view-whole (is-data e) h z =
+      of-data e (omega (arith, rest-known l t h z .1, data-len l (kindIn t) e)) (block-stands _ at _ z ∙ found-data c at t h e)
+  view-whole (is-time e) h z =
+      of-time e (omega (arith, rest-known l t h z .1, time-len l (kindIn t) e)) (block-stands _ at _ z ∙ found-time c at t h (λ w. omega arith))
+  view-whole (is-none a b) h z = absurd (rest-known l t h z .0 (no-len l (kindIn t) a b))
+
+  view-some : (m : ℕ) → restNumber l t ≡ m → (length t ≡ 0 → ⊥) → View l c at t
+  unfolding blockOf
+  view-some zero z h = view-whole (kind-of (kindIn t)) h z
+  view-some (suc m) z h = of-refusal (suc m) (λ w. omega arith) (sym (block-refused _ at _ (suc m) (sym z) (λ w. omega arith)))
+
+  view-by : (b : Bool) → eqb (length t) 0 ≡ b → View l c at t
+  view-by true q = let e = eqb-true (length t) 0 q in at-end e (block-end l c at t e)
+  view-by false q = view-some _ refl (eqb-false (length t) 0 q)
+
+  pub view : View l c at t
+  view = view-by _ refl

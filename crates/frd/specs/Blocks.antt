@@ -1,0 +1,84 @@
+-- "Block 1: type, counter, L bytes. Block 2: type, counter, time (32)" .. "The counter is the number of earlier blocks, modulo 256, a wrong one reported."
+-- Below, l is the output length L, c the expected counter, at a place in the file, and t the rest of the file from that place on.
+use Prim.Native.Nat.{ℕ, zero, suc, _+_}
+use mathlib.Core.Bool.{Bool, false, cond}
+use mathlib.Core.List.{List}
+use lib.Dec.{eqb, ltb}
+use lib.ListN.{length, getD, drop}
+use Rattle.wire.specs.Order.{_if_else_}
+use Rattle.wire.specs.BigEndian.{beAt}
+use Rattle.frd.specs.Counter.{counterOf}
+use Rattle.frd.specs.declared.Block.{Block}
+use Rattle.frd.specs.declared.Block.the-variants.{Data, Time, End, Refused}
+
+-- the length of a block by its type, 0 for an unknown type
+unfoldable pub blockLen : ℕ → ℕ → ℕ
+blockLen l kind = (l + 2) if eqb kind 1 else 6 if eqb kind 2 else 0
+
+-- type and counter of the block that t begins with
+abbrev pub kindIn : List ℕ → ℕ
+kindIn t = getD t 0 0
+
+abbrev pub counterIn : List ℕ → ℕ
+counterIn t = getD t 1 0
+
+-- where the L bytes of the data block at a place begin
+abbrev pub recordPlace : ℕ → ℕ
+recordPlace at = at + 2
+
+-- "25, 20": type unknown, block cut short; nothing left is the end
+unfoldable pub restNumber : ℕ → List ℕ → ℕ
+restNumber l t =
+    0 if eqb (length t) 0
+    else 25 if eqb (blockLen l (kindIn t)) 0
+    else 20 if ltb (length t) (blockLen l (kindIn t))
+    else 0
+
+-- what t begins with where no number refuses it, and whether its counter is the expected one
+unfoldable pub foundOf : ℕ → ℕ → List ℕ → Block
+foundOf c at t =
+    cond (eqb (length t) 0) End
+    (cond (eqb (kindIn t) 1)
+    (Data (counterIn t) (recordPlace at) (eqb (counterIn t) c))
+    (Time (counterIn t) (beAt 4 t 2) (eqb (counterIn t) c)))
+
+-- that, or the number that refuses it, with the block's place
+unfoldable pub judged : ℕ → ℕ → Block → Block
+judged zero at b = b
+judged (suc n) at b = Refused (suc n) at
+
+unfoldable pub blockOf : ℕ → ℕ → ℕ → List ℕ → Block
+blockOf l c at t = judged (restNumber l t) at (foundOf c at t)
+
+-- "Order: .. 23 (place past the file), 25, 20"; a place equal to the file's length is the end
+unfoldable pub blockNumber : ℕ → List ℕ → ℕ → ℕ
+blockNumber l f at =
+    23 if ltb (length f) at
+    else restNumber l (drop at f)
+
+-- what stands at a place of a file, after n blocks
+unfoldable pub blockAt : ℕ → ℕ → List ℕ → ℕ → Block
+blockAt l n f at = judged (blockNumber l f at) at (foundOf (counterOf n) at (drop at f))
+
+-- the number and the values of each case; a refusal's are 0, save the block's place
+pub record BlockAnswer : Type 0 where
+  pub number : ℕ
+  pub kind : ℕ
+  pub counter : ℕ
+  pub time : ℕ
+  pub start : ℕ
+  pub right : Bool
+  pub place : ℕ
+
+abbrev pub blockAnswer : Block → BlockAnswer
+blockAnswer (Data c s r) = record { number = 0; kind = 1; counter = c; time = 0; start = s; right = r; place = 0 }
+blockAnswer (Time c m r) = record { number = 0; kind = 2; counter = c; time = m; start = 0; right = r; place = 0 }
+blockAnswer End = record { number = 0; kind = 0; counter = 0; time = 0; start = 0; right = false; place = 0 }
+blockAnswer (Refused n p) = record { number = n; kind = 0; counter = 0; time = 0; start = 0; right = false; place = p }
+
+-- how many bytes a block takes
+abbrev pub lengthOf : ℕ → Block → ℕ
+lengthOf l (Data c s r) = blockLen l 1
+lengthOf l (Time c m r) = blockLen l 2
+lengthOf l End = 0
+lengthOf l (Refused n p) = 0

@@ -1,0 +1,76 @@
+-- "Header 81 bytes: `46 52 44 00 00 00`, version 1 (16), time (32), signature (63 bytes, free), data begin (32, must be 81), output length L (16)."
+use Prim.Native.Nat.{ℕ, zero, suc}
+use mathlib.Core.Bool.{not}
+use mathlib.Core.List.{List, [], _∷_}
+use lib.Dec.{eqb, ltb}
+use lib.ListN.{length, take, drop}
+use Rattle.wire.specs.Order.{_if_else_}
+use Rattle.wire.specs.BigEndian.{beOf, beAt}
+use Rattle.frd.specs.declared.Header.{Header}
+use Rattle.frd.specs.declared.Part.{Part}
+use Rattle.frd.specs.declared.Head.{Head}
+use Rattle.frd.specs.declared.Head.the-variants.{Is, Refused}
+
+-- the header's length, at which the data begin
+abbrev pub headLen : ℕ
+headLen = 81
+
+-- the signature's place and length
+abbrev pub signaturePlace : ℕ
+signaturePlace = 12
+
+abbrev pub signatureLen : ℕ
+signatureLen = 63
+
+-- the name
+abbrev pub name : List ℕ
+name = 0x46 ∷ 0x52 ∷ 0x44 ∷ 0 ∷ 0 ∷ 0 ∷ []
+
+-- the version that is served
+abbrev pub version : ℕ
+version = 1
+
+-- the header's numbers, as they stand in the file
+unfoldable pub numbersOf : List ℕ → Header
+numbersOf f =
+    record {
+      version = beAt 2 f 6;
+      time = beAt 4 f 8;
+      begin = beAt 4 f 75;
+      size = beAt 2 f 79;
+    }
+
+-- the signature, a part of the file
+unfoldable pub signatureIn : List ℕ → List ℕ
+signatureIn f = take signatureLen (drop signaturePlace f)
+
+-- "Order: 20, 21, 22, 23": cut short, wrong name, version not served, data begin not 81
+unfoldable pub headNumber : List ℕ → ℕ
+headNumber f =
+    20 if ltb (length f) headLen
+    else 21 if not (eqb (beAt 6 f 0) (beOf name))
+    else 22 if not (eqb (numbersOf f .version) version)
+    else 23 if not (eqb (numbersOf f .begin) headLen)
+    else 0
+
+-- the header, or the number that refuses it
+unfoldable pub headFor : ℕ → Header → Head
+headFor zero h = Is h
+headFor (suc n) h = Refused (suc n)
+
+unfoldable pub headerOf : List ℕ → Head
+headerOf f = headFor (headNumber f) (numbersOf f)
+
+-- where a read header's signature stands: place and length in the file, which a refusal leaves 0
+unfoldable pub signaturePart : ℕ → Part
+signaturePart zero = record { number = 0; start = signaturePlace; len = signatureLen }
+signaturePart (suc n) = record { number = suc n; start = 0; len = 0 }
+
+-- the number and the values of each case; a refusal's are 0
+pub record HeadAnswer : Type 0 where
+  pub number : ℕ
+  pub header : Header
+
+abbrev pub headAnswer : Head → HeadAnswer
+headAnswer (Is h) = record { number = 0; header = h }
+headAnswer (Refused n) = record { number = n; header = record { version = 0; time = 0; begin = 0; size = 0 } }

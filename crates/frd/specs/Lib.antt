@@ -1,0 +1,6 @@
+pub mod Counter
+pub mod Header
+pub mod Blocks
+pub mod Log
+pub mod Writers
+pub mod RoundTrip

@@ -1,0 +1,36 @@
+-- "Writers mirror it: 23 for a wrong record length or a signature not of 63 bytes, then 27."
+use Prim.Native.Nat.{ℕ}
+use mathlib.Core.Bool.{not}
+use mathlib.Core.List.{List, _∷_, _++_}
+use lib.Dec.{eqb, ltb}
+use lib.ListN.{length}
+use Rattle.wire.specs.Order.{_if_else_}
+use Rattle.wire.specs.BigEndian.{bytesOf}
+use Rattle.frd.specs.Header.{headLen, signatureLen, name, version}
+
+-- a header's bytes
+unfoldable pub headerBytes : ℕ → List ℕ → ℕ → List ℕ
+headerBytes time signature l =
+    name ++ (bytesOf 2 version ++ (bytesOf 4 time ++ (signature ++ (bytesOf 4 headLen ++ bytesOf 2 l))))
+
+-- a data block's bytes with a counter
+unfoldable pub dataBytes : ℕ → List ℕ → List ℕ
+dataBytes c rec = 1 ∷ c ∷ rec
+
+-- a time block's bytes with a counter
+unfoldable pub timeBytes : ℕ → ℕ → List ℕ
+timeBytes c time = 2 ∷ c ∷ bytesOf 4 time
+
+-- 27: the output has no room for these bytes
+unfoldable pub roomNumber : List ℕ → ℕ → ℕ
+roomNumber bytes room = 27 if ltb room (length bytes) else 0
+
+unfoldable pub headerNumber : ℕ → List ℕ → ℕ → ℕ → ℕ
+headerNumber time signature l room =
+    23 if not (eqb (length signature) signatureLen)
+    else roomNumber (headerBytes time signature l) room
+
+unfoldable pub dataNumber : ℕ → ℕ → List ℕ → ℕ → ℕ
+dataNumber l c rec room =
+    23 if not (eqb (length rec) l)
+    else roomNumber (dataBytes c rec) room

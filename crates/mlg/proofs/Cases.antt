@@ -1,0 +1,174 @@
+-- Which case of a block's definition holds, by what a reader tested. These laws, and not the definitions, are what proofs cite.
+use Prim.Native.Nat.{ℕ, zero, suc, _+_, _<_, _≤_}
+use mathlib.Core.Path.{_≡_, refl, sym, ap, _∙_}
+use mathlib.Core.Bool.{Bool, true, false, not}
+use mathlib.Core.List.{List, [], _∷_}
+use native.Mathlib.Omega.{arith}
+use borrow.Author.Tests.{le-leb, lt-leb, lt-ltb, le-ltb, eq-eqb, ne-eqb, eqb-true, eqb-false, ltb-true, ltb-false, leb-true, leb-false}
+use lib.Dec.{eqb, ltb, leb}
+use lib.ListN.{length, getD, take, drop}
+use Rattle.wire.specs.Order.{_if_else_}
+use Rattle.wire.specs.Sum.{sumOf}
+use Rattle.wire.specs.Text.{textLen}
+use Rattle.wire.proofs.Orders.{if-yes, if-no, if-zero, not-no}
+use Rattle.mlg.specs.Block.{counterOf, blockLen, kindIn, counterIn, timeIn, recordIn, sumIn, textIn, lastOf, blockNumber, partsOf, blockJudged, blockOf, placeNumber, blockAt, restNumber, atNumber, blockAnswer}
+use Rattle.mlg.specs.declared.Block.{Block}
+use Rattle.mlg.specs.declared.Block.the-variants.{Data, Mark, End, Refused}
+
+-- the length of a block by its type
+pub len-data : (l k : ℕ) → k ≡ 0 → blockLen l k ≡ l + 5
+unfolding blockLen
+len-data l zero e = refl
+len-data l (suc k) e = absurd (omega arith)
+
+pub len-mark : (l k : ℕ) → k ≡ 1 → blockLen l k ≡ 54
+unfolding blockLen
+len-mark l zero e = absurd (omega arith)
+len-mark l (suc zero) e = refl
+len-mark l (suc (suc k)) e = absurd (omega arith)
+
+pub len-none : (l k : ℕ) → (k ≡ 0 → ⊥) → (k ≡ 1 → ⊥) → blockLen l k ≡ 0
+unfolding blockLen
+len-none l zero e f = absurd (e refl)
+len-none l (suc zero) e f = absurd (f refl)
+len-none l (suc (suc k)) e f = refl
+
+-- a type that has a length and is not data is a mark
+pub known-mark : (l k : ℕ) → (blockLen l k ≡ 0 → ⊥) → (k ≡ 0 → ⊥) → k ≡ 1
+unfolding blockLen
+known-mark l zero h e = absurd (e refl)
+known-mark l (suc zero) h e = refl
+known-mark l (suc (suc k)) h e = absurd (h refl)
+
+-- a block refused, and one that stands
+pub judged-no : (n at : ℕ) (b : Block) (x : ℕ) → x ≡ n → (x ≡ 0 → ⊥) → Refused x at ≡ blockJudged n at b
+unfolding blockJudged
+judged-no zero at b x e k = absurd (k e)
+judged-no (suc n) at b x e k = ap (λ (m : ℕ). Refused m at) e
+
+pub judged-yes : (n at : ℕ) (b : Block) → n ≡ 0 → blockJudged n at b ≡ b
+unfolding blockJudged
+judged-yes zero at b e = refl
+judged-yes (suc n) at b e = absurd (omega arith)
+
+module _ (l c at : ℕ) where
+  pub block-end : (t : List ℕ) → length t ≡ 0 → blockOf l c at t ≡ End
+  unfolding blockOf
+  block-end [] h = refl
+  block-end (b ∷ t) h = absurd (omega arith)
+
+  pub block-here : (t : List ℕ) → (length t ≡ 0 → ⊥) → blockOf l c at t ≡ blockJudged (blockNumber l t) at (partsOf (kindIn t) c at t)
+  unfolding blockOf
+  block-here [] h = absurd (h refl)
+  block-here (b ∷ t) h = refl
+
+pub at-past : (l n : ℕ) (f : List ℕ) (at : ℕ) → length f < at → blockAt l n f at ≡ Refused 23 at
+unfolding blockAt placeNumber
+at-past l n f at h = sym (judged-no _ at _ 23 (if-yes 23 _ 0 (lt-ltb _ _ h)) (λ z. omega arith))
+
+pub at-within : (l n : ℕ) (f : List ℕ) (at : ℕ) → at ≤ length f → blockAt l n f at ≡ blockOf l (counterOf n) at (drop at f)
+unfolding blockAt placeNumber
+at-within l n f at h = judged-yes _ at _ (sym (if-no 23 _ 0 0 (le-ltb _ _ h) refl))
+
+-- the number of the answer
+parts-number : (l k c at : ℕ) (t : List ℕ) → blockAnswer l (partsOf k c at t) .number ≡ 0
+unfolding blockAnswer partsOf
+parts-number l zero c at t = refl
+parts-number l (suc k) c at t = refl
+
+judged-number : (l n at : ℕ) (b : Block) → blockAnswer l b .number ≡ 0 → blockAnswer l (blockJudged n at b) .number ≡ n
+unfolding blockAnswer blockJudged
+judged-number l zero at b e = e
+judged-number l (suc n) at b e = refl
+
+rest-number : (l c at : ℕ) (t : List ℕ) → blockAnswer l (blockOf l c at t) .number ≡ restNumber l t
+unfolding blockOf restNumber blockAnswer
+rest-number l c at [] = refl
+rest-number l c at (b ∷ t) = judged-number l _ at _ (parts-number l b c at (b ∷ t))
+
+past-number : (l at : ℕ) → blockAnswer l (Refused 23 at) .number ≡ 23
+unfolding blockAnswer
+past-number l at = refl
+
+place-number : (l n : ℕ) (f : List ℕ) (at : ℕ) (b : Bool) → ltb (length f) at ≡ b → blockAnswer l (blockAt l n f at) .number ≡ atNumber l f at
+unfolding atNumber
+place-number l n f at true e = rw (at-past l n f at (ltb-true _ _ e)) (past-number l at ∙ if-yes 23 _ _ e)
+place-number l n f at false e =
+    rw (at-within l n f at (ltb-false _ _ e)) (if-no 23 _ _ _ e (rest-number l (counterOf n) at (drop at f)))
+
+-- both parts of the reader's promise
+pub block-said : {r : Block} (l n : ℕ) (f : List ℕ) (at : ℕ) → r ≡ blockAt l n f at → (r ≡ blockAt l n f at) × (blockAnswer l r .number ≡ atNumber l f at)
+block-said l n f at e = (e, ap (λ (b : Block). blockAnswer l b .number) e ∙ place-number l n f at _ refl)
+
+-- what a block that no number refuses keeps to
+pub whole : (l : ℕ) (t : List ℕ) → blockNumber l t ≡ 0 → (blockLen l (kindIn t) ≡ 0 → ⊥) × (blockLen l (kindIn t) ≤ length t) × (lastOf (kindIn t) l t ≡ 0)
+unfolding blockNumber
+whole l t e =
+    let a = if-zero 24 _ _ e in
+    let b = if-zero 19 _ _ (a .1) in
+    (eqb-false _ _ (a .0), ltb-false _ _ (b .0), b .1)
+
+-- the parts, by the type
+pub parts-data : (k c at : ℕ) (t : List ℕ) → k ≡ 0 → partsOf k c at t ≡ Data (counterIn t) (timeIn t) (at + 4) (eqb (counterIn t) c)
+unfolding partsOf
+parts-data zero c at t e = refl
+parts-data (suc k) c at t e = absurd (omega arith)
+
+pub parts-mark : (k c at : ℕ) (t : List ℕ) → (k ≡ 0 → ⊥) → partsOf k c at t ≡ Mark (counterIn t) (timeIn t) (at + 4) (textLen (textIn t)) (eqb (counterIn t) c)
+unfolding partsOf
+parts-mark zero c at t e = absurd (e refl)
+parts-mark (suc k) c at t e = refl
+
+-- how long a block that no number refuses is, by its type
+pub data-whole : (l : ℕ) (t : List ℕ) → blockNumber l t ≡ 0 → kindIn t ≡ 0 → l + 5 ≤ length t
+data-whole l t e k = rw (← len-data l (kindIn t) k) (whole l t e .1)
+
+pub mark-whole : (l : ℕ) (t : List ℕ) → blockNumber l t ≡ 0 → (kindIn t ≡ 0 → ⊥) → 54 ≤ length t
+mark-whole l t e k = rw (← len-mark l (kindIn t) (known-mark l (kindIn t) (whole l t e .0) k)) (whole l t e .1)
+
+-- five bytes at least
+pub least : (l : ℕ) (t : List ℕ) (b : Bool) → eqb (kindIn t) 0 ≡ b → blockNumber l t ≡ 0 → 5 ≤ length t
+least l t true k e = omega (arith, data-whole l t e (eqb-true _ _ k))
+least l t false k e = omega (arith, mark-whole l t e (eqb-false _ _ k))
+
+-- the last test of a block, by its type
+pub last-data : (k l : ℕ) (t : List ℕ) → k ≡ 0 → sumOf (recordIn l t) ≡ sumIn l t → 0 ≡ lastOf k l t
+unfolding lastOf
+last-data zero l t e s = if-no 26 _ 0 0 (not-no _ (eq-eqb _ _ s)) refl
+last-data (suc k) l t e s = absurd (omega arith)
+
+pub last-mark : (k l : ℕ) (t : List ℕ) → k ≡ 1 → textLen (textIn t) < 50 → 0 ≡ lastOf k l t
+unfolding lastOf
+last-mark zero l t e s = absurd (omega arith)
+last-mark (suc k) l t e s = if-no 28 _ 0 0 (lt-leb _ _ s) refl
+
+-- a block that stands
+pub data-stands : (l : ℕ) (t : List ℕ) → kindIn t ≡ 0 → l + 5 ≤ length t → sumOf (recordIn l t) ≡ sumIn l t → blockNumber l t ≡ 0
+unfolding blockNumber
+data-stands l t k h s =
+    let e = len-data l (kindIn t) k in
+    sym (if-no 25 _ _ 0 (ne-eqb _ _ (λ (z : blockLen l (kindIn t) ≡ 0). omega arith)) (if-no 20 _ _ 0 (le-ltb (length t) (blockLen l (kindIn t)) (rw e h)) (last-data (kindIn t) l t k s)))
+
+pub mark-stands : (l : ℕ) (t : List ℕ) → kindIn t ≡ 1 → 54 ≤ length t → textLen (textIn t) < 50 → blockNumber l t ≡ 0
+unfolding blockNumber
+mark-stands l t k h s =
+    let e = len-mark l (kindIn t) k in
+    sym (if-no 25 _ _ 0 (ne-eqb _ _ (λ (z : blockLen l (kindIn t) ≡ 0). omega arith)) (if-no 20 _ _ 0 (le-ltb (length t) (blockLen l (kindIn t)) (rw e h)) (last-mark (kindIn t) l t k s)))
+
+pub here-stands : (l c at : ℕ) (t : List ℕ) → (length t ≡ 0 → ⊥) → blockNumber l t ≡ 0 → blockOf l c at t ≡ partsOf (kindIn t) c at t
+here-stands l c at t h z = block-here l c at t h ∙ judged-yes _ at _ z
+
+-- and what then holds of it
+not-false : (b : Bool) → not b ≡ false → b ≡ true
+not-false true e = refl
+not-false false e = let z : _≡_ {A = Bool} true false = e in cc
+
+pub sum-right : (k l : ℕ) (t : List ℕ) → k ≡ 0 → lastOf k l t ≡ 0 → sumOf (recordIn l t) ≡ sumIn l t
+unfolding lastOf
+sum-right zero l t e z = eqb-true _ _ (not-false _ (if-zero 25 _ _ z .0))
+sum-right (suc k) l t e z = absurd (omega arith)
+
+pub text-ends : (k l : ℕ) (t : List ℕ) → (k ≡ 0 → ⊥) → lastOf k l t ≡ 0 → textLen (textIn t) < 50
+unfolding lastOf
+text-ends zero l t e z = absurd (e refl)
+text-ends (suc k) l t e z = leb-false _ _ (if-zero 27 _ _ z .0)

@@ -1,0 +1,16 @@
+pub mod Layouts
+pub mod EachField
+pub mod Areas
+pub mod Places
+pub mod Cases
+pub mod BlockBytes
+pub mod Fits
+pub mod HeaderBytes
+pub mod BlockBack
+pub mod Alone
+pub mod Rewrite
+pub mod HeaderBack
+pub mod Logs
+pub mod LogBack
+pub mod LogSame
+pub mod HeaderSame

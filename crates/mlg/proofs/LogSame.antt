@@ -1,0 +1,97 @@
+-- A log's blocks, rewritten from what was read.
+use Prim.Native.Nat.{ℕ, zero, suc, _+_, _-_, _≤_, _<_}
+use mathlib.Core.Path.{_≡_, refl, sym, ap, _∙_}
+use mathlib.Core.Bool.{Bool, true}
+use mathlib.Core.List.{List, [], _∷_, _++_}
+use native.Mathlib.Omega.{arith}
+use borrow.Author.Tests.{eqb-true}
+use lib.ListN.{length, getD, take, drop, length-drop, length-take, take-append-drop, drop-of-length-le}
+use lib.Seq.{drop-drop, take-take, getD-drop}
+use Rattle.wire.specs.Text.{textLen}
+use Rattle.wire.proofs.Parts.{take-length-le}
+use Rattle.wire.proofs.Texts.{text-most}
+use Rattle.mlg.specs.Block.{counterOf, blockLen, kindIn, counterIn, timeIn, recordIn, textIn, blockNumber, partsOf, blockAt}
+use Rattle.mlg.specs.Writing.{dataBytes, padded, markBytes}
+use Rattle.mlg.specs.Log.{Log, lengthOf, logFrom, logOf}
+use Rattle.mlg.specs.Entries.{Entry, aRecord, aMark, entryBytes, entriesBytes, entryIn, entriesIn, Right, Padded, AllRight, AllPadded, rewritten, PaddedHere}
+use Rattle.mlg.specs.RoundTrip.{BlockSame}
+use Rattle.mlg.specs.declared.Block.{Block}
+use Rattle.mlg.specs.declared.Block.the-variants.{Data, Mark, End, Refused}
+use Rattle.mlg.proofs.Cases.{whole}
+use Rattle.mlg.proofs.Logs.{Goes, Next, Stands, a-block, the-end, refused, stands-at, step, parts-go, parts-length, log-end, log-refused, log-go}
+use Rattle.mlg.proofs.Rewrite.{block-same}
+
+-- the first bytes of a part
+text-part : (at : ℕ) (f : List ℕ) → take (textLen (take 50 (drop 4 (drop at f)))) (take 50 (drop 4 (drop at f))) ≡ take (textLen (take 50 (drop 4 (drop at f)))) (drop (at + 4) f)
+text-part at f =
+    take-take (textLen (take 50 (drop 4 (drop at f)))) 50 (drop 4 (drop at f)) (omega (arith, text-most (take 50 (drop 4 (drop at f))), take-length-le 50 (drop 4 (drop at f))))
+    ∙ ap (take (textLen (take 50 (drop 4 (drop at f))))) (drop-drop 4 at f)
+
+-- what a block says, in bytes
+said : (k l n at : ℕ) (f : List ℕ) (es : List Entry)
+    → entriesBytes n (entryIn l f (partsOf k (counterOf n) at (drop at f)) ++ es) ≡ rewritten k l (counterOf n) (drop at f) ++ entriesBytes (n + 1) es
+unfolding partsOf rewritten
+said zero l n at f es = ap (λ (x : List ℕ). dataBytes (counterOf n) (timeIn (drop at f)) (take l x) ++ entriesBytes (n + 1) es) (sym (drop-drop 4 at f))
+said (suc k) l n at f es = ap (λ (x : List ℕ). markBytes (counterOf n) (timeIn (drop at f)) x ++ entriesBytes (n + 1) es) (sym (text-part at f))
+
+right-here : (k c at : ℕ) (t : List ℕ) → Right (partsOf k c at t) → counterIn t ≡ c
+unfolding partsOf
+right-here zero c at t r = eqb-true _ _ r
+right-here (suc k) c at t r = eqb-true _ _ r
+
+padded-here : (k c at : ℕ) (f : List ℕ) → Padded f (partsOf k c at (drop at f)) → PaddedHere k (drop at f)
+unfolding partsOf PaddedHere
+padded-here zero c at f p = tt
+padded-here (suc k) c at f p = ap (take 50) (drop-drop 4 at f) ∙ p ∙ ap padded (sym (text-part at f))
+
+bytes-from : (at : ℕ) (f : List ℕ) → ((i : ℕ) → getD f i 0 < 256) → (i : ℕ) → getD (drop at f) i 0 < 256
+bytes-from at f b i = rw (getD-drop at f i 0) (b (at + i))
+
+module _ (l : ℕ) (f : List ℕ) (bytes : (i : ℕ) → getD f i 0 < 256) where
+  abbrev Same : Log → ℕ → ℕ → Type 0
+  Same log n at = log .ending ≡ End → AllRight (log .blocks) → AllPadded f (log .blocks) → entriesBytes n (entriesIn l f (log .blocks)) ≡ drop at f
+
+  same-end : (log : Log) (n at : ℕ) → log ≡ record { blocks = []; ending = End; place = at } → at ≡ length f → Same log n at
+  same-end log n at e h = λ z r p. rw e (sym (drop-of-length-le f {i = at} (omega arith)))
+
+  same-refused : (log : Log) (n at m : ℕ) → log ≡ record { blocks = []; ending = Refused (suc m) at; place = at } → Same log n at
+  same-refused log n at m e = λ z r p.
+      let w : Refused (suc m) at ≡ End = sym (ap (λ (g : Log). g .ending) e) ∙ z in
+      absurd (let v : _≡_ {A = ℕ} 0 1 = cc in omega arith)
+
+  -- one block
+  module _ (n at : ℕ) (num : blockNumber l (drop at f) ≡ 0) where
+    abbrev b : Block
+    b = partsOf (kindIn (drop at f)) (counterOf n) at (drop at f)
+
+    len : lengthOf l b ≡ blockLen l (kindIn (drop at f))
+    len = parts-length (kindIn (drop at f)) l (counterOf n) at (drop at f) (whole l (drop at f) num .0)
+
+    here : Right b → Padded f b → rewritten (kindIn (drop at f)) l (counterOf n) (drop at f) ≡ take (blockLen l (kindIn (drop at f))) (drop at f)
+    unfolding BlockSame
+    here r p =
+        block-same l (counterOf n) (drop at f) (bytes-from at f bytes) num .0
+        (right-here (kindIn (drop at f)) (counterOf n) at (drop at f) r, padded-here (kindIn (drop at f)) (counterOf n) at f p)
+
+    same-go : (log next : Log) → Next log at b next → Same next (n + 1) (at + lengthOf l b) → Same log n at
+    same-go log next g ih = λ z r p.
+        let r′ = rw (g .0) at r in
+        let p′ = rw (g .0) at p in
+        let rest = ih (sym (g .1) ∙ z) (r′ .1) (p′ .1) in
+        ap (λ (bs : List (ℕ × Block)). entriesBytes n (entriesIn l f bs)) (g .0)
+        ∙ said (kindIn (drop at f)) l n at f (entriesIn l f (next .blocks))
+        ∙ rw (rest, here (r′ .0) (p′ .0), len, ← drop-drop (blockLen l (kindIn (drop at f))) at f) (take-append-drop (blockLen l (kindIn (drop at f))) (drop at f))
+
+  same-by : (k n at : ℕ) → Stands l n f at (blockAt l n f at) → length f - at < suc k
+      → ((m to : ℕ) → to ≤ length f → length f - to < k → Same (logFrom k l m f to) m to) → Same (logFrom (suc k) l n f at) n at
+  same-by k n at (the-end h e) fuel ih = same-end _ n at (log-end k l n f at e) h
+  same-by k n at (refused m e) fuel ih = same-refused _ n at m (log-refused k l n f at (suc m) at e)
+  same-by k n at (a-block h some num e) fuel ih =
+      let s = step l n f at h num in
+      let w = len n at num in
+      same-go n at num _ _ (log-go k l n f at (b n at num) e (parts-go (kindIn (drop at f)) (counterOf n) at (drop at f)))
+      (ih (n + 1) (at + lengthOf l (b n at num)) (omega arith) (omega arith))
+
+  pub same-from : (k n at : ℕ) → at ≤ length f → length f - at < k → Same (logFrom k l n f at) n at
+  same-from zero n at h fuel = absurd (omega arith)
+  same-from (suc k) n at h fuel = same-by k n at (stands-at l n f at) fuel (λ m to h′ fuel′. same-from k m to h′ fuel′)

@@ -1,0 +1,37 @@
+-- A whole log: its blocks with their places, and how they end.
+use Prim.Native.Nat.{ℕ, zero, suc, _+_}
+use mathlib.Core.List.{List, [], _∷_}
+use lib.ListN.{length}
+use Rattle.mlg.specs.Header.{headerOf}
+use Rattle.mlg.specs.Block.{blockLen, blockAt}
+use Rattle.mlg.specs.declared.Block.{Block}
+use Rattle.mlg.specs.declared.Block.the-variants.{Data, Mark, End, Refused}
+
+pub record Log : Type 0 where
+  pub blocks : List (ℕ × Block)
+  -- the end or a refusal, and its place
+  pub ending : Block
+  pub place : ℕ
+
+-- how many bytes a block takes, where records have l
+unfoldable pub lengthOf : ℕ → Block → ℕ
+lengthOf l (Data c m s r) = blockLen l 0
+lengthOf l (Mark c m s k r) = blockLen l 1
+lengthOf l End = 0
+lengthOf l (Refused n p) = 0
+
+-- what stands at a place, before what follows it; the end and a refusal end the log
+unfoldable pub ahead : ℕ → Block → Log → Log
+ahead at (Data c m s r) next = record { blocks = (at, Data c m s r) ∷ next .blocks; ending = next .ending; place = next .place }
+ahead at (Mark c m s k r) next = record { blocks = (at, Mark c m s k r) ∷ next .blocks; ending = next .ending; place = next .place }
+ahead at End next = record { blocks = []; ending = End; place = at }
+ahead at (Refused n p) next = record { blocks = []; ending = Refused n p; place = at }
+
+-- what stands from a place on, after n earlier blocks, where there are fewer than k
+abbrev pub logFrom : ℕ → ℕ → ℕ → List ℕ → ℕ → Log
+logFrom zero l n f at = record { blocks = []; ending = End; place = at }
+logFrom (suc k) l n f at = ahead at (blockAt l n f at) (logFrom k l (n + 1) f (at + lengthOf l (blockAt l n f at)))
+
+-- a file has at most as many blocks as bytes
+unfoldable pub logOf : ℕ → List ℕ → ℕ → Log
+logOf l f at = logFrom (suc (length f)) l 0 f at

@@ -1,0 +1,84 @@
+-- What the writers promise together with the readers. Each statement is a type; the writers' contracts name it, and proofs/ proves it.
+use Prim.Native.Nat.{ℕ, zero, suc, _+_, _-_, _^_, _≤_, _<_}
+use mathlib.Core.Path.{_≡_}
+use mathlib.Core.Bool.{true}
+use mathlib.Core.Logic.{_⊎_}
+use mathlib.Core.List.{List, [], _∷_, _++_}
+use lib.ListN.{length, getD, take, drop}
+use Rattle.wire.specs.Text.{textLen}
+use Rattle.mlg.specs.Header.{headerOf}
+use Rattle.mlg.specs.Block.{counterOf, blockLen, kindIn, counterIn, blockNumber, blockOf, blockAt}
+use Rattle.mlg.specs.Writing.{headerFor, headerBytes, headerNumber, dataBytes, dataNumber, markBytes, markNumber}
+use Rattle.mlg.specs.Parts.{fieldsIn, namesIn, infoIn}
+use Rattle.mlg.specs.Log.{Log, logOf}
+use Rattle.mlg.specs.Entries.{Entry, entriesBytes, Writable, entriesIn, AllRight, AllPadded, rewritten, PaddedHere}
+use Rattle.mlg.specs.declared.Header.{Header}
+use Rattle.mlg.specs.declared.Head.the-variants.{Is}
+use Rattle.mlg.specs.declared.Block.the-variants.{Data, Mark, End}
+
+-- A data block that was written reads back as given, wherever it stands and whatever follows.
+unfoldable pub DataBack : Type 0
+DataBack =
+    (l n time : ℕ) (rec before rest : List ℕ) (room : ℕ) → dataNumber l rec room ≡ 0 → time < 2 ^ 16
+    → (blockAt l n (before ++ (dataBytes (counterOf n) time rec ++ rest)) (length before) ≡ Data (counterOf n) time (length before + 4) true)
+    × (take l (drop (length before + 4) (before ++ (dataBytes (counterOf n) time rec ++ rest))) ≡ rec)
+
+-- A mark that was written reads back as given.
+unfoldable pub MarkBack : Type 0
+MarkBack =
+    (l n time : ℕ) (text before rest : List ℕ) (room : ℕ) → markNumber text room ≡ 0 → time < 2 ^ 16
+    → (blockAt l n (before ++ (markBytes (counterOf n) time text ++ rest)) (length before) ≡ Mark (counterOf n) time (length before + 4) (length text) true)
+    × (take (length text) (drop (length before + 4) (before ++ (markBytes (counterOf n) time text ++ rest))) ≡ text)
+
+-- A whole block does not depend on what follows it.
+unfoldable pub BlockAlone : Type 0
+BlockAlone = (l c at : ℕ) (t rest : List ℕ) → 0 < length t → blockLen l (kindIn t) ≤ length t → blockOf l c at (t ++ rest) ≡ blockOf l c at t
+
+-- A block rewritten from what was read is the same bytes exactly when its counter is right and, if a mark, it is zero-padded.
+unfoldable pub BlockSame : Type 0
+BlockSame =
+    (l c : ℕ) (t : List ℕ) → ((i : ℕ) → getD t i 0 < 256) → blockNumber l t ≡ 0
+    → (((counterIn t ≡ c) × PaddedHere (kindIn t) t) → rewritten (kindIn t) l c t ≡ take (blockLen l (kindIn t)) t)
+    × (rewritten (kindIn t) l c t ≡ take (blockLen l (kindIn t)) t → (counterIn t ≡ c) × PaddedHere (kindIn t) t)
+
+-- A header that was written reads back as given, whatever follows: its numbers, fields, names area and info.
+pub record HeaderReads (time : ℕ) (fields names info file : List ℕ) : Type 0 where
+  pub numbers : headerOf file ≡ Is (headerFor 2 time fields names info)
+  pub same-fields : fieldsIn file (headerFor 2 time fields names info) ≡ fields
+  pub same-names : namesIn file (headerFor 2 time fields names info) ≡ names
+  pub same-info : infoIn file (headerFor 2 time fields names info) ≡ info
+
+unfoldable pub HeaderBack : Type 0
+HeaderBack =
+    (time : ℕ) (fields names info rest : List ℕ) (room : ℕ) → time < 2 ^ 32 → headerNumber 2 time fields names info room ≡ 0
+    → HeaderReads time fields names info (headerBytes 2 time fields names info ++ rest)
+
+-- A log that was written reads back as given: its header, and each record and mark in turn, with right counters, to the end.
+unfoldable pub logBytes : ℕ → List ℕ → List ℕ → List ℕ → List Entry → List ℕ
+logBytes time fields names info es = headerBytes 2 time fields names info ++ entriesBytes 0 es
+
+pub record LogReads (time : ℕ) (fields names info : List ℕ) (es : List Entry) (file : List ℕ) (log : Log) : Type 0 where
+  pub header : HeaderReads time fields names info file
+  pub entries : entriesIn (headerFor 2 time fields names info .size) file (log .blocks) ≡ es
+  pub right : AllRight (log .blocks)
+  pub ends : log .ending ≡ End
+
+unfoldable pub LogBack : Type 0
+LogBack =
+    (time : ℕ) (fields names info : List ℕ) (es : List Entry) (room : ℕ) → time < 2 ^ 32 → headerNumber 2 time fields names info room ≡ 0
+    → Writable (headerFor 2 time fields names info .size) es
+    → LogReads time fields names info es (logBytes time fields names info es)
+    (logOf (headerFor 2 time fields names info .size) (logBytes time fields names info es) (headerFor 2 time fields names info .begin))
+
+-- "A file in this layout": info start is 0, or info is not empty and its zero is the last byte before data begin. (Fields and names area lie back
+-- to back in every file that the reader accepts.)
+unfoldable pub InLayout : List ℕ → Header → Type 0
+InLayout f h = (h .info ≡ 0) ⊎ ((0 < textLen (drop (h .info) f)) × (h .info + textLen (drop (h .info) f) + 1 ≡ h .begin))
+
+-- "A file in this layout, with right counters and zero-padded marks, rewritten from what was read gives the same bytes."
+unfoldable pub LogSame : Type 0
+LogSame =
+    (f : List ℕ) (h : Header) → ((i : ℕ) → getD f i 0 < 256) → headerOf f ≡ Is h → InLayout f h
+    → logOf (h .size) f (h .begin) .ending ≡ End
+    → AllRight (logOf (h .size) f (h .begin) .blocks) → AllPadded f (logOf (h .size) f (h .begin) .blocks)
+    → logBytes (h .time) (fieldsIn f h) (namesIn f h) (infoIn f h) (entriesIn (h .size) f (logOf (h .size) f (h .begin) .blocks)) ≡ f

@@ -1,0 +1,63 @@
+-- Laws of zero-ended texts.
+use Prim.Native.Nat.{ℕ, zero, suc, _+_, _≤_, _<_}
+use mathlib.Core.Path.{_≡_, refl, ap}
+use mathlib.Core.List.{List, [], _∷_, _++_}
+use native.Mathlib.Omega.{arith}
+use lib.ListN.{length, getD}
+use Rattle.wire.specs.Text.{textLen, zeros}
+
+pub textLen-at : (b : ℕ) (bs : List ℕ) → (b ≡ 0 → ⊥) → textLen (b ∷ bs) ≡ 1 + textLen bs
+textLen-at zero bs h = absurd (h refl)
+textLen-at (suc b) bs h = omega arith
+
+pub textLen-zero : (b : ℕ) (bs : List ℕ) → b ≡ 0 → textLen (b ∷ bs) ≡ 0
+textLen-zero zero bs h = refl
+textLen-zero (suc b) bs h = absurd (omega arith)
+
+pub zeros-at : (b : ℕ) (bs : List ℕ) → (b ≡ 0 → ⊥) → zeros (b ∷ bs) ≡ zeros bs
+zeros-at zero bs h = absurd (h refl)
+zeros-at (suc b) bs h = refl
+
+pub zeros-zero : (b : ℕ) (bs : List ℕ) → b ≡ 0 → zeros (b ∷ bs) ≡ 1 + zeros bs
+zeros-zero zero bs h = omega arith
+zeros-zero (suc b) bs h = absurd (omega arith)
+
+-- a text is no longer than what holds it
+pub text-most : (l : List ℕ) → textLen l ≤ length l
+text-most [] = omega arith
+text-most (zero ∷ l) = omega arith
+text-most (suc b ∷ l) = omega (arith, text-most l)
+
+-- a text without a zero, and a zero after it
+pub text-back : (t r : List ℕ) → textLen t ≡ length t → textLen (t ++ (0 ∷ r)) ≡ length t
+text-back [] r h = refl
+text-back (zero ∷ t) r h = absurd (omega arith)
+text-back (suc b ∷ t) r h = ap suc (text-back t r (omega arith))
+
+-- a text that ends in the first list
+pub text-more : (t r : List ℕ) → textLen t < length t → textLen (t ++ r) ≡ textLen t
+text-more [] r h = absurd (omega arith)
+text-more (zero ∷ t) r h = refl
+text-more (suc b ∷ t) r h = ap suc (text-more t r (omega arith))
+
+-- a text that goes on into the second
+pub text-on : (t r : List ℕ) → textLen t ≡ length t → textLen (t ++ r) ≡ length t + textLen r
+text-on [] r h = omega arith
+text-on (zero ∷ t) r h = absurd (omega arith)
+text-on (suc b ∷ t) r h = omega (arith, text-on t r (omega arith))
+
+pub zeros-append : (a b : List ℕ) → zeros (a ++ b) ≡ zeros a + zeros b
+zeros-append [] b = omega arith
+zeros-append (zero ∷ a) b = omega (arith, zeros-append a b)
+zeros-append (suc x ∷ a) b = zeros-append a b
+
+pub zeros-most : (l : List ℕ) → zeros l ≤ length l
+zeros-most [] = omega arith
+zeros-most (zero ∷ l) = omega (arith, zeros-most l)
+zeros-most (suc b ∷ l) = omega (arith, zeros-most l)
+
+-- a text that ends has a zero there
+pub text-zero : (l : List ℕ) → textLen l < length l → getD l (textLen l) 0 ≡ 0
+text-zero [] h = absurd (omega arith)
+text-zero (zero ∷ l) h = refl
+text-zero (suc b ∷ l) h = text-zero l (omega arith)
