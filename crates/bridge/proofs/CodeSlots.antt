@@ -113,7 +113,7 @@ free-small : (s : Bridge) → Small (lowestFree s)
 unfolding lowestFree
 free-small s = small-first _ 0 4
 
-holder-small : (s : Bridge) (t : ℕ) → Small (holderOf s t)
+pub holder-small : (s : Bridge) (t : ℕ) → Small (holderOf s t)
 unfolding holderOf
 holder-small s t = small-first _ 0 4
 
@@ -137,6 +137,10 @@ is-some (some j) k m e h = (ap some (sym e), omega arith)
 from-some : (o : Option ℕ) (k : ℕ) → Small o → k ≡ orFour o → isNone o ≡ false → (k ≡ from o) × (k < 4)
 from-some none k m e h = absurd (let z : _≡_ {A = Bool} true false = h in let y : _≡_ {A = ℕ} 0 1 = cc in omega arith)
 from-some (some j) k m e h = (e, omega arith)
+
+pub from-four : (o : Option ℕ) → Small o → from o < 4
+from-four none m = omega arith
+from-four (some k) m = m
 
 -- of each search
 module _ (s : Bridge) (k : ℕ) (e : k ≡ orFour (lowestFree s)) where

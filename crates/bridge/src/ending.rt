@@ -5,6 +5,10 @@ use crate::state::blank;
 use crate::state::holder;
 use crate::state::sound;
 ghost use mathlib.Core.Path.{_≡_};
+ghost use Rattle.bridge.specs.Statement.{Demand3};
+ghost use Rattle.bridge.specs.Corollaries.{Corollaries};
+ghost use Rattle.bridge.specs.Calls.{Calls};
+ghost use Rattle.bridge.specs.Examples.{Examples};
 ghost use Rattle.bridge.specs.Model.{closeRefusal, close′, fresh, reset′};
 
 fn close_number(b: Bridge, ticket: u32) -> u8
@@ -54,9 +58,14 @@ fn fresh(own: u8) -> Bridge
     }
 }
 
-// Turns any state into the fresh bridge of an own number; 11 where that is over 15.
+// Turns any state into the fresh bridge of an own number; 11 where that is over 15. Every list of calls from a fresh bridge keeps
+// demand 3, and with it stand the theorems on single calls.
 pub fn reset(b: Bridge, own: u8) -> Changed
     ensures { λ r. ⌜ r ≡ reset′ b own ⌝ }
+    ensures demand3 { λ r. ⌜ Demand3 ⌝ }
+    ensures corollaries { λ r. ⌜ Corollaries ⌝ }
+    ensures calls { λ r. ⌜ Calls ⌝ }
+    ensures examples { λ r. ⌜ Examples ⌝ }
 {
     if 15 < own {
         return Changed {

@@ -1,11 +1,6 @@
 // A bridge of four slots: transfers to and from the tables of devices on the bus.
-ghost use mathlib.Core.Path.{_≡_};
-ghost use Rattle.bridge.specs.Statement.{Demand3};
-ghost use Rattle.bridge.specs.Corollaries.{Corollaries};
-ghost use Rattle.bridge.specs.Calls.{Calls};
-ghost use Rattle.bridge.specs.Examples.{Examples};
-
 pub mod ending;
+pub mod in_place;
 pub mod incoming;
 pub mod opening;
 mod state;
@@ -86,11 +81,4 @@ pub struct Span {
 pub struct Shown<'a> {
     pub number: u8,
     pub part: &'a [u8],
-}
-
-// A place for the theorems in a contract.
-pub fn own_of(b: Bridge) -> u8
-    ensures { λ r. ⌜ (r ≡ b .own) × Demand3 × Corollaries × Calls × Examples ⌝ }
-{
-    b.own
 }

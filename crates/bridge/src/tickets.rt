@@ -2,14 +2,15 @@
 use crate::Bridge;
 use crate::DONE;
 use crate::GAVE_UP;
+use crate::Shown;
 use crate::Span;
 use crate::state::asks;
 use crate::state::holder;
 use crate::state::sound;
 ghost use mathlib.Core.Path.{_≡_};
-ghost use Prim.Native.Nat.{_<_};
+ghost use Prim.Native.Nat.{_+_, _<_, _≤_};
 ghost use lib.ListN.{length};
-ghost use Rattle.bridge.specs.Model.{phaseNumber, ticketNumber, status′, bytesRefusal, spanOf, span′};
+ghost use Rattle.bridge.specs.Model.{phaseNumber, ticketNumber, status′, bytesRefusal, spanOf, span′, partOf, bytes′};
 
 fn phase_number(phase: u8) -> u8
     ensures { λ r. ⌜ r ≡ phaseNumber phase ⌝ }
@@ -78,18 +79,46 @@ fn slot_span(b: Bridge, k: usize) -> Span
     }
 }
 
-// Where a done read's bytes lie in the buffer, with the number of the bytes call; nothing lies there otherwise.
-pub fn span(b: Bridge, buffer: &[u8], ticket: u32) -> Span
-    ensures { λ r. ⌜ r ≡ span′ b (length (now (buffer .entry))) ticket ⌝ }
+// The same of a ticket, with a buffer of length n.
+fn span_of(b: Bridge, n: usize, ticket: u32) -> Span
+    ensures { λ r. ⌜ r ≡ span′ b n ticket ⌝ }
 {
-    let n = bytes_number(b, buffer.len(), ticket);
-    if n != 0 {
+    let number = bytes_number(b, n, ticket);
+    if number != 0 {
         return Span {
-            number: n,
+            number: number,
             start: 0,
             count: 0,
         };
     }
     let k = holder(b, ticket);
     slot_span(b, k)
+}
+
+// Where a done read's bytes lie in the buffer, with the number of the bytes call; an empty span otherwise.
+pub fn span(b: Bridge, buffer: &[u8], ticket: u32) -> Span
+    ensures { λ r. ⌜ r ≡ span′ b (length (now (buffer .entry))) ticket ⌝ }
+{
+    span_of(b, buffer.len(), ticket)
+}
+
+// The part of the buffer that a span says.
+fn part<'a>(buffer: &'a [u8], s: Span) -> &'a [u8]
+    requires { ⌜ s .start + s .count ≤ length (now buffer) ⌝ }
+    ensures { λ r. ⌜ now r ≡ partOf (now (buffer .entry)) s ⌝ }
+{
+    let start = s.start;
+    let end = start + s.count;
+    &buffer[start..end]
+}
+
+// A done read's part of the buffer, with 11, 10 or status's number; an empty part otherwise.
+pub fn bytes<'a>(b: Bridge, buffer: &'a [u8], ticket: u32) -> Shown<'a>
+    ensures { λ r. ⌜ (r .number ≡ bytes′ b (now (buffer .entry)) ticket .number) × (now (r .part) ≡ bytes′ b (now (buffer .entry)) ticket .shown) ⌝ }
+{
+    let s = span_of(b, buffer.len(), ticket);
+    Shown {
+        number: s.number,
+        part: part(buffer, s),
+    }
 }

@@ -1,6 +1,6 @@
 use borrow.Author.Needs.{needs}
-use Rattle.bridge.proofs.tickets.span.Statement.{statement}
-use Rattle.bridge.proofs.tickets.span.Tie as tie
+use Rattle.bridge.proofs.tickets.span_of.Statement.{statement}
+use Rattle.bridge.proofs.tickets.span_of.Tie as tie
 use mathlib.Core.Path.{sym, _∙_}
 use Rattle.bridge.proofs.CodeCalls.{span-refused, bytes-at, span-is}
 
@@ -19,6 +19,6 @@ slot-span-requires c κs = bytes-at _ _ _ (sym (c .before .before .bytes-number 
 returns-2 : tie.Need-returns-2
 returns-2 c = c .slot-span .ensures ∙ span-is _ _ _ (sym (c .before .before .before .bytes-number .ensures) ∙ c .before .before .if1 .left) _ (c .before .holder .ensures)
 
-pub span-spec : {M : Type 1} → statement M
-span-spec =
+pub span-of-spec : {M : Type 1} → statement M
+span-of-spec =
     tie.close (tie.spec bytes-number-requires returns holder-requires slot-span-requires returns-2)
