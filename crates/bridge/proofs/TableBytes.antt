@@ -19,8 +19,8 @@ use Rattle.bridge.specs.Statement.{Arrives, Sent, Run, state, buffer, La
 use Rattle.bridge.specs.Statement.{showing, shownAt, Done, Device, Timeline, range, Own, Meanwhile, Arrivals, Unwritten}
 use Rattle.bridge.specs.Corollaries.{NotAfter, SinceUntil}
 use Rattle.bridge.proofs.ReadWrite.{read-of}
-use Rattle.bridge.proofs.Ids.{offset-of-id, kind-of-id, table-of-id}
-use Rattle.bridge.proofs.Devices.{command-unanswered, request-answered, answerer-own, request-read}
+use Rattle.bus.proofs.IdentLaws.{offset-of-id, kind-of-id, table-of-id}
+use Rattle.bus.proofs.Replies.{command-unanswered, request-answered, answerer-own, request-read}
 use Rattle.bridge.proofs.FrameLaws.{len-eight, len-inside, id-of, content-of, read-is}
 use Rattle.bridge.proofs.FrameLaws.{write-is}
 use Rattle.bridge.proofs.Sound.{ReadyOk, Same, aged-same}
