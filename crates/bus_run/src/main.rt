@@ -75,13 +75,18 @@ fn frame_bytes(l: Line, bytes: [u8; 8], n: u8) -> Line {
     l
 }
 
-fn print(l: Line) {
-    let l = text(l, b"\n");
-    let n = l.len;
-    let bytes = l.bytes;
+// Writes the first n bytes.
+fn write(bytes: [u8; 128], n: usize) {
     if n <= 128 {
         io::write_all(1, &bytes[..n]);
     }
+}
+
+// Writes a line and its end.
+fn print(l: Line) {
+    let l = text(l, b"\n");
+    let bytes = l.bytes;
+    write(bytes, l.len);
 }
 
 fn packs(l: Line, p: Parts) -> Line {
