@@ -224,7 +224,8 @@ fn two_tables() -> Directory {
     directory(sizes, rights)
 }
 
-// What the holder of those tables answers to a REQ; table 7 has the given bytes at offset 6, table 15 has the bytes of 002's signature, as printed there.
+// What the holder of those tables answers to a REQ. Table 7 has the given bytes at offset 6; table 15 has
+// the signature of 002, byte by byte as printed there.
 fn replies(id: u32, a: u8, b: u8, c: u8, high: u8, low: u8) {
     let mut memory = *b"\0\0\0\0\0\0\0\0MS3 Foroat 0435.14 \0";
     memory[6] = high;
