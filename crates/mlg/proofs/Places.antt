@@ -1,8 +1,7 @@
 -- What a header's places keep to where no number refuses them.
-use Prim.Native.Nat.{ℕ, zero, suc, _-_, _≤_, _<_}
+use Prim.Native.Nat.{ℕ, _-_, _≤_, _<_}
 use mathlib.Core.Path.{_≡_, refl}
 use mathlib.Core.List.{List}
-use native.Mathlib.Omega.{arith}
 use borrow.Author.Tests.{ltb-false, leb-false, ne-eqb}
 use Rattle.mlg.specs.declared.Header.{Header}
 use Rattle.mlg.specs.Header.{placesNumber, fieldsEnd, numbersOf, headNumber, headerOf, noHeader, headAnswer}
