@@ -13,7 +13,6 @@ use Rattle.wire.proofs.Orders.{if-zero, not-false}
 use Rattle.wire.proofs.Texts.{text-most}
 use Rattle.wire.proofs.Writes.{put-first, put-more, left}
 use Rattle.mlg.specs.Writing.{startBytes, dataBytes, padded, markBytes, dataNumber, markNumber}
-use mathlib.Core.Bool.{Bool, true, false, not}
 
 pub start-length : (k c t : ℕ) → length (startBytes k c t) ≡ 4
 unfolding startBytes

@@ -11,6 +11,7 @@ use lib.Seq.{take-at, drop-at, drop-drop}
 use Rattle.wire.specs.Order.{_if_else_}
 use Rattle.wire.specs.Text.{textLen}
 use Rattle.wire.proofs.Numbers.{be-back}
+use Rattle.wire.proofs.Answers.{stands}
 use Rattle.wire.proofs.Orders.{if-yes, if-no, not-no, else-none}
 use Rattle.wire.proofs.Texts.{text-back, text-most}
 use Rattle.field.specs.Layout.{served, layoutOf, headerLen, fieldLen}
@@ -21,13 +22,12 @@ use Rattle.mlg.specs.Writing.{numberBytes, headerFor, headerBytes}
 use Rattle.mlg.specs.Parts.{fieldsIn, namesEnd, namesIn, infoLength, infoIn}
 use Rattle.mlg.specs.RoundTrip.{HeaderBack}
 use Rattle.mlg.specs.declared.Header.{Header}
-use Rattle.mlg.specs.declared.Head.the-variants.{Is}
+use Rattle.mlg.specs.declared.Head.the-variants.{Is, Refused}
 use Rattle.mlg.proofs.Areas.{area-length, ended-some}
 use Rattle.mlg.proofs.EachField.{fields-alone, sizes-alone}
 use Rattle.mlg.proofs.Fits.{Fit, fit, fields-end}
 use Rattle.mlg.proofs.HeaderBytes.{first-length, number-length, header-length, header-fits, start-most}
 use Rattle.mlg.proofs.Layouts.{header-two, fields-fit}
-use Rattle.mlg.proofs.Places.{stands}
 
 -- the numbers
 numbers-in : (t i b s n : ℕ) (r : List ℕ) → t < 256 ^ 4 → i < 256 ^ 4 → b < 256 ^ 4 → s < 256 ^ 2 → n < 256 ^ 2
@@ -155,7 +155,7 @@ module _ (time : ℕ) (fields names info rest : List ℕ) where
   -- the reader answers exactly the numbers written
   header-back′ : time < 256 ^ 4 → Fit 2 fields names info → bodyNumber head fields (areaOf names info) ≡ 0 → headerOf log ≡ Is head
   unfolding headerOf
-  header-back′ t f z = sym (stands (headNumber log) (numbersOf log) head (number-of t f z) (sym (numbers-of t f)))
+  header-back′ t f z = sym (stands Is Refused (headNumber log) (numbersOf log) head (sym (number-of t f z)) (sym (numbers-of t f)))
 
   -- and the parts are as given
   fields-back : Fit 2 fields names info → fieldsIn log head ≡ fields

@@ -9,6 +9,7 @@ use lib.ListN.{length, take, drop, length-drop, take-append-drop}
 use lib.Seq.{length-take-le, take-suc}
 use Rattle.wire.specs.BigEndian.{beOf, beAt, bytesOf}
 use Rattle.wire.specs.Text.{textLen}
+use Rattle.wire.proofs.Answers.{answered}
 use Rattle.wire.proofs.Numbers.{Bytes, part-back}
 use Rattle.wire.proofs.Orders.{if-zero, else-zero, not-false}
 use Rattle.wire.proofs.Parts.{part-in-two}
@@ -16,13 +17,13 @@ use Rattle.wire.proofs.Texts.{text-zero}
 use Rattle.field.specs.Layout.{served, layoutOf}
 use Rattle.mlg.specs.Area.{ended, areaOf, infoStart}
 use Rattle.mlg.specs.Fields.{sizes}
-use Rattle.mlg.specs.Header.{logName, versionIn, numbersOf, fieldsEnd, fieldsFrom, nameNumber, lastNumber, bodyNumber, headNumber, headJudged, headerOf}
+use Rattle.mlg.specs.Header.{logName, versionIn, numbersOf, fieldsEnd, fieldsFrom, nameNumber, lastNumber, bodyNumber, headNumber, headerOf}
 use Rattle.mlg.specs.Writing.{numberBytes, headerFor, headerBytes}
 use Rattle.mlg.specs.Parts.{fieldsIn, namesEnd, namesIn, infoLength, infoIn}
 use Rattle.mlg.specs.Log.{logOf}
 use Rattle.mlg.specs.RoundTrip.{InLayout, LogSame, logBytes}
 use Rattle.mlg.specs.declared.Header.{Header}
-use Rattle.mlg.specs.declared.Head.the-variants.{Is}
+use Rattle.mlg.specs.declared.Head.the-variants.{Is, Refused}
 use Rattle.mlg.proofs.Areas.{ended-some}
 use Rattle.mlg.proofs.EachField.{sizes-alone}
 use Rattle.mlg.proofs.HeaderBytes.{start-some}
@@ -30,10 +31,9 @@ use Rattle.mlg.proofs.LogSame.{same-from}
 use Rattle.mlg.proofs.Places.{Placed, placed}
 
 -- what is known of a header that was read
-judged-is : (n : ℕ) (g h : Header) → headJudged n g ≡ Is h → (n ≡ 0) × (g ≡ h)
-unfolding headJudged
-judged-is zero g h e = (refl, cc)
-judged-is (suc n) g h e = absurd (let v : _≡_ {A = ℕ} 0 1 = cc in omega arith)
+taken : (f : List ℕ) (h : Header) → headerOf f ≡ Is h → (headNumber f ≡ 0) × (numbersOf f ≡ h)
+unfolding headerOf
+taken f h e = answered Is Refused (λ n y q. let v : _≡_ {A = ℕ} 0 1 = cc in omega arith) (λ x y q. cc) (headNumber f) (numbersOf f) h e
 
 record Sound (f : List ℕ) (h : Header) : Type 0 where
   long : 24 ≤ length f
@@ -60,9 +60,9 @@ unfolding bodyNumber lastNumber
 sized h fields area e = eqb-true _ _ (not-false _ (if-zero 22 _ _ (else-zero _ _ e .1) .0))
 
 sound : (f : List ℕ) (h : Header) → headerOf f ≡ Is h → Sound f h
-unfolding headerOf headNumber
+unfolding headNumber
 sound f h e =
-    let j = judged-is _ _ h e in
+    let j = taken f h e in
     let a = else-zero _ _ (j .0) in
     let b = else-zero _ _ (a .1) in
     let n = named f (a .0) in

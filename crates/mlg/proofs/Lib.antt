@@ -16,3 +16,4 @@ pub mod LogSame
 pub mod HeaderSame
 pub mod Tallies
 pub mod Spans
+pub mod Example

@@ -23,7 +23,7 @@ use Rattle.mlg.proofs.Logs.{Goes, Next, Stands, a-block, the-end, refus
 
 -- the tally of a log after n blocks
 abbrev pub from : ℕ → ℕ → Log → Tally
-from l n log = record { blocks = n + length (log .blocks); number = blockAnswer l (log .ending) .number; place = log .place }
+from l n log = record { blocks = n + length (log .blocks); ending = blockAnswer l (log .ending) .number; place = log .place }
 
 from-next : (l n : ℕ) (log next : Log) (at : ℕ) (b : Block) → Next log at b next → from l n log ≡ from l (n + 1) next
 from-next l n log next at b g =
@@ -38,18 +38,18 @@ tally-next (suc k) l n f at b h e g =
     rw q (from-next l n _ _ at b (log-go k l n f at b e g))
 
 stop-tally : (l n at : ℕ) (b : Block) (log : Log) → log ≡ record { blocks = []; ending = b; place = at }
-    → from l n log ≡ record { blocks = n; number = blockAnswer l b .number; place = at }
+    → from l n log ≡ record { blocks = n; ending = blockAnswer l b .number; place = at }
 stop-tally l n at b log e = let z : n + 0 ≡ n = omega arith in rw (e, z)
 
 pub tally-stop : (k l n : ℕ) (f : List ℕ) (at : ℕ) (b : Block) → (k ≡ 0 → ⊥) → blockAt l n f at ≡ b → OneOf (2 ∷ 3 ∷ []) (tagOf the-type b)
-    → from l n (logFrom k l n f at) ≡ record { blocks = n; number = blockAnswer l b .number; place = at }
+    → from l n (logFrom k l n f at) ≡ record { blocks = n; ending = blockAnswer l b .number; place = at }
 tally-stop zero l n f at b h e g = absurd (h refl)
 tally-stop (suc k) l n f at (Data c m s r) h e g = absurd (⊎-elim (λ h. omega arith) (λ h. omega arith) g)
 tally-stop (suc k) l n f at (Mark c m s j r) h e g = absurd (⊎-elim (λ h. omega arith) (λ h. omega arith) g)
 tally-stop (suc k) l n f at End h e g = stop-tally l n at End _ (log-end k l n f at e)
 tally-stop (suc k) l n f at (Refused m p) h e g = stop-tally l n at (Refused m p) _ (log-refused k l n f at m p e)
 
-pub tally-none : (k l n : ℕ) (f : List ℕ) (at : ℕ) → k ≡ 0 → from l n (logFrom k l n f at) ≡ record { blocks = n; number = 0; place = at }
+pub tally-none : (k l n : ℕ) (f : List ℕ) (at : ℕ) → k ≡ 0 → from l n (logFrom k l n f at) ≡ record { blocks = n; ending = 0; place = at }
 unfolding blockAnswer
 tally-none k l n f at e = let z : n + 0 ≡ n = omega arith in rw (e, z)
 
@@ -72,7 +72,7 @@ at-fits l n f at b e g = fits-by l n f at b (rw e at (stands-at l n f at)) g
 
 -- a header that is refused
 pub head-stop : (f : List ℕ) (b : Head) → headerOf f ≡ b → OneOf (1 ∷ []) (tagOf head-type.the-type b)
-    → _≡_ {A = Tally} (record { blocks = 0; number = headAnswer b .number; place = 0 }) (tallyIn f)
+    → _≡_ {A = Tally} (record { blocks = 0; ending = headAnswer b .0; place = 0 }) (tallyIn f)
 unfolding tallyIn tallyHead headAnswer
 head-stop f (head.Is h) e g = absurd (omega arith)
 head-stop f (head.Refused n) e g = rw e

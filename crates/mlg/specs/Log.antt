@@ -40,14 +40,14 @@ logFrom (suc k) l n f at = ahead at (blockAt l n f at) (logFrom k l (n + 1) f (a
 unfoldable pub logOf : ℕ → List ℕ → ℕ → Log
 logOf l f at = logFrom (suc (length f)) l 0 f at
 
--- how many blocks stand in a log, the number that ended it (0 for the end), and its place
+-- how many blocks stand in a log, and how they ended: 0 at the file's end, else the number that refuses what stands at the place
 unfoldable pub tallyOf : ℕ → Log → Tally
-tallyOf l log = record { blocks = length (log .blocks); number = blockAnswer l (log .ending) .number; place = log .place }
+tallyOf l log = record { blocks = length (log .blocks); ending = blockAnswer l (log .ending) .number; place = log .place }
 
 -- of a whole file, whose header may be refused
 unfoldable pub tallyHead : List ℕ → Head → Tally
 tallyHead f (Is h) = tallyOf (h .size) (logOf (h .size) f (h .begin))
-tallyHead f (head.Refused n) = record { blocks = 0; number = n; place = 0 }
+tallyHead f (head.Refused n) = record { blocks = 0; ending = n; place = 0 }
 
 unfoldable pub tallyIn : List ℕ → Tally
 tallyIn f = tallyHead f (headerOf f)

@@ -29,11 +29,12 @@ use writing::total_len;
 ghost use mathlib.Core.Path.{_≡_};
 ghost use Prim.Native.Nat.{_+_, _≤_};
 ghost use lib.ListN.{length};
-ghost use Rattle.mlg.specs.Header.{headNumber, headerOf, headAnswer};
-ghost use Rattle.mlg.specs.Block.{counterOf, blockAt, atNumber, blockAnswer};
+ghost use Rattle.mlg.specs.Header.{numbersOf, headNumber, headerOf, noHeader, headAnswer};
+ghost use Rattle.mlg.specs.Block.{counterOf, blockAt, blockAnswer, blockResult};
 ghost use Rattle.mlg.specs.Log.{tallyIn};
 ghost use Rattle.mlg.specs.Parts.{fieldSpan, namesSpan, infoSpan};
-ghost use Rattle.mlg.specs.RoundTrip.{DataBack, MarkBack, BlockAlone, BlockSame, HeaderBack, LogBack, LogSame};
+ghost use Rattle.mlg.specs.RoundTrip.{DataBack, MarkBack, BlockAlone, LogPlaced, BlockSame, HeaderBack, LogBack, LogSame};
+ghost use Rattle.wire.specs.Answer.{result};
 ghost use Rattle.wire.specs.Writer.{wrote, leaves};
 ghost use Rattle.mlg.specs.Writing.{headerBytes, headerNumber, dataBytes, markBytes, dataNumber, markNumber};
 
@@ -75,10 +76,10 @@ pub enum Block {
     },
 }
 
-// How many blocks a log has, the number that ended them (0 for the end of the file), and the place where.
+// How many blocks a log has, and how they ended: 0 at the file's end, else the number that refuses what stands at `place`.
 pub struct Tally {
     pub blocks: u64,
-    pub number: u8,
+    pub ending: u8,
     pub place: usize,
 }
 
@@ -91,7 +92,7 @@ pub struct Span {
 
 // What a file's header says, or the number that refuses it.
 pub fn read_header(file: &[u8]) -> Head
-    ensures { λ r. ⌜ (r ≡ headerOf (now (file .entry))) × (headAnswer r .number ≡ headNumber (now (file .entry))) ⌝ }
+    ensures { λ r. ⌜ (r ≡ headerOf (now (file .entry))) × (headAnswer r ≡ result noHeader (headNumber (now (file .entry))) (numbersOf (now (file .entry)))) ⌝ }
 {
     let number = head_number(file);
     if number != 0 {
@@ -102,7 +103,7 @@ pub fn read_header(file: &[u8]) -> Head
 
 // The block at a place of a log whose records have the given length, after the given number of earlier blocks.
 pub fn read_block(file: &[u8], size: u16, earlier: u64, at: usize) -> Block
-    ensures { λ r. ⌜ (r ≡ blockAt size earlier (now (file .entry)) at) × (blockAnswer size r .number ≡ atNumber size (now (file .entry)) at) ⌝ }
+    ensures { λ r. ⌜ (r ≡ blockAt size earlier (now (file .entry)) at) × (blockAnswer size r ≡ blockResult size earlier (now (file .entry)) at) ⌝ }
     ensures alone { λ _. ⌜ BlockAlone ⌝ }
 {
     if file.len() < at {
@@ -114,15 +115,16 @@ pub fn read_block(file: &[u8], size: u16, earlier: u64, at: usize) -> Block
     block_of(&file[at..], size, counter_of(earlier), at)
 }
 
-// How many blocks a file has, and what ends them; a refused header ends them at place 0.
+// How many blocks a file has, and how they ended; a refused header gives no blocks, its number, and place 0.
 pub fn count_blocks(file: &[u8]) -> Tally
     ensures { λ r. ⌜ r ≡ tallyIn (now (file .entry)) ⌝ }
+    ensures placed { λ _. ⌜ LogPlaced ⌝ }
 {
     let head = read_header(file);
     let Head::Is(h) = head else {
         return Tally {
             blocks: 0,
-            number: refusal(head),
+            ending: refusal(head),
             place: 0,
         };
     };

@@ -81,7 +81,7 @@ pub(crate) fn count_from(file: &[u8], size: u16, begin: usize) -> Tally
         else {
             return Tally {
                 blocks: n,
-                number: stop_number(b),
+                ending: stop_number(b),
                 place: at,
             };
         };
@@ -91,13 +91,13 @@ pub(crate) fn count_from(file: &[u8], size: u16, begin: usize) -> Tally
     }
     Tally {
         blocks: n,
-        number: 0,
+        ending: 0,
         place: at,
     }
 }
 
 pub(crate) fn refusal(head: Head) -> u8
-    ensures { λ r. ⌜ r ≡ headAnswer head .number ⌝ }
+    ensures { λ r. ⌜ r ≡ headAnswer head .0 ⌝ }
 {
     match head {
         Head::Is(_) => 0,

@@ -7,10 +7,10 @@ use lib.ListN.{length, take, drop}
 use mathlib.Core.Path.{sym, _∙_, ap}
 use Rattle.wire.proofs.Parts.{tail-part}
 use Rattle.mlg.specs.Block.{blockOf, counterOf}
-use Rattle.mlg.proofs.Cases.{at-past, at-within, block-said}
+use Rattle.mlg.proofs.Cases.{at-past, at-within, block-means}
 
 returns : tie.Need-returns
-returns c = (block-said (c .before .before .args .size) (c .before .before .args .earlier) (c .before .before .args .file .now) (c .before .before .args .at) (sym (at-past _ _ _ _ (c .if1 .taken))), block-alone)
+returns c = (block-means (c .before .before .args .size) (c .before .before .args .earlier) (c .before .before .args .file .now) (c .before .before .args .at) (sym (at-past _ _ _ _ (c .if1 .taken))), block-alone)
 
 sub-block-of : tie.Need-sub-block-of
 sub-block-of c = search needs
@@ -29,7 +29,7 @@ block-of-requires c κs = search needs
 
 returns-2 : tie.Need-returns-2
 returns-2 c = (
-  block-said (c .before .before .before .before .before .args .size) (c .before .before .before .before .before .args .earlier) (c .before .before .before .before .before .args .file .now) (c .before .before .before .before .before .args .at)
+  block-means (c .before .before .before .before .before .args .size) (c .before .before .before .before .before .args .earlier) (c .before .before .before .before .before .args .file .now) (c .before .before .before .before .before .args .at)
       (c .block-of .ensures
       ∙ ap (λ (k : ℕ). blockOf (c .before .before .before .before .before .args .size) k (c .before .before .before .before .before .args .at) (take (length (c .before .before .before .before .before .args .file .now) - c .before .before .before .before .before .args .at) (drop (c .before .before .before .before .before .args .at) (c .before .before .before .before .before .args .file .now)))) (c .before .counter-of .ensures)
       ∙ ap (blockOf (c .before .before .before .before .before .args .size) (counterOf (c .before .before .before .before .before .args .earlier)) (c .before .before .before .before .before .args .at)) (tail-part (c .before .before .before .before .before .args .file .now) (c .before .before .before .before .before .args .at))

@@ -13,11 +13,11 @@ enum-known-head c = search needs
 
 returns : tie.Need-returns
 unfolding headAnswer
-returns c = sym (ap (λ (b : Head). headAnswer b .number) (c .enum-told .given .1))
+returns c = sym (ap (λ (b : Head). headAnswer b .0) (c .enum-told .given .1))
 
 returns-2 : tie.Need-returns-2
 unfolding headAnswer
-returns-2 c = sym (ap (λ (b : Head). headAnswer b .number) (c .before .head .given .1))
+returns-2 c = sym (ap (λ (b : Head). headAnswer b .0) (c .before .head .given .1))
 
 pub refusal-spec : {M : Type 1} → statement M
 refusal-spec = tie.close (tie.spec enum-told enum-known-head returns returns-2)
