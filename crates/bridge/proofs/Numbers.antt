@@ -13,6 +13,7 @@ use Rattle.bus.specs.Frames.{rsp, headNumber}
 use Rattle.bus.specs.Ident.{idSpare, idTo, idKind}
 use Rattle.wire.specs.Order.{_if_else_, _orElse_}
 use Rattle.wire.specs.First.{First, Zero}
+use Rattle.wire.proofs.Orders.{if-zero, else-zero}
 use Rattle.bridge.specs.Model.{askRefusal, roomRefusal, resetRefusal, bytes, bytes′, span′, bytesRefusal}
 use Rattle.bridge.specs.Model.{Frame, turn, frame, close, reset, waiting, isWrite, turn′, agedBridge, nextReady, lentRefusal, frame′}
 use Rattle.bridge.specs.Model.{replyRefusal, close′, closeRefusal, holderOf, reset′, contentRefusal, awaits, awaiting, Bridge, free}
@@ -30,7 +31,7 @@ use Rattle.bridge.proofs.Status.{held-by}
 use Rattle.bridge.proofs.Sends.{matches-ok}
 use Rattle.bridge.proofs.Past.{past-read, awaited-replied}
 use Rattle.bridge.proofs.Ahead.{reply-awaited}
-use Rattle.bridge.proofs.Slots.{no-holder, occupied}
+use Rattle.bridge.proofs.Slots.{no-holder, known-holder, occupied}
 use Rattle.bridge.proofs.Keeps.{sends-zero}
 use Rattle.bridge.proofs.Search.{cases, and-intro, and-true, Lowest, lowest-some, lowest-none, option-cases}
 use Rattle.bridge.proofs.Sound.{sound-true}
@@ -467,6 +468,23 @@ module _ (r : Run) (w : Lawful r) (n : ℕ) where
           (no-reply f e (content-clear (state r n .own) f t1 t2 t3 t4 t5)) (λ t6. (sym, sym)))))))
   frames-number (other b) f e d m = other-first _ m b (From1 f) (frame-number (state r n) b f ∙ reply-ten (state r n) (length b) f ss (d .0))
 
+  -- so a frame answered 0 is a read's reply
+  reply-of : (l : Lent) (f : Frame) → r .calls n ≡ frame l f → Shaped (frame l f)
+      → step (state r n) (buffer r n) (frame l f) .answer .number ≡ 0 → (x : Transfer r) × (c : ℕ) × Replied r x c n
+  unfolding step awaiting
+  reply-of itsOwn f e d u = go (option-cases (awaiting (state r n) f))
+    where
+      h : (contentRefusal (state r n .own) f ≡ 0) × ((17 if isNone (awaiting (state r n) f) else 0) ≡ 0)
+      h = else-zero _ _ (sym (frame-number (state r n) (buffer r n) f ∙ reply-later (state r n) (length (buffer r n)) f ss lb) ∙ u)
+
+      go : (awaiting (state r n) f ≡ none) ⊎ ((k : ℕ) × (awaiting (state r n) f ≡ some k)) → (x : Transfer r) × (c : ℕ) × Replied r x c n
+      go (inl q) = absurd (true≢false (sym (ap isNone q) ∙ if-zero 16 _ _ (h .1) .0))
+      go (inr (k, q)) =
+          let l : Lowest (awaits (state r n) f) k = lowest-some (awaits (state r n) f) k q in
+          is-reply f e (h .0) k (l .bound) (l .passes)
+  reply-of (other b) f e d u =
+      absurd (omega (arith, sym u ∙ frame-number (state r n) b f ∙ reply-ten (state r n) (length b) f ss (d .0)))
+
   closes-number : (t m : ℕ) → (step (state r n) (buffer r n) (close t) .answer .number ≡ m)
       ↔ First ((x : Transfer r) → Stands r x n → ticket r x ≢ t) 14 Zero m
   unfolding step
@@ -484,6 +502,12 @@ module _ (r : Run) (w : Lawful r) (n : ℕ) where
       c : ((14 if isNone (holderOf (state r n) t) else 0) ≡ m) ↔ First ((x : Transfer r) → Stands r x n → ticket r x ≢ t) 14 Zero m
       c = first-if 14 (isNone (holderOf (state r n) t)) 0 m ((x : Transfer r) → Stands r x n → ticket r x ≢ t) Zero unheld (λ z. (sym, sym))
 
+  -- so a closing answered 0 is a standing transfer's
+  closed-of : (t : ℕ) → step (state r n) (buffer r n) (close t) .answer .number ≡ 0 → (x : Transfer r) × Stands r x n × (ticket r x ≡ t)
+  unfolding step
+  closed-of t u = known-holder r w n t (λ z. true≢false (sym (ap isNone z)
+      ∙ if-zero 13 _ _ (sym (close-number (state r n) t ss) ∙ u) .0))
+
   resets-number : (o m : ℕ) → (step (state r n) (buffer r n) (reset o) .answer .number ≡ m) ↔ First (15 < o) 11 Zero m
   unfolding step
   resets-number o m =
@@ -500,6 +524,9 @@ module _ (r : Run) (w : Lawful r) (n : ℕ) where
       → (answer r n .number ≡ m) ↔ Q
   made c m Q e h = subst (λ (d : Call). (step (state r n) (buffer r n) d .answer .number ≡ m) ↔ Q) (sym e) h
 
+  zero-as : (c : Call) → r .calls n ≡ c → answer r n .number ≡ 0 → step (state r n) (buffer r n) c .answer .number ≡ 0
+  zero-as c e z = ap (λ (d : Call). step (state r n) (buffer r n) d .answer .number) (sym e) ∙ z
+
   shaped-as : (c : Call) → r .calls n ≡ c → Shaped c
   shaped-as c e = subst Shaped e (w .shaped n)
 
@@ -510,8 +537,10 @@ module _ (r : Run) (w : Lawful r) (n : ℕ) where
         openedAt r w (record { at = n; lent = l; ask = a; call = e; accepted = z }) .ticketed ∙ ap suc (sym (agrees r w n .given));
     turns = λ l e m. made (turn l) m _ e (turns-number l (shaped-as (turn l) e) m);
     frames = λ l f e m. made (frame l f) m _ e (frames-number l f e (shaped-as (frame l f) e) m);
+    replies = λ l f e z. reply-of l f e (shaped-as (frame l f) e) (zero-as (frame l f) e z);
     others = λ b t e. ap (λ (c : Call). step (state r n) (buffer r n) c .answer) e ∙ other-bytes b t (shaped-as (bytes (other b) t) e);
     closes = λ t e m. made (close t) m _ e (closes-number t m);
+    closed = λ t e z. closed-of t (zero-as (close t) e z);
     resets = λ o e m. made (reset o) m _ e (resets-number o m);
   }
 

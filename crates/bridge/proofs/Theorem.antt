@@ -7,7 +7,7 @@ use mathlib.Core.Bool.{true, false}
 use native.Mathlib.Omega.{arith}
 use native.Mathlib.Decide.{decLt}
 use lib.ListN.{length, getD, List·getD-eq-default}
-use Rattle.bridge.specs.Model.{Slot, free, ready, waiting, done, gaveUp, Call, status, isWrite}
+use Rattle.bridge.specs.Model.{Slot, free, ready, waiting, done, gaveUp, Answer, Call, status, isWrite}
 use Rattle.bridge.specs.Statement.{Run, state, buffer, After, Lawful, Shaped, Transfer, Stands, turns, chunks, Replied, ThreeFailed}
 use Rattle.bridge.specs.Statement.{AllWritten, statusAt, Claims, ReadClaims, runOf, Demand3}
 use Rattle.bridge.specs.Calls.{Calls}
@@ -22,7 +22,7 @@ use Rattle.bridge.proofs.Past.{past-read, Past, Got, Fails}
 use Rattle.bridge.proofs.Ahead.{reply-accepted, replied-once, replied-order, replied-done, failed-thrice}
 use Rattle.bridge.proofs.ShownBytes.{done-progress, hidden, write-hidden, shown-joined, all-got}
 use Rattle.bridge.proofs.Writes.{all-written-done, done-all-written}
-use Rattle.bridge.proofs.Slots.{places, alone, no-holder}
+use Rattle.bridge.proofs.Slots.{places, alone, no-holder, known-holder}
 use Rattle.bridge.proofs.TableBytes.{table-meanwhile}
 use Rattle.bridge.proofs.Keeps.{keeps-sound, fresh-keeps, refusals-keep}
 use Rattle.bridge.proofs.Numbers.{opening-numbers, opens-exactly, numbers-in-runs}
@@ -105,6 +105,8 @@ pub after : (r : Run) → Lawful r → (n : ℕ) → After r n
 after r w n = record {
   standing = λ x s. claims r w x n s;
   unknown = λ t u. unknown-ticket (state r n) (buffer r n) t (storage-sound r w n .0) (storage-sound r w n .1) (no-holder r w n t u);
+  known = λ t u. known-holder r w n t (λ z. u (ap (λ (a : Answer). a .number)
+      (unknown-ticket (state r n) (buffer r n) t (storage-sound r w n .0) (storage-sound r w n .1) z .0)));
 }
 
 -- the run of a list of calls is lawful

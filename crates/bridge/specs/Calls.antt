@@ -143,9 +143,13 @@ pub record NumbersInRun (r : Run) (n : ℕ) : Type 0 where
   pub tickets : (l : Lent) (a : Ask) → r .calls n ≡ opening l a → answer r n .number ≡ 0 → answer r n .ticket ≡ suc (ledger r n .given)
   pub turns : (l : Lent) → r .calls n ≡ turn l → (m : ℕ) → (answer r n .number ≡ m) ↔ First (l ≢ itsOwn) 10 Zero m
   pub frames : (l : Lent) (f : Frame) → r .calls n ≡ frame l f → (m : ℕ) → (answer r n .number ≡ m) ↔ FrameInRun r n l f m
+  -- a frame answered 0 is a read's reply
+  pub replies : (l : Lent) (f : Frame) → r .calls n ≡ frame l f → answer r n .number ≡ 0 → (x : Transfer r) × (c : ℕ) × Replied r x c n
   pub others : (b : List ℕ) (t : ℕ) → r .calls n ≡ bytes (other b) t → answer r n ≡ plain 10
   pub closes : (t : ℕ) → r .calls n ≡ close t → (m : ℕ) →
       (answer r n .number ≡ m) ↔ First ((x : Transfer r) → Stands r x n → ticket r x ≢ t) 14 Zero m
+  -- a closing answered 0 is that of a transfer that stands
+  pub closed : (t : ℕ) → r .calls n ≡ close t → answer r n .number ≡ 0 → (x : Transfer r) × Stands r x n × (ticket r x ≡ t)
   pub resets : (o : ℕ) → r .calls n ≡ reset o → (m : ℕ) → (answer r n .number ≡ m) ↔ First (15 < o) 11 Zero m
 
 abbrev pub NumbersInRuns : Type 0

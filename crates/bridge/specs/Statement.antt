@@ -421,12 +421,13 @@ pub record Claims (r : Run) (x : Transfer r) (n : ℕ) : Type 0 where
   pub written : isWrite (x .ask) ≡ true → Done r x n ↔ AllWritten r x n
   pub shownOfWrite : isWrite (x .ask) ≡ true → shownAt r x n ≡ plain (statusAt r x n)
 
--- after the first n calls: of every transfer that stands; and a ticket that no standing transfer has is unknown, so that what was
--- closed or reset is neither done nor shown
+-- after the first n calls: of every transfer that stands; a ticket that no standing transfer has is unknown, so that what was
+-- closed or reset is neither done nor shown; and each other ticket is a standing transfer's
 pub record After (r : Run) (n : ℕ) : Type 0 where
   pub standing : (x : Transfer r) → Stands r x n → Claims r x n
   pub unknown : (t : ℕ) → ((x : Transfer r) → Stands r x n → ticket r x ≢ t) →
       (answerTo r n (status t) ≡ plain 14) × (answerTo r n (bytes itsOwn t) ≡ plain 14)
+  pub known : (t : ℕ) → answerTo r n (status t) .number ≢ 14 → (x : Transfer r) × Stands r x n × (ticket r x ≡ t)
 
 -- the run of a list of calls; past its end stands a call that changes nothing
 abbrev pub runOf : ℕ → List ℕ → List Call → Run
