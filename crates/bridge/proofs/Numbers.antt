@@ -236,7 +236,7 @@ opens-exactly s b a = (there, back)
           lent = open-lent s (length b) a z .1;
           device = o .law .device;
           table = o .law .table;
-          some = omega (arith, o .law .some);
+          nonempty = omega (arith, o .law .some);
           few = o .law .few;
           inside = o .law .inside;
           room = free-slot (option-cases (lowestFree s)) (o .slotted);
@@ -256,7 +256,7 @@ opens-exactly s b a = (there, back)
         inr (
           λ z. z (c .device, c .table),
           inr (
-            λ z. z (c .some, c .few),
+            λ z. z (c .nonempty, c .few),
             inr (
               λ z. omega (arith, c .inside),
               inr (λ z. z (c .room .0) (c .room .1) (c .room .2), inr (λ z. omega (arith, c .ticket), refl)),
@@ -342,17 +342,17 @@ module _ (r : Run) (w : Lawful r) (n : ℕ) where
       taken : (k : ℕ) → k < 4 → (x : Transfer r) × Stands r x n × (slotOf r x ≡ k) → isFree (slot (state r n) k .phase) ≡ false
       taken k l (x, s, e) = rw e at (held-slot r w x n s)
 
-  tickets-used : (leb 4294967295 (state r n .tickets) ≡ true) ↔ (4294967295 ≤ ledger r n .given)
+  tickets-used : (leb 4294967295 (state r n .tickets) ≡ true) ↔ (4294967295 ≤ ledger r n .lastTicket)
   tickets-used = (
-    λ e. omega (arith, leb-true 4294967295 (state r n .tickets) e, agrees r w n .given),
-    λ l. le-leb 4294967295 (state r n .tickets) (omega (arith, l, agrees r w n .given)),
+    λ e. omega (arith, leb-true 4294967295 (state r n .tickets) e, agrees r w n .lastTicket),
+    λ l. le-leb 4294967295 (state r n .tickets) (omega (arith, l, agrees r w n .lastTicket)),
   )
 
   abbrev Full : Type 0
   Full = (k : ℕ) → k < 4 → (x : Transfer r) × Stands r x n × (slotOf r x ≡ k)
 
   abbrev Used : Type 0
-  Used = 4294967295 ≤ ledger r n .given
+  Used = 4294967295 ≤ ledger r n .lastTicket
 
   opening-number : (l : Lent) (a : Ask) → Shaped (opening l a) → (m : ℕ)
       → (step (state r n) (buffer r n) (opening l a) .answer .number ≡ m) ↔ OpeningInRun r n l a m
@@ -534,7 +534,7 @@ module _ (r : Run) (w : Lawful r) (n : ℕ) where
   numbers = record {
     opens = λ l a e m. made (opening l a) m _ e (opening-number l a (shaped-as (opening l a) e) m);
     tickets = λ l a e z.
-        openedAt r w (record { at = n; lent = l; ask = a; call = e; accepted = z }) .ticketed ∙ ap suc (sym (agrees r w n .given));
+        openedAt r w (record { at = n; lent = l; ask = a; call = e; accepted = z }) .ticketed ∙ ap suc (sym (agrees r w n .lastTicket));
     turns = λ l e m. made (turn l) m _ e (turns-number l (shaped-as (turn l) e) m);
     frames = λ l f e m. made (frame l f) m _ e (frames-number l f e (shaped-as (frame l f) e) m);
     replies = λ l f e z. reply-of l f e (shaped-as (frame l f) e) (zero-as (frame l f) e z);

@@ -20,10 +20,10 @@ use Rattle.bridge.proofs.Bound.{ended}
 use Rattle.bridge.proofs.Ages.{phases}
 use Rattle.bridge.proofs.Past.{past-read, Past, Got, Fails}
 use Rattle.bridge.proofs.Ahead.{reply-accepted, replied-once, replied-order, replied-done, failed-thrice}
-use Rattle.bridge.proofs.ShownBytes.{done-progress, hidden, write-hidden, shown-joined, all-got}
+use Rattle.bridge.proofs.ShownBytes.{done-progress, hidden, write-hidden, shown-joined, shown-whole, all-got}
 use Rattle.bridge.proofs.Writes.{all-written-done, done-all-written}
 use Rattle.bridge.proofs.Slots.{places, alone, no-holder, known-holder}
-use Rattle.bridge.proofs.TableBytes.{table-meanwhile}
+use Rattle.bridge.proofs.TableBytes.{table-meanwhile, some-moment}
 use Rattle.bridge.proofs.Keeps.{keeps-sound, fresh-keeps, refusals-keep}
 use Rattle.bridge.proofs.Numbers.{opening-numbers, opens-exactly, numbers-in-runs}
 use Rattle.bridge.proofs.Turns.{turn-sends, sends-for-transfers}
@@ -72,7 +72,9 @@ module _ (r : Run) (w : Lawful r) (x : Transfer r) (n : ℕ) (s : Stands r x n) 
     ordered = replied-order r w x;
     shown = λ m h. shown-joined r w x n s p (back (λ c l. (m c, h c l .0, h c l .1))) m h;
     hidden = hidden r w x n s;
-    table = λ t h. table-meanwhile r w x n t (h .arrivals) (h .unwritten) s p;
+    whole = shown-whole r w x n s p;
+    table = λ t τ₀ h. table-meanwhile r w x n t (h .arrivals) τ₀ h s p;
+    during = λ t τ₀ a h. some-moment r w x n t a τ₀ h s p;
   }
     where
       p : Past r x n

@@ -48,7 +48,7 @@ pub record FirstReady (s : Bridge) (k : ℕ) : Type 0 where
 pub record NextBytes (own k : ℕ) (x : Slot) (b : List ℕ) (f : Frame) : Type 0 where
   pub n : ℕ
   pub next : n ≡ chunkLen (x .count) (x .progress)
-  pub some : 1 ≤ n
+  pub nonempty : 1 ≤ n
   pub few : n ≤ 8
   pub inside : x .progress + n ≤ x .count
   pub requests : asks (x .kind) ≡ true →
@@ -103,7 +103,7 @@ pub record Acceptable (s : Bridge) (b : List ℕ) (a : Ask) : Type 0 where
   pub lent : length b ≡ 512
   pub device : askDevice a ≤ 15
   pub table : askTable a ≤ 31
-  pub some : 1 ≤ askCount a
+  pub nonempty : 1 ≤ askCount a
   pub few : askCount a ≤ 128
   pub inside : askOffset a + askCount a ≤ 2048
   pub room : (k : ℕ) × (k < 4) × (slot s k .phase ≡ free)
@@ -122,7 +122,7 @@ OpeningInRun r n l a =
     (First (¬ ((1 ≤ askCount a) × (askCount a ≤ 128))) 9
     (First (2048 < askOffset a + askCount a) 8
     (First ((k : ℕ) → k < 4 → (x : Transfer r) × Stands r x n × (slotOf r x ≡ k)) 12
-    (First (4294967295 ≤ ledger r n .given) 13
+    (First (4294967295 ≤ ledger r n .lastTicket) 13
     Zero)))))
 
 -- of a frame: 17 where it is no read's reply
@@ -140,7 +140,7 @@ FrameInRun r n l f =
 -- of call n, whichever it is; status, and the bytes call with the bridge's buffer, are told by demand 3
 pub record NumbersInRun (r : Run) (n : ℕ) : Type 0 where
   pub opens : (l : Lent) (a : Ask) → r .calls n ≡ opening l a → (m : ℕ) → (answer r n .number ≡ m) ↔ OpeningInRun r n l a m
-  pub tickets : (l : Lent) (a : Ask) → r .calls n ≡ opening l a → answer r n .number ≡ 0 → answer r n .ticket ≡ suc (ledger r n .given)
+  pub tickets : (l : Lent) (a : Ask) → r .calls n ≡ opening l a → answer r n .number ≡ 0 → answer r n .ticket ≡ suc (ledger r n .lastTicket)
   pub turns : (l : Lent) → r .calls n ≡ turn l → (m : ℕ) → (answer r n .number ≡ m) ↔ First (l ≢ itsOwn) 10 Zero m
   pub frames : (l : Lent) (f : Frame) → r .calls n ≡ frame l f → (m : ℕ) → (answer r n .number ≡ m) ↔ FrameInRun r n l f m
   -- a frame answered 0 is a read's reply
