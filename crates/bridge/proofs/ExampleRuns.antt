@@ -1,5 +1,5 @@
 -- The example runs, proved by computation; what is said of every event is tested over the list of calls.
-use Prim.Native.Nat.{ℕ, zero, suc, _+_, _*_, _-_, _≤_, _<_}
+use Prim.Native.Nat.{ℕ, zero, suc, _+_, _≤_, _<_}
 use mathlib.Core.Path.{_≡_, refl, sym, _∙_, ap, subst}
 use mathlib.Core.Logic.{_⊎_, inl, inr, _≢_}
 use mathlib.Core.List.{List, [], _∷_}
@@ -18,8 +18,8 @@ use Rattle.bus.specs.declared.Served.{Served}
 use Rattle.bridge.specs.Model.{Frame, Lent, itsOwn, other, Call, opening, turn, frame, status, bytes, close, reset, read, isWrite, askDevice, contentRefusal}
 use Rattle.bridge.specs.Statement.{Run, Lawful, ShapedLent, Shaped, Transfer, Closing, Stands, isTurn, accepted, turns}
 use Rattle.bridge.specs.Statement.{chunks, requestFrame, answer, ledger, matchesCall, Matches, Sent, Replied, Device, Timeline, Arrives, Own, range}
-use Rattle.bridge.specs.Statement.{Arrivals, NotAfter, Meanwhile, Unwritten, Done, shownAt, showing}
-use Rattle.bridge.specs.Examples.{directory, memory, holding, after, run, reply, before, DoneRead, Shows, alone, unchanging, AloneShows}
+use Rattle.bridge.specs.Statement.{NotAfter, Meanwhile, Unwritten}
+use Rattle.bridge.specs.Examples.{directory, memory, holding, after, run, reply, before, DoneRead, alone, unchanging, AloneShows}
 use Rattle.bridge.specs.Examples.{together, written, TogetherShows, restarted, writtenOnce, RestartedShows, torn, overwritten, TornShows}
 use Rattle.bridge.specs.Examples.{forged, ForgedShows, late, slow, LateShows, silence, sendsOf, Reckonings, Examples}
 use Rattle.bridge.proofs.Openers.{everything}

@@ -128,11 +128,13 @@ Later a P Q =
     (First Q 13
     Zero))))
 
-room-chain : (s : Bridge) (n : ℕ) (P Q : Type 0) → (isNone (lowestFree s) ≡ true) ↔ P → (leb 4294967295 (s .tickets) ≡ true) ↔ Q
+room-chain : (s : Bridge) (n : ℕ) (P Q : Type 0) → (isNone (lowestFree s) ≡ true) ↔ P → (4294967295 ≤ s .tickets) ↔ Q
     → (roomRefusal s ≡ n) ↔ First P 12 (First Q 13 Zero) n
 unfolding roomRefusal
-room-chain s n P Q p q = first-if 12 (isNone (lowestFree s)) _ n P (First Q 13 Zero) p
-    (λ z. first-if 13 (leb 4294967295 (s .tickets)) 0 n Q Zero q (λ z. (sym, sym)))
+room-chain s n P Q p q = first-if 12 (isNone (lowestFree s)) _ n P (First Q 13 Zero) p (λ z. first-if 13 _ 0 n Q Zero (
+  λ e. q .0 (omega (arith, leb-true _ (s .tickets) e)),
+  λ u. le-leb _ (s .tickets) (omega (arith, q .1 u)),
+) (λ z. (sym, sym)))
 
 args-chain : (d t o c x n : ℕ) (rest : ℕ → Type 0) → (x ≡ n) ↔ rest n
     → ((askRefusal d t o c orElse x) ≡ n)
@@ -154,7 +156,7 @@ args-chain d t o c x n rest r = (λ e. tests .0 (sym flat ∙ e), λ p. flat ∙
         (or-test (eqb c 0) (ltb 128 c) (1 ≤ c) (c ≤ 128) (none-test c) (over-test 128 c) (some-of c) (ltb-false 128 c))
         (λ y. first-if 8 (ltb 2048 (o + c)) x n (2048 < o + c) rest (ltb-test 2048 (o + c)) (λ u. r)))
 
-chain : (s : Bridge) (a : Ask) (n : ℕ) (P Q : Type 0) → (isNone (lowestFree s) ≡ true) ↔ P → (leb 4294967295 (s .tickets) ≡ true) ↔ Q
+chain : (s : Bridge) (a : Ask) (n : ℕ) (P Q : Type 0) → (isNone (lowestFree s) ≡ true) ↔ P → (4294967295 ≤ s .tickets) ↔ Q
     → (later s a ≡ n) ↔ Later a P Q n
 chain s a n P Q p q = args-chain (askDevice a) (askTable a) (askOffset a) (askCount a) (roomRefusal s) n (First P 12 (First Q 13 Zero))
     (room-chain s n P Q p q)
@@ -221,7 +223,7 @@ opening-numbers s b a n = (λ e. h .0 (sym (number-is s b a) ∙ e), λ p. numbe
         tests = first-if 11 (not (sound s)) _ n (sound s ≡ false) (First (length b ≢ 512) 10 (Later a Full Used)) (sound-test (sound s))
             (λ y. first-if 10 (not (eqb (length b) 512)) (later s a) n (length b ≢ 512) (Later a Full Used)
             (not-test (eqb (length b) 512) (length b ≡ 512) (eqb-test (length b) 512))
-            (λ z. chain s a n Full Used (full-phases s) (leb-test 4294967295 (s .tickets))))
+            (λ z. chain s a n Full Used (full-phases s) (λ u. u, λ u. u)))
 
 pub opens-exactly : OpensExactly
 unfolding step
@@ -342,11 +344,8 @@ module _ (r : Run) (w : Lawful r) (n : ℕ) where
       taken : (k : ℕ) → k < 4 → (x : Transfer r) × Stands r x n × (slotOf r x ≡ k) → isFree (slot (state r n) k .phase) ≡ false
       taken k l (x, s, e) = rw e at (held-slot r w x n s)
 
-  tickets-used : (leb 4294967295 (state r n .tickets) ≡ true) ↔ (4294967295 ≤ ledger r n .lastTicket)
-  tickets-used = (
-    λ e. omega (arith, leb-true 4294967295 (state r n .tickets) e, agrees r w n .lastTicket),
-    λ l. le-leb 4294967295 (state r n .tickets) (omega (arith, l, agrees r w n .lastTicket)),
-  )
+  tickets-used : (4294967295 ≤ state r n .tickets) ↔ (4294967295 ≤ ledger r n .lastTicket)
+  tickets-used = (λ l. omega (arith, agrees r w n .lastTicket), λ l. omega (arith, agrees r w n .lastTicket))
 
   abbrev Full : Type 0
   Full = (k : ℕ) → k < 4 → (x : Transfer r) × Stands r x n × (slotOf r x ≡ k)

@@ -24,7 +24,7 @@ use Rattle.bridge.proofs.ShownBytes.{done-progress, hidden, write-hidde
 use Rattle.bridge.proofs.Writes.{all-written-done, done-all-written}
 use Rattle.bridge.proofs.Slots.{places, alone, no-holder, known-holder}
 use Rattle.bridge.proofs.TableBytes.{table-meanwhile, some-moment}
-use Rattle.bridge.proofs.Keeps.{keeps-sound, fresh-keeps, refusals-keep}
+use Rattle.bridge.proofs.Keeps.{keeps-sound, reset-fresh, unsound-refused, refusals-keep}
 use Rattle.bridge.proofs.Numbers.{opening-numbers, opens-exactly, numbers-in-runs}
 use Rattle.bridge.proofs.Turns.{turn-sends, sends-for-transfers}
 
@@ -127,7 +127,8 @@ demand3 own ho b lb cs sh n l = after (runOf own b cs) (listed own ho b lb cs sh
 pub calls : Calls
 calls = record {
   keepsSound = keeps-sound;
-  freshSound = fresh-keeps;
+  resetFresh = reset-fresh;
+  unsoundRefused = unsound-refused;
   soundNumbers = sound-numbers;
   refusalsKeep = refusals-keep;
   turnSends = turn-sends;

@@ -21,9 +21,14 @@ use Rattle.bridge.specs.Statement.{chunks, requestFrame, commandFrame}
 abbrev pub KeepsSound : Type 0
 KeepsSound = (s : Bridge) (b : List ℕ) (c : Call) → sound s ≡ true → sound (step s b c .state) ≡ true
 
--- so does a reset that is answered 0, whatever the state was: it leaves the fresh bridge
-abbrev pub FreshSound : Type 0
-FreshSound = (own : ℕ) → own ≤ 15 → sound (fresh own) ≡ true
+-- a reset to an own number that is at most 15 leaves the fresh bridge, whatever the state was, and that is sound
+abbrev pub ResetFresh : Type 0
+ResetFresh = (s : Bridge) (b : List ℕ) (own : ℕ) → own ≤ 15 → (step s b (reset own) .state ≡ fresh own) × (sound (fresh own) ≡ true)
+
+-- an unsound state gets 11 from every call but reset; state and buffer stay as they were
+abbrev pub UnsoundRefused : Type 0
+UnsoundRefused = (s : Bridge) (b : List ℕ) (c : Call) → sound s ≡ false → ((own : ℕ) → c ≢ reset own) →
+    step s b c ≡ record { answer = plain 11; state = s; buffer = b }
 
 -- a sound state's phases and kinds are those that have names: 11 for a phase or kind that is none
 abbrev pub SoundNumbers : Type 0
@@ -67,7 +72,8 @@ pub record TurnYields (s : Bridge) (b : List ℕ) (a : Answer) : Type 0 where
 abbrev pub TurnSends : Type 0
 TurnSends = (s : Bridge) (b : List ℕ) → step s b (turn itsOwn) .answer .number ≡ 0 → TurnYields s b (step s b (turn itsOwn) .answer)
 
--- in a run, by the calls alone: a turn's frame is the REQ or CMD of a chunk of a transfer that stands, and the slot last served its
+-- in a run, by the calls alone: a turn's frame is the REQ or CMD of a chunk of a transfer that stands, and the slot last served is its
+-- slot
 pub record SentFor (r : Run) (j : ℕ) (f : Frame) : Type 0 where
   pub asker : Transfer r
   pub stands : Stands r asker j
@@ -158,7 +164,8 @@ NumbersInRuns = (r : Run) → Lawful r → (n : ℕ) → NumbersInRun r n
 -- all of it
 pub record Calls : Type 0 where
   pub keepsSound : KeepsSound
-  pub freshSound : FreshSound
+  pub resetFresh : ResetFresh
+  pub unsoundRefused : UnsoundRefused
   pub soundNumbers : SoundNumbers
   pub refusalsKeep : RefusalsKeep
   pub turnSends : TurnSends
