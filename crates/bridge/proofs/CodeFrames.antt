@@ -27,6 +27,7 @@ use Rattle.bus.specs.declared.RequestBytes.{RequestBytes}
 use Rattle.bus.proofs.FrameLaws.{part-length, content-length, head-short}
 use Rattle.bridge.specs.Model.{Frame, Bridge, Slot, slot, sound, isReady, isNone, from, orFour, nextReady, agedBridge, lentRefusal, turn′}
 use Rattle.bridge.specs.Model.{sendFor, chunkLen, outgoing, awaits, awaiting, contentRefusal, replyRefusal, frame′, advanced, withSlots}
+use Rattle.bridge.specs.Model.{waiting, asks, moved, requested, sentSlot}
 use Rattle.bridge.specs.Answers.{Stepped, steppedOf}
 use Rattle.bridge.proofs.Search.{search-some, Lowest, lowest-some, option-cases}
 use Rattle.bridge.proofs.Sound.{Sound, ReadyOk, ready-ok, true-sound, sound-true}
@@ -67,6 +68,15 @@ module _ (k : ℕ) (x : Slot) (b : List ℕ) (hk : k < 4) (hp : x .progress < x 
 
   pub goes-eight : length (outgoing k x b) ≤ 8
   goes-eight = omega (arith, goes-length, len-eight (x .count) (x .progress))
+
+-- a slot that sent
+pub sent-asks : (x : Slot) → asks (x .kind) ≡ true → moved x waiting (x .progress) (x .sends + 1) 20 ≡ sentSlot x
+unfolding sentSlot requested
+sent-asks x e = rw (e, add-one (x .sends))
+
+pub sent-goes-on : (x : Slot) → asks (x .kind) ≡ false → advanced x ≡ sentSlot x
+unfolding sentSlot
+sent-goes-on x e = rw e
 
 -- what is known of a ready slot of a sound bridge
 pub readies : (s : Bridge) (k : ℕ) → sound s ≡ true → k < 4 → isReady (slot s k .phase) ≡ true → ReadyOk (s .tickets) (slot s k)
