@@ -83,5 +83,5 @@ corollaries = record {
     givenUp = λ e. claims r w x n′ s′ .gaveUp .1 (three-stays r x n n′ l (claims r w x n s .gaveUp .0 e));
     shown = shown-stays r w x n n′ l s s′;
   };
-  widerMeanwhile = λ r w x n s rd e t a τ₀ na un. table-since r w x n t a τ₀ na un s (past-read r w x rd n s) e;
+  narrowMeanwhile = λ r w x n s rd e t a un. table-since r w x n t a un s (past-read r w x rd n s) e;
 }

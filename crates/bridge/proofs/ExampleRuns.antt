@@ -1,27 +1,29 @@
 -- The example runs, proved by computation; what is said of every event is tested over the list of calls.
 use Prim.Native.Nat.{ℕ, zero, suc, _+_, _≤_, _<_}
 use mathlib.Core.Path.{_≡_, refl, sym, _∙_, ap, subst}
-use mathlib.Core.Logic.{_⊎_, inl, inr}
+use mathlib.Core.Logic.{_⊎_, inl, inr, _≢_}
 use mathlib.Core.List.{List, [], _∷_}
 use mathlib.Core.Option.{some}
-use mathlib.Core.Bool.{Bool, true, false, not, _&&_, _||_, false≢true, true≢false}
+use mathlib.Core.Bool.{Bool, true, false, cond, not, _&&_, _||_, false≢true, true≢false}
 use native.Mathlib.Nat.{add-suc, suc-add, add-zero}
 use native.Mathlib.Omega.{arith}
-use native.Mathlib.Decide.{decLt}
+use native.Mathlib.Decide.{decLt, ℕ-discrete}
 use lib.ListN.{length, getD, List·getD-eq-default}
 use lib.Dec.{eqb, ltb, leb}
 use borrow.Author.Tests.{eqb-true, eqb-false, eq-eqb, lt-ltb, le-ltb, leb-true, not-true}
 use Rattle.bus.specs.Ident.{idOf, idFrom}
-use Rattle.bus.specs.Frames.{frameOf, req}
+use Rattle.bus.specs.Frames.{frameOf, content, req, rsp}
 use Rattle.bus.specs.Holder.{serveOf, answerWith}
+use Rattle.bus.specs.declared.Served.{Served}
 use Rattle.bridge.specs.Model.{Frame, Lent, itsOwn, other, Call, opening, turn, frame, status, bytes, close, reset, read, isWrite, askDevice, contentRefusal}
-use Rattle.bridge.specs.Statement.{Run, Lawful, ShapedLent, Shaped, Transfer, Closing, Stands, accepted, turns}
+use Rattle.bridge.specs.Statement.{Run, Lawful, ShapedLent, Shaped, Transfer, Closing, Stands, isTurn, accepted, turns}
 use Rattle.bridge.specs.Statement.{chunks, requestFrame, answer, ledger, matchesCall, Matches, Sent, Replied, Device, Timeline, Arrives, Own, range}
-use Rattle.bridge.specs.Statement.{Meanwhile}
-use Rattle.bridge.specs.Examples.{directory, memory, holding, after, run, reply, before, alone, unchanging, AloneShows}
-use Rattle.bridge.specs.Examples.{together, written, TogetherShows, late, slow, LateShows, silence, sendsOf, Reckonings, Examples}
+use Rattle.bridge.specs.Statement.{NotAfter, Meanwhile, Unwritten}
+use Rattle.bridge.specs.Examples.{directory, memory, holding, after, run, reply, before, DoneRead, alone, unchanging, AloneShows}
+use Rattle.bridge.specs.Examples.{together, written, TogetherShows, restarted, writtenOnce, RestartedShows, torn, overwritten, TornShows}
+use Rattle.bridge.specs.Examples.{forged, ForgedShows, late, slow, LateShows, silence, sendsOf, Reckonings, Examples}
 use Rattle.bridge.proofs.Openers.{everything}
-use Rattle.bridge.proofs.Search.{and-true}
+use Rattle.bridge.proofs.Search.{and-true, some-eq}
 use Rattle.bridge.proofs.CallKinds.{isFrame}
 
 -- ── tests of every call of a list ──────────────────────────────────────────────────────────────────────────────────
@@ -155,6 +157,16 @@ module _ (cs : List Call) where
       go (close t) e = absurd (false≢true e)
       go (reset o) e = absurd (false≢true e)
 
+  -- where frames come from event k on, and each is answered not before τ₀
+  not-after : (k τ₀ : ℕ) (t : Timeline) → every (λ i c. not (isFrame c) || leb k i) 0 cs ≡ true
+      → ((m : ℕ) → k ≤ m → τ₀ ≤ t .answered m) → (x : Transfer (run cs)) (n : ℕ) → NotAfter (run cs) x n t τ₀
+  not-after k τ₀ t e h x n c m l p = h m (go (or-either (not (isFrame (run cs .calls m))) (leb k m)
+      (all-events (λ i c. not (isFrame c) || leb k i) cs e (λ i. refl) m)))
+    where
+      go : (not (isFrame (run cs .calls m)) ≡ true) ⊎ (leb k m ≡ true) → k ≤ m
+      go (inl q) = absurd (true≢false (sym (matches-frame x c m (p .matches)) ∙ not-true _ q))
+      go (inr q) = leb-true k m q
+
   -- a read that sent its request at the turn right before the reply
   replied-next : (x : Transfer (run cs)) (c j : ℕ) → ((n : ℕ) → x .at < n → Stands (run cs) x n) → x .at < j → isWrite (x .ask) ≡ false
       → c < chunks (run cs) x → accepted (run cs) j ≡ true → answer (run cs) j .sent ≡ some (requestFrame (run cs) x c j)
@@ -198,9 +210,20 @@ its-own : (r : Run) (t : Timeline) (k m : ℕ) (g f : Frame) → m ≡ k → r .
 its-own r t k m g f e c o d =
     subst (λ (i : ℕ). Own r t i f) (sym e) (subst (Own r t k) (same-frame (r .calls k) g f c (ap (r .calls) (sym e) ∙ d)) o)
 
-before-small : (m : ℕ) → before m ≤ m
-before-small zero = omega arith
-before-small (suc m) = omega arith
+-- a transfer that sent its request by the call before stands
+turn-stays : (r : Run) (y : Transfer r) (m : ℕ) → isTurn (r .calls m) ≡ true → ¬ Closing r y m
+turn-stays r y m e (z, inl c) = true≢false (sym e ∙ ap isTurn c)
+turn-stays r y m e (z, inr (o, c)) = true≢false (sym e ∙ ap isTurn c)
+
+sent-before : (r : Run) (y : Transfer r) (c k m : ℕ) → k < m → Sent r y c (before m) → Stands r y m
+unfolding accepted
+sent-before r y c k zero l s = absurd (omega arith)
+sent-before r y c k (suc m) l s = (omega (arith, s .stands .0), λ i a b. go i a b (ℕ-discrete i m))
+  where
+    go : (i : ℕ) → y .at < i → i < suc m → Dec (i ≡ m) → ¬ Closing r y i
+    go i a b (yes e) d =
+        turn-stays r y m (and-true (isTurn (r .calls m)) (eqb (answer r m .number) 0) (s .turned) .0) (subst (Closing r y) e d)
+    go i a b (no e) d = s .stands .1 i a (omega arith) d
 
 -- where replies arrive under device 5's number at two events only, and each is its own
 two-own : (cs : List Call) (t : Timeline) (x : Transfer (run cs)) (n i j : ℕ) (g h : Frame) → askDevice (x .ask) ≡ 5
@@ -214,21 +237,10 @@ two-own cs t x n i j g h d e p o q u m f a = go (or-either (eqb m i) (eqb m j)
     go (inl z) = its-own (run cs) t i m g f (eqb-true m i z) p o (a .call)
     go (inr z) = its-own (run cs) t j m h f (eqb-true m j z) q u (a .call)
 
--- a moment between two replies
-between : (r : Run) (x : Transfer r) (n : ℕ) (t : Timeline) (τ c m c′ m′ : ℕ) → m < n → Replied r x c m → t .answered m ≤ τ → m′ < n
-    → Replied r x c′ m′ → τ ≤ t .when m′ → Meanwhile r x n t τ
-between r x n t τ c m c′ m′ l p a l′ p′ u = record {
-  c = c;
-  m = m;
-  firstBefore = l;
-  first = p;
-  since = a;
-  c′ = c′;
-  m′ = m′;
-  before = l′;
-  last = p′;
-  until = u;
-}
+-- a moment until a reply
+until : (r : Run) (x : Transfer r) (n : ℕ) (t : Timeline) (τ₀ τ c m : ℕ) → τ₀ ≤ τ → m < n → Replied r x c m → τ ≤ t .when m
+    → Meanwhile r x n t τ₀ τ
+until r x n t τ₀ τ c m a l p u = record { since = a; c = c; m = m; before = l; last = p; until = u }
 
 -- ── one asker ──────────────────────────────────────────────────────────────────────────────────────────────────────
 
@@ -236,9 +248,9 @@ alone-x : Transfer (run alone)
 unfolding everything alone reply
 alone-x = record { at = 0; lent = itsOwn; ask = read 5 7 6 10; call = refl; accepted = refl }
 
-alone-stands : (y : Transfer (run alone)) (n : ℕ) → y .at < n → Stands (run alone) y n
-unfolding everything every alone reply
-alone-stands y n l = still-stands alone 0 refl y n (omega arith) l
+alone-stands : (n : ℕ) → alone-x .at < n → Stands (run alone) alone-x n
+unfolding everything every alone reply alone-x
+alone-stands n l = still-stands alone 0 refl alone-x n (omega arith) l
 
 alone-own2 : Own (run alone) unchanging 2 (reply 5 0 (106 ∷ 107 ∷ 108 ∷ 109 ∷ 110 ∷ 111 ∷ 112 ∷ 113 ∷ []))
 unfolding everything alone reply directory memory
@@ -258,30 +270,36 @@ alone-call4 = refl
 
 alone-replied : Replied (run alone) alone-x 0 2
 unfolding everything alone reply alone-x
-alone-replied = replied-next alone alone-x 0 1 (alone-stands alone-x) (omega arith) refl (omega arith) refl refl (omega arith) refl
+alone-replied = replied-next alone alone-x 0 1 alone-stands (omega arith) refl (omega arith) refl refl (omega arith) refl
 
 alone-replied′ : Replied (run alone) alone-x 1 4
 unfolding everything alone reply alone-x
-alone-replied′ = replied-next alone alone-x 1 3 (alone-stands alone-x) (omega arith) refl (omega arith) refl refl (omega arith) refl
+alone-replied′ = replied-next alone alone-x 1 3 alone-stands (omega arith) refl (omega arith) refl refl (omega arith) refl
+
+alone-read : DoneRead alone 0 5 (106 ∷ 107 ∷ 108 ∷ 109 ∷ 110 ∷ 111 ∷ 112 ∷ 113 ∷ 114 ∷ 115 ∷ [])
+unfolding everything every shaped shapedLent alone reply alone-x
+alone-read =
+    record { lawful = run-lawful alone refl; x = alone-x; opened = refl; stands = alone-stands 5 (omega arith); done = refl; shown = refl }
 
 alone-shows : AloneShows
-unfolding everything every underFive shaped shapedLent alone reply alone-x directory memory
+unfolding everything every underFive alone reply alone-x alone-read directory memory
 alone-shows = record {
-  lawful = run-lawful alone refl;
-  x = alone-x;
-  opened = refl;
-  stands = alone-stands alone-x 5 (omega arith);
-  premises = record {
-    arrivals = record {
-      own = two-own alone unchanging alone-x 5 2 4 _ _ refl refl alone-call2 alone-own2 alone-call4 alone-own4;
-      current = λ m f a y c s. alone-stands y m (omega (arith, s .stands .0, before-small m));
+  shows = record {
+    reader = alone-read;
+    premises = record {
+      arrivals = record {
+        own = two-own alone unchanging alone-x 5 2 4 _ _ refl refl alone-call2 alone-own2 alone-call4 alone-own4;
+        current = λ m f a y c. sent-before (run alone) y c (alone-x .at) m (a .since);
+      };
+      first = not-after alone 2 3 unchanging refl (λ m l. omega arith) alone-x 5;
+      unwritten = record { directory = λ τ τ′ a b. refl; unchanged = λ τ τ′ a b. refl };
     };
-    unwritten = record { directory = λ τ τ′ a b. refl; unchanged = λ τ τ′ a b. refl };
+    meanwhile = until (run alone) alone-x 5 unchanging 3 5 1 4 (omega arith) (omega arith) alone-replied′ (omega arith);
+    same = refl;
   };
-  done = refl;
-  meanwhile = between (run alone) alone-x 5 unchanging 3 0 2 1 4 (omega arith) alone-replied (omega arith) (omega arith) alone-replied′ (omega arith);
-  shown = refl;
-  same = refl;
+  asked = refl;
+  answered = refl;
+  arrived = refl;
 }
 
 -- ── together ───────────────────────────────────────────────────────────────────────────────────────────────────────
@@ -290,9 +308,9 @@ together-x : Transfer (run together)
 unfolding everything together reply
 together-x = record { at = 1; lent = itsOwn; ask = read 5 7 6 10; call = refl; accepted = refl }
 
-together-stands : (y : Transfer (run together)) (n : ℕ) → y .at < n → Stands (run together) y n
-unfolding everything every together reply
-together-stands y n l = still-stands together 0 refl y n (omega arith) l
+together-stands : (n : ℕ) → together-x .at < n → Stands (run together) together-x n
+unfolding everything every together reply together-x
+together-stands n l = still-stands together 0 refl together-x n (omega arith) l
 
 abbrev first-reply : Frame
 first-reply = reply 5 128 (1 ∷ 2 ∷ 108 ∷ 109 ∷ 110 ∷ 111 ∷ 112 ∷ 113 ∷ [])
@@ -318,57 +336,47 @@ together-call30 : run together .calls 30 ≡ frame itsOwn second-reply
 unfolding together
 together-call30 = refl
 
--- frames come after the first write
-together-after : (m : ℕ) → isFrame (run together .calls m) ≡ true → 4 ≤ m
-unfolding everything every together reply
-together-after m e = go (or-either (not (isFrame (run together .calls m))) (leb 4 m)
-    (all-events (λ k c. not (isFrame c) || leb 4 k) together refl (λ k. refl) m))
-  where
-    go : (not (isFrame (run together .calls m)) ≡ true) ⊎ (leb 4 m ≡ true) → 4 ≤ m
-    go (inl q) = absurd (true≢false (sym e ∙ not-true _ q))
-    go (inr q) = leb-true 4 m q
-
--- so the device is the same all the while
-together-same : (τ : ℕ) → Meanwhile (run together) together-x 33 written τ → written .device τ ≡ holding (after memory (1 ∷ 2 ∷ []))
+-- the device is the same all the while
+together-same : (τ : ℕ) → Meanwhile (run together) together-x 33 written 5 τ → written .device τ ≡ holding (after memory 6 (1 ∷ 2 ∷ []))
 together-same τ w =
-    let a : 4 ≤ w .m = together-after (w .m) (matches-frame together together-x (w .c) (w .m) (w .first .matches)) in
-    let l : 4 ≤ τ = omega (arith, a, w .since) in
+    let l : 4 ≤ τ = omega (arith, w .since) in
     let u : τ < 33 = omega (arith, w .until, w .before) in
     rw (le-ltb τ 4 l, lt-ltb τ 33 u)
 
 together-replied : Replied (run together) together-x 0 28
 unfolding everything together reply together-x
-together-replied = replied-next together together-x 0 27 (together-stands together-x) (omega arith) refl (omega arith) refl refl (omega arith) refl
+together-replied = replied-next together together-x 0 27 together-stands (omega arith) refl (omega arith) refl refl (omega arith) refl
 
 together-replied′ : Replied (run together) together-x 1 30
 unfolding everything together reply together-x
-together-replied′ = replied-next together together-x 1 29 (together-stands together-x) (omega arith) refl (omega arith) refl refl (omega arith) refl
+together-replied′ = replied-next together together-x 1 29 together-stands (omega arith) refl (omega arith) refl refl (omega arith) refl
 
 together-lawful : Lawful (run together)
 unfolding everything every shaped shapedLent together reply
 together-lawful = run-lawful together refl
 
+together-read : DoneRead together 1 33 (1 ∷ 2 ∷ 108 ∷ 109 ∷ 110 ∷ 111 ∷ 112 ∷ 113 ∷ 114 ∷ 115 ∷ [])
+unfolding everything together reply together-x
+together-read =
+    record { lawful = together-lawful; x = together-x; opened = refl; stands = together-stands 33 (omega arith); done = refl; shown = refl }
+
 together-shows : TogetherShows
-unfolding everything every underFive together reply together-x directory memory after
+unfolding everything every underFive together reply together-x together-read directory memory after
 together-shows = record {
   shows = record {
-    lawful = together-lawful;
-    x = together-x;
-    opened = refl;
-    stands = together-stands together-x 33 (omega arith);
+    reader = together-read;
     premises = record {
       arrivals = record {
         own = two-own together written together-x 33 28 30 _ _ refl refl together-call28 together-own28 together-call30 together-own30;
-        current = λ m f a y c s. together-stands y m (omega (arith, s .stands .0, before-small m));
+        current = λ m f a y c. sent-before (run together) y c (together-x .at) m (a .since);
       };
+      first = not-after together 6 5 written refl (λ m l. omega arith) together-x 33;
       unwritten = record {
         directory = λ τ τ′ a b. ap (λ (d : Device). d .directory) (together-same τ a ∙ sym (together-same τ′ b));
         unchanged = λ τ τ′ a b. ap (range (run together) together-x) (together-same τ a ∙ sym (together-same τ′ b));
       };
     };
-    done = refl;
-    meanwhile = between (run together) together-x 33 written 29 0 28 1 30 (omega arith) together-replied (omega arith) (omega arith) together-replied′ (omega arith);
-    shown = refl;
+    meanwhile = until (run together) together-x 33 written 5 29 1 30 (omega arith) (omega arith) together-replied′ (omega arith);
     same = refl;
   };
   earlier = refl;
@@ -376,6 +384,194 @@ together-shows = record {
   other = refl;
   toAnother = refl;
   fromAnother = refl;
+}
+
+-- ── restarted ──────────────────────────────────────────────────────────────────────────────────────────────────────
+
+restarted-x : Transfer (run restarted)
+unfolding everything restarted
+restarted-x = record { at = 3; lent = itsOwn; ask = read 5 7 6 2; call = refl; accepted = refl }
+
+restarted-stands : (n : ℕ) → restarted-x .at < n → Stands (run restarted) restarted-x n
+unfolding everything every restarted restarted-x
+restarted-stands n l = still-stands restarted 3 refl restarted-x n (omega arith) l
+
+abbrev third-reply : Frame
+third-reply = frameOf (idOf 0 rsp 5 3 6) (1 ∷ 2 ∷ [])
+
+restarted-own5 : Own (run restarted) writtenOnce 5 third-reply
+unfolding everything restarted directory memory after
+restarted-own5 = own-reply (run restarted) writtenOnce 5 (frameOf (idOf 6 req 3 5 7) (6 ∷ 0 ∷ 2 ∷ [])) _ (omega arith) refl refl (omega arith)
+    (omega arith) refl
+
+restarted-call5 : run restarted .calls 5 ≡ frame itsOwn third-reply
+unfolding restarted
+restarted-call5 = refl
+
+restarted-replied : Replied (run restarted) restarted-x 0 5
+unfolding everything restarted restarted-x
+restarted-replied = replied-next restarted restarted-x 0 4 restarted-stands (omega arith) refl (omega arith) refl refl (omega arith) refl
+
+restarted-same : (τ : ℕ) → Meanwhile (run restarted) restarted-x 6 writtenOnce 5 τ → writtenOnce .device τ ≡ holding (after memory 6 (1 ∷ 2 ∷ []))
+restarted-same τ w =
+    let l : 2 ≤ τ = omega (arith, w .since) in
+    rw (le-ltb τ 2 l)
+
+restarted-read : DoneRead restarted 3 6 (1 ∷ 2 ∷ [])
+unfolding everything every shaped shapedLent restarted restarted-x
+restarted-read = record {
+  lawful = run-lawful restarted refl;
+  x = restarted-x;
+  opened = refl;
+  stands = restarted-stands 6 (omega arith);
+  done = refl;
+  shown = refl;
+}
+
+restarted-shows : RestartedShows
+unfolding everything every underFive restarted restarted-x restarted-read directory memory after
+restarted-shows = record {
+  sent = refl;
+  forgotten = refl;
+  again = refl;
+  shows = record {
+    reader = restarted-read;
+    premises = record {
+      arrivals = record {
+        own = two-own restarted writtenOnce restarted-x 6 5 5 _ _ refl refl restarted-call5 restarted-own5 restarted-call5 restarted-own5;
+        current = λ m f a y c. sent-before (run restarted) y c (restarted-x .at) m (a .since);
+      };
+      first = not-after restarted 5 5 writtenOnce refl (λ m l. omega arith) restarted-x 6;
+      unwritten = record {
+        directory = λ τ τ′ a b. ap (λ (d : Device). d .directory) (restarted-same τ a ∙ sym (restarted-same τ′ b));
+        unchanged = λ τ τ′ a b. ap (range (run restarted) restarted-x) (restarted-same τ a ∙ sym (restarted-same τ′ b));
+      };
+    };
+    meanwhile = until (run restarted) restarted-x 6 writtenOnce 5 5 0 5 (omega arith) (omega arith) restarted-replied (omega arith);
+    same = refl;
+  };
+}
+
+-- ── torn ───────────────────────────────────────────────────────────────────────────────────────────────────────────
+
+torn-x : Transfer (run torn)
+unfolding everything torn reply
+torn-x = record { at = 0; lent = itsOwn; ask = read 5 7 6 10; call = refl; accepted = refl }
+
+torn-stands : (n : ℕ) → torn-x .at < n → Stands (run torn) torn-x n
+unfolding everything every torn reply torn-x
+torn-stands n l = still-stands torn 0 refl torn-x n (omega arith) l
+
+abbrev old-reply : Frame
+old-reply = reply 5 0 (106 ∷ 107 ∷ 108 ∷ 109 ∷ 110 ∷ 111 ∷ 112 ∷ 113 ∷ [])
+
+torn-own2 : Own (run torn) overwritten 2 old-reply
+unfolding everything torn reply directory memory
+torn-own2 = own-reply (run torn) overwritten 2 (frameOf 0x1882B8 (6 ∷ 0 ∷ 8 ∷ [])) _ (omega arith) refl refl (omega arith) (omega arith) refl
+
+abbrev new-reply : Frame
+new-reply = reply 5 8 (3 ∷ 4 ∷ [])
+
+torn-own6 : Own (run torn) overwritten 6 new-reply
+unfolding everything torn reply directory memory after
+torn-own6 = own-reply (run torn) overwritten 6 (frameOf 0x3882B8 (6 ∷ 1 ∷ 2 ∷ [])) _ (omega arith) refl refl (omega arith) (omega arith) refl
+
+torn-call2 : run torn .calls 2 ≡ frame itsOwn old-reply
+unfolding torn
+torn-call2 = refl
+
+torn-call6 : run torn .calls 6 ≡ frame itsOwn new-reply
+unfolding torn
+torn-call6 = refl
+
+torn-replied : Replied (run torn) torn-x 1 6
+unfolding everything torn reply torn-x
+torn-replied = replied-next torn torn-x 1 5 torn-stands (omega arith) refl (omega arith) refl refl (omega arith) refl
+
+torn-read : DoneRead torn 0 7 (106 ∷ 107 ∷ 108 ∷ 109 ∷ 110 ∷ 111 ∷ 112 ∷ 113 ∷ 3 ∷ 4 ∷ [])
+unfolding everything every shaped shapedLent torn reply torn-x
+torn-read =
+    record { lawful = run-lawful torn refl; x = torn-x; opened = refl; stands = torn-stands 7 (omega arith); done = refl; shown = refl }
+
+-- the range's bytes before and after the write differ from those shown, at place 8 and at place 6
+torn-never : (b : Bool) → range (run torn) torn-x (holding (cond b memory (after memory 12 (1 ∷ 2 ∷ 3 ∷ 4 ∷ []))))
+    ≢ 106 ∷ 107 ∷ 108 ∷ 109 ∷ 110 ∷ 111 ∷ 112 ∷ 113 ∷ 3 ∷ 4 ∷ []
+unfolding everything torn reply torn-x directory memory after
+torn-never true e = let z : _≡_ {A = ℕ} 114 3 = ap (λ (l : List ℕ). getD l 8 0) e in omega arith
+torn-never false e = let z : _≡_ {A = ℕ} 1 112 = ap (λ (l : List ℕ). getD l 6 0) e in omega arith
+
+torn-rewritten : ¬ Unwritten (run torn) torn-x overwritten (Meanwhile (run torn) torn-x 7 overwritten 2)
+unfolding everything torn reply torn-x directory memory after
+torn-rewritten u =
+    let z : _≡_ {A = ℕ} 112 1 = ap (λ (l : List ℕ). getD l 6 0) (u .unchanged 2 6
+    (until (run torn) torn-x 7 overwritten 2 2 1 6 (omega arith) (omega arith) torn-replied (omega arith))
+    (until (run torn) torn-x 7 overwritten 2 6 1 6 (omega arith) (omega arith) torn-replied (omega arith))) in
+    omega arith
+
+torn-shows : TornShows
+unfolding everything every underFive torn reply torn-x torn-read
+torn-shows = record {
+  reader = torn-read;
+  arrivals = record {
+    own = two-own torn overwritten torn-x 7 2 6 _ _ refl refl torn-call2 torn-own2 torn-call6 torn-own6;
+    current = λ m f a y c. sent-before (run torn) y c (torn-x .at) m (a .since);
+  };
+  first = not-after torn 2 2 overwritten refl (λ m l. omega arith) torn-x 7;
+  never = λ τ. torn-never (ltb τ 5);
+  rewritten = torn-rewritten;
+}
+
+-- ── forged ─────────────────────────────────────────────────────────────────────────────────────────────────────────
+
+forged-x : Transfer (run forged)
+unfolding everything forged reply
+forged-x = record { at = 0; lent = itsOwn; ask = read 5 7 6 10; call = refl; accepted = refl }
+
+forged-stands : (n : ℕ) → forged-x .at < n → Stands (run forged) forged-x n
+unfolding everything every forged reply forged-x
+forged-stands n l = still-stands forged 0 refl forged-x n (omega arith) l
+
+forged-own2 : Own (run forged) unchanging 2 old-reply
+unfolding everything forged reply directory memory
+forged-own2 = own-reply (run forged) unchanging 2 (frameOf 0x1882B8 (6 ∷ 0 ∷ 8 ∷ [])) _ (omega arith) refl refl (omega arith) (omega arith) refl
+
+forged-call2 : run forged .calls 2 ≡ frame itsOwn old-reply
+unfolding forged
+forged-call2 = refl
+
+forged-others : (m : ℕ) (f : Frame) → m ≢ 4 → Arrives (run forged) forged-x 5 m f → Own (run forged) unchanging m f
+unfolding everything every underFive forged reply forged-x
+forged-others m f d a = go (or-either (eqb m 2) (eqb m 4)
+    (under-five forged (λ k. eqb k 2 || eqb k 4) refl m f (a .call) (a .passes) (a .device)))
+  where
+    go : (eqb m 2 ≡ true) ⊎ (eqb m 4 ≡ true) → Own (run forged) unchanging m f
+    go (inl z) = its-own (run forged) unchanging 2 m _ f (eqb-true m 2 z) forged-call2 forged-own2 (a .call)
+    go (inr z) = absurd (d (eqb-true m 4 z))
+
+-- the holder gives byte 114
+forged-forgery : ¬ Own (run forged) unchanging 4 (reply 5 8 (0 ∷ 0 ∷ []))
+unfolding everything forged reply directory memory
+forged-forgery o =
+    let q : frameOf 0x3882B8 (6 ∷ 1 ∷ 2 ∷ []) ≡ o .request = some-eq (o .yields) in
+    let g : answerWith (reply 5 8 (114 ∷ 115 ∷ [])) ≡ answerWith (o .reply) = ap (serveOf directory memory) q ∙ o .gives in
+    let z : _≡_ {A = ℕ} 0 114 = ap (λ (l : List ℕ). getD l 0 0) (o .sameBytes ∙ sym (ap (λ (s : Served). content (s .frame)) g)) in
+    omega arith
+
+forged-read : DoneRead forged 0 5 (106 ∷ 107 ∷ 108 ∷ 109 ∷ 110 ∷ 111 ∷ 112 ∷ 113 ∷ 0 ∷ 0 ∷ [])
+unfolding everything every shaped shapedLent forged reply forged-x
+forged-read =
+    record { lawful = run-lawful forged refl; x = forged-x; opened = refl; stands = forged-stands 5 (omega arith); done = refl; shown = refl }
+
+forged-shows : ForgedShows
+unfolding everything every forged reply forged-x forged-read directory memory
+forged-shows = record {
+  reader = forged-read;
+  own = forged-others;
+  current = λ m f a y c. sent-before (run forged) y c (forged-x .at) m (a .since);
+  first = not-after forged 2 3 unchanging refl (λ m l. omega arith) forged-x 5;
+  unwritten = record { directory = λ τ τ′ a b. refl; unchanged = λ τ τ′ a b. refl };
+  asked = refl;
+  forgery = forged-forgery;
 }
 
 -- ── late ───────────────────────────────────────────────────────────────────────────────────────────────────────────
@@ -423,18 +619,18 @@ late-lawful : Lawful (run late)
 unfolding everything every shaped shapedLent late reply
 late-lawful = run-lawful late refl
 
+late-read : DoneRead late 3 6 (100 ∷ 101 ∷ 102 ∷ 103 ∷ 104 ∷ 105 ∷ 106 ∷ 107 ∷ [])
+unfolding everything late reply late-x
+late-read =
+    record { lawful = late-lawful; x = late-x; opened = refl; stands = late-stands 6 (omega arith); done = refl; shown = refl }
+
 late-shows : LateShows
-unfolding everything every underFive late reply late-x directory memory
+unfolding everything every underFive late reply late-x late-read directory memory
 late-shows = record {
-  lawful = late-lawful;
-  x = late-x;
-  opened = refl;
-  stands = late-stands 6 (omega arith);
+  reader = late-read;
   own = two-own late slow late-x 6 5 5 _ _ refl refl late-call5 late-own5 late-call5 late-own5;
+  first = not-after late 5 5 slow refl (λ m l. omega arith) late-x 6;
   unwritten = record { directory = λ τ τ′ a b. refl; unchanged = λ τ τ′ a b. refl };
-  done = refl;
-  meanwhile = between (run late) late-x 6 slow 5 0 5 0 5 (omega arith) late-replied (omega arith) (omega arith) late-replied (omega arith);
-  shown = refl;
   asked = refl;
   closed = (late-closed, late-sent, late-gone);
 }
@@ -456,4 +652,12 @@ reckoned = record {
 }
 
 pub examples : Examples
-examples = record { aloneShows = alone-shows; togetherShows = together-shows; lateShows = late-shows; reckonings = reckoned }
+examples = record {
+  aloneShows = alone-shows;
+  togetherShows = together-shows;
+  restartedShows = restarted-shows;
+  tornShows = torn-shows;
+  forgedShows = forged-shows;
+  lateShows = late-shows;
+  reckonings = reckoned;
+}

@@ -8,13 +8,14 @@ use mathlib.Core.Bool.{Bool, true, false, cond}
 use native.Mathlib.Decide.{ℕ-discrete}
 use lib.ListN.{length, replicate}
 use lib.Dec.{eqb}
-use borrow.Author.Tests.{ne-eqb}
+use borrow.Author.Tests.{ne-eqb, le-ltb}
+use Rattle.wire.specs.Order.{_if_else_, _orElse_}
 use Rattle.bridge.specs.Model.{Frame, Bridge, Ask, Call, Result, itsOwn, other, opening, turn, frame, status, bytes, close, reset, from}
 use Rattle.bridge.specs.Model.{holderOf, openRefusal, open′, nextReady, agedBridge, sendFor, turn′, replyRefusal, frame′}
 use Rattle.bridge.specs.Model.{closeRefusal, close′, resetRefusal, reset′, bytes′, bytesRefusal, step, unless, changedBy, keeping, plain}
-use Rattle.bridge.specs.Model.{lentRefusal, lentList, fresh, noSpan, spanOf, span′}
+use Rattle.bridge.specs.Model.{lentRefusal, lentList, fresh, noSpan, spanOf, span′, status′, sound}
 use Rattle.bridge.specs.Statement.{state, buffer, answer}
-use Rattle.bridge.specs.Calls.{KeepsSound, FreshSound, RefusalsKeep}
+use Rattle.bridge.specs.Calls.{KeepsSound, ResetFresh, UnsoundRefused, RefusalsKeep}
 use Rattle.bridge.proofs.Sound.{Sound, sound-true, true-sound}
 use Rattle.bridge.proofs.Status.{span-number}
 use Rattle.bridge.proofs.CallKinds.{kind, kind-sound, frame-own, frame-other, fresh-sound}
@@ -59,8 +60,41 @@ module _ (s : Bridge) (h : Sound s) where
 pub keeps-sound : KeepsSound
 keeps-sound s b c e = sound-true (step s b c .state) (step-sound s (true-sound s e) b c)
 
-pub fresh-keeps : FreshSound
-fresh-keeps o h = sound-true (fresh o) (fresh-sound o h)
+pub reset-fresh : ResetFresh
+unfolding step reset′ resetRefusal _if_else_
+reset-fresh s b o h = (rw (le-ltb 15 o h), sound-true (fresh o) (fresh-sound o h))
+
+-- ── unsound states ─────────────────────────────────────────────────────────────────────────────────────────────────
+
+module _ (s : Bridge) (e : sound s ≡ false) where
+  unsound-lent : (n : ℕ) → lentRefusal s n ≡ 11
+  unfolding lentRefusal _if_else_
+  unsound-lent n = rw e
+
+  unsound-open : (b : List ℕ) (a : Ask) → open′ s b a ≡ record { answer = plain 11; state = s; buffer = b }
+  unfolding open′ openRefusal _orElse_
+  unsound-open b a = rw (unsound-lent (length b))
+
+  unsound-turn : (b : List ℕ) → turn′ s b ≡ record { answer = plain 11; state = s; buffer = b }
+  unfolding turn′
+  unsound-turn b = rw (unsound-lent (length b))
+
+  unsound-frame : (b : List ℕ) (f : Frame) → frame′ s b f ≡ record { answer = plain 11; state = s; buffer = b }
+  unfolding frame′ replyRefusal _orElse_
+  unsound-frame b f = rw (unsound-lent (length b))
+
+pub unsound-refused : UnsoundRefused
+unfolding step status′ bytes′ span′ bytesRefusal close′ closeRefusal _if_else_
+unsound-refused s b (opening itsOwn a) e d = unsound-open s e b a
+unsound-refused s b (opening (other l) a) e d = rw (unsound-open s e l a)
+unsound-refused s b (turn itsOwn) e d = unsound-turn s e b
+unsound-refused s b (turn (other l)) e d = rw (unsound-turn s e l)
+unsound-refused s b (frame itsOwn f) e d = unsound-frame s e b f
+unsound-refused s b (frame (other l) f) e d = rw (unsound-frame s e l f)
+unsound-refused s b (status t) e d = rw e
+unsound-refused s b (bytes l t) e d = rw e
+unsound-refused s b (close t) e d = rw e
+unsound-refused s b (reset o) e d = absurd (d o refl)
 
 -- ── refusals ───────────────────────────────────────────────────────────────────────────────────────────────────────
 

@@ -13,6 +13,7 @@ use Rattle.bus.specs.Frames.{rsp, headNumber}
 use Rattle.bus.specs.Ident.{idSpare, idTo, idKind}
 use Rattle.wire.specs.Order.{_if_else_, _orElse_}
 use Rattle.wire.specs.First.{First, Zero}
+use Rattle.wire.proofs.Orders.{if-zero, else-zero}
 use Rattle.bridge.specs.Model.{askRefusal, roomRefusal, resetRefusal, bytes, bytes′, span′, bytesRefusal}
 use Rattle.bridge.specs.Model.{Frame, turn, frame, close, reset, waiting, isWrite, turn′, agedBridge, nextReady, lentRefusal, frame′}
 use Rattle.bridge.specs.Model.{replyRefusal, close′, closeRefusal, holderOf, reset′, contentRefusal, awaits, awaiting, Bridge, free}
@@ -30,7 +31,7 @@ use Rattle.bridge.proofs.Status.{held-by}
 use Rattle.bridge.proofs.Sends.{matches-ok}
 use Rattle.bridge.proofs.Past.{past-read, awaited-replied}
 use Rattle.bridge.proofs.Ahead.{reply-awaited}
-use Rattle.bridge.proofs.Slots.{no-holder, occupied}
+use Rattle.bridge.proofs.Slots.{no-holder, known-holder, occupied}
 use Rattle.bridge.proofs.Keeps.{sends-zero}
 use Rattle.bridge.proofs.Search.{cases, and-intro, and-true, Lowest, lowest-some, lowest-none, option-cases}
 use Rattle.bridge.proofs.Sound.{sound-true}
@@ -127,11 +128,13 @@ Later a P Q =
     (First Q 13
     Zero))))
 
-room-chain : (s : Bridge) (n : ℕ) (P Q : Type 0) → (isNone (lowestFree s) ≡ true) ↔ P → (leb 4294967295 (s .tickets) ≡ true) ↔ Q
+room-chain : (s : Bridge) (n : ℕ) (P Q : Type 0) → (isNone (lowestFree s) ≡ true) ↔ P → (4294967295 ≤ s .tickets) ↔ Q
     → (roomRefusal s ≡ n) ↔ First P 12 (First Q 13 Zero) n
 unfolding roomRefusal
-room-chain s n P Q p q = first-if 12 (isNone (lowestFree s)) _ n P (First Q 13 Zero) p
-    (λ z. first-if 13 (leb 4294967295 (s .tickets)) 0 n Q Zero q (λ z. (sym, sym)))
+room-chain s n P Q p q = first-if 12 (isNone (lowestFree s)) _ n P (First Q 13 Zero) p (λ z. first-if 13 _ 0 n Q Zero (
+  λ e. q .0 (omega (arith, leb-true _ (s .tickets) e)),
+  λ u. le-leb _ (s .tickets) (omega (arith, q .1 u)),
+) (λ z. (sym, sym)))
 
 args-chain : (d t o c x n : ℕ) (rest : ℕ → Type 0) → (x ≡ n) ↔ rest n
     → ((askRefusal d t o c orElse x) ≡ n)
@@ -153,7 +156,7 @@ args-chain d t o c x n rest r = (λ e. tests .0 (sym flat ∙ e), λ p. flat ∙
         (or-test (eqb c 0) (ltb 128 c) (1 ≤ c) (c ≤ 128) (none-test c) (over-test 128 c) (some-of c) (ltb-false 128 c))
         (λ y. first-if 8 (ltb 2048 (o + c)) x n (2048 < o + c) rest (ltb-test 2048 (o + c)) (λ u. r)))
 
-chain : (s : Bridge) (a : Ask) (n : ℕ) (P Q : Type 0) → (isNone (lowestFree s) ≡ true) ↔ P → (leb 4294967295 (s .tickets) ≡ true) ↔ Q
+chain : (s : Bridge) (a : Ask) (n : ℕ) (P Q : Type 0) → (isNone (lowestFree s) ≡ true) ↔ P → (4294967295 ≤ s .tickets) ↔ Q
     → (later s a ≡ n) ↔ Later a P Q n
 chain s a n P Q p q = args-chain (askDevice a) (askTable a) (askOffset a) (askCount a) (roomRefusal s) n (First P 12 (First Q 13 Zero))
     (room-chain s n P Q p q)
@@ -220,7 +223,7 @@ opening-numbers s b a n = (λ e. h .0 (sym (number-is s b a) ∙ e), λ p. numbe
         tests = first-if 11 (not (sound s)) _ n (sound s ≡ false) (First (length b ≢ 512) 10 (Later a Full Used)) (sound-test (sound s))
             (λ y. first-if 10 (not (eqb (length b) 512)) (later s a) n (length b ≢ 512) (Later a Full Used)
             (not-test (eqb (length b) 512) (length b ≡ 512) (eqb-test (length b) 512))
-            (λ z. chain s a n Full Used (full-phases s) (leb-test 4294967295 (s .tickets))))
+            (λ z. chain s a n Full Used (full-phases s) (λ u. u, λ u. u)))
 
 pub opens-exactly : OpensExactly
 unfolding step
@@ -235,7 +238,7 @@ opens-exactly s b a = (there, back)
           lent = open-lent s (length b) a z .1;
           device = o .law .device;
           table = o .law .table;
-          some = omega (arith, o .law .some);
+          nonempty = omega (arith, o .law .some);
           few = o .law .few;
           inside = o .law .inside;
           room = free-slot (option-cases (lowestFree s)) (o .slotted);
@@ -255,7 +258,7 @@ opens-exactly s b a = (there, back)
         inr (
           λ z. z (c .device, c .table),
           inr (
-            λ z. z (c .some, c .few),
+            λ z. z (c .nonempty, c .few),
             inr (
               λ z. omega (arith, c .inside),
               inr (λ z. z (c .room .0) (c .room .1) (c .room .2), inr (λ z. omega (arith, c .ticket), refl)),
@@ -341,17 +344,14 @@ module _ (r : Run) (w : Lawful r) (n : ℕ) where
       taken : (k : ℕ) → k < 4 → (x : Transfer r) × Stands r x n × (slotOf r x ≡ k) → isFree (slot (state r n) k .phase) ≡ false
       taken k l (x, s, e) = rw e at (held-slot r w x n s)
 
-  tickets-used : (leb 4294967295 (state r n .tickets) ≡ true) ↔ (4294967295 ≤ ledger r n .given)
-  tickets-used = (
-    λ e. omega (arith, leb-true 4294967295 (state r n .tickets) e, agrees r w n .given),
-    λ l. le-leb 4294967295 (state r n .tickets) (omega (arith, l, agrees r w n .given)),
-  )
+  tickets-used : (4294967295 ≤ state r n .tickets) ↔ (4294967295 ≤ ledger r n .lastTicket)
+  tickets-used = (λ l. omega (arith, agrees r w n .lastTicket), λ l. omega (arith, agrees r w n .lastTicket))
 
   abbrev Full : Type 0
   Full = (k : ℕ) → k < 4 → (x : Transfer r) × Stands r x n × (slotOf r x ≡ k)
 
   abbrev Used : Type 0
-  Used = 4294967295 ≤ ledger r n .given
+  Used = 4294967295 ≤ ledger r n .lastTicket
 
   opening-number : (l : Lent) (a : Ask) → Shaped (opening l a) → (m : ℕ)
       → (step (state r n) (buffer r n) (opening l a) .answer .number ≡ m) ↔ OpeningInRun r n l a m
@@ -467,6 +467,23 @@ module _ (r : Run) (w : Lawful r) (n : ℕ) where
           (no-reply f e (content-clear (state r n .own) f t1 t2 t3 t4 t5)) (λ t6. (sym, sym)))))))
   frames-number (other b) f e d m = other-first _ m b (From1 f) (frame-number (state r n) b f ∙ reply-ten (state r n) (length b) f ss (d .0))
 
+  -- so a frame answered 0 is a read's reply
+  reply-of : (l : Lent) (f : Frame) → r .calls n ≡ frame l f → Shaped (frame l f)
+      → step (state r n) (buffer r n) (frame l f) .answer .number ≡ 0 → (x : Transfer r) × (c : ℕ) × Replied r x c n
+  unfolding step awaiting
+  reply-of itsOwn f e d u = go (option-cases (awaiting (state r n) f))
+    where
+      h : (contentRefusal (state r n .own) f ≡ 0) × ((17 if isNone (awaiting (state r n) f) else 0) ≡ 0)
+      h = else-zero _ _ (sym (frame-number (state r n) (buffer r n) f ∙ reply-later (state r n) (length (buffer r n)) f ss lb) ∙ u)
+
+      go : (awaiting (state r n) f ≡ none) ⊎ ((k : ℕ) × (awaiting (state r n) f ≡ some k)) → (x : Transfer r) × (c : ℕ) × Replied r x c n
+      go (inl q) = absurd (true≢false (sym (ap isNone q) ∙ if-zero 16 _ _ (h .1) .0))
+      go (inr (k, q)) =
+          let l : Lowest (awaits (state r n) f) k = lowest-some (awaits (state r n) f) k q in
+          is-reply f e (h .0) k (l .bound) (l .passes)
+  reply-of (other b) f e d u =
+      absurd (omega (arith, sym u ∙ frame-number (state r n) b f ∙ reply-ten (state r n) (length b) f ss (d .0)))
+
   closes-number : (t m : ℕ) → (step (state r n) (buffer r n) (close t) .answer .number ≡ m)
       ↔ First ((x : Transfer r) → Stands r x n → ticket r x ≢ t) 14 Zero m
   unfolding step
@@ -484,6 +501,12 @@ module _ (r : Run) (w : Lawful r) (n : ℕ) where
       c : ((14 if isNone (holderOf (state r n) t) else 0) ≡ m) ↔ First ((x : Transfer r) → Stands r x n → ticket r x ≢ t) 14 Zero m
       c = first-if 14 (isNone (holderOf (state r n) t)) 0 m ((x : Transfer r) → Stands r x n → ticket r x ≢ t) Zero unheld (λ z. (sym, sym))
 
+  -- so a closing answered 0 is a standing transfer's
+  closed-of : (t : ℕ) → step (state r n) (buffer r n) (close t) .answer .number ≡ 0 → (x : Transfer r) × Stands r x n × (ticket r x ≡ t)
+  unfolding step
+  closed-of t u = known-holder r w n t (λ z. true≢false (sym (ap isNone z)
+      ∙ if-zero 13 _ _ (sym (close-number (state r n) t ss) ∙ u) .0))
+
   resets-number : (o m : ℕ) → (step (state r n) (buffer r n) (reset o) .answer .number ≡ m) ↔ First (15 < o) 11 Zero m
   unfolding step
   resets-number o m =
@@ -500,6 +523,9 @@ module _ (r : Run) (w : Lawful r) (n : ℕ) where
       → (answer r n .number ≡ m) ↔ Q
   made c m Q e h = subst (λ (d : Call). (step (state r n) (buffer r n) d .answer .number ≡ m) ↔ Q) (sym e) h
 
+  zero-as : (c : Call) → r .calls n ≡ c → answer r n .number ≡ 0 → step (state r n) (buffer r n) c .answer .number ≡ 0
+  zero-as c e z = ap (λ (d : Call). step (state r n) (buffer r n) d .answer .number) (sym e) ∙ z
+
   shaped-as : (c : Call) → r .calls n ≡ c → Shaped c
   shaped-as c e = subst Shaped e (w .shaped n)
 
@@ -507,11 +533,13 @@ module _ (r : Run) (w : Lawful r) (n : ℕ) where
   numbers = record {
     opens = λ l a e m. made (opening l a) m _ e (opening-number l a (shaped-as (opening l a) e) m);
     tickets = λ l a e z.
-        openedAt r w (record { at = n; lent = l; ask = a; call = e; accepted = z }) .ticketed ∙ ap suc (sym (agrees r w n .given));
+        openedAt r w (record { at = n; lent = l; ask = a; call = e; accepted = z }) .ticketed ∙ ap suc (sym (agrees r w n .lastTicket));
     turns = λ l e m. made (turn l) m _ e (turns-number l (shaped-as (turn l) e) m);
     frames = λ l f e m. made (frame l f) m _ e (frames-number l f e (shaped-as (frame l f) e) m);
+    replies = λ l f e z. reply-of l f e (shaped-as (frame l f) e) (zero-as (frame l f) e z);
     others = λ b t e. ap (λ (c : Call). step (state r n) (buffer r n) c .answer) e ∙ other-bytes b t (shaped-as (bytes (other b) t) e);
     closes = λ t e m. made (close t) m _ e (closes-number t m);
+    closed = λ t e z. closed-of t (zero-as (close t) e z);
     resets = λ o e m. made (reset o) m _ e (resets-number o m);
   }
 

@@ -91,7 +91,7 @@ open-facts s n a e =
     record {
       law = args-lawful _ _ _ _ (h2 .0);
       slotted = h3 .0;
-      ticketed = omega (arith, leb-false 4294967295 (s .tickets) (h4 .0));
+      ticketed = omega (arith, leb-false _ (s .tickets) (h4 .0));
     }
 
 pub open-lent : (s : Bridge) (n : ℕ) (a : Ask) → openRefusal s n a ≡ 0 → (sound s ≡ true) × (n ≡ 512)

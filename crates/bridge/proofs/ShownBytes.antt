@@ -10,7 +10,7 @@ use lib.Seq.{take-add, getD-take, getD-drop, drop-drop, ext-getD}
 use lib.Dec.{eqb}
 use borrow.Author.Tests.{eqb-true, eq-eqb, ne-eqb}
 use Rattle.bridge.specs.Model.{Bridge, Slot, free, ready, waiting, done, gaveUp, Call, itsOwn, frame, slot, chunkLen, plain}
-use Rattle.bridge.specs.Model.{partOf, spanOf}
+use Rattle.bridge.specs.Model.{Answer, partOf, spanOf}
 use Rattle.bridge.specs.Model.{isWrite, askCount, asks, carries}
 use Rattle.bridge.specs.Statement.{Run, state, buffer, Lawful, Shaped, Transfer, slotOf, Stands, chunks, lenOf, place, Matches, Replied}
 use Rattle.bridge.specs.Statement.{brought, join, showing, statusAt, shownAt}
@@ -128,6 +128,13 @@ module _ (r : Run) (w : Lawful r) (x : Transfer r) (n : ℕ) (s : Stands r x n) 
   pub shown-done : statusAt r x n ≡ 0 → shownAt r x n ≡ showing (take (askCount (x .ask)) (drop (128 * slotOf r x) (buffer r n)))
   shown-done e = shown-is r w x n s ∙ rw (eq-eqb (statusAt r x n) 0 e)
       (ap showing (part-of (state r n) (buffer r n) (slotOf r x) (askCount (x .ask)) (p .asking) (held r w x n s .count)))
+
+  -- which has as many bytes as were asked for
+  pub shown-whole : statusAt r x n ≡ 0 → length (shownAt r x n .shown) ≡ askCount (x .ask)
+  shown-whole e =
+      let b : List ℕ = drop (128 * slotOf r x) (buffer r n) in
+      ap (λ (a : Answer). length (a .shown)) (shown-done e) ∙ length-take (askCount (x .ask)) b
+      ∙ omega (arith, length-drop (128 * slotOf r x) (buffer r n), storage-sound r w n .1, openedAt r w x .bound, openedAt r w x .law .few)
 
   pub shown-joined : statusAt r x n ≡ 0 → (m : ℕ → ℕ) → ((c : ℕ) → c < chunks r x → (m c < n) × Replied r x c (m c))
       → shownAt r x n ≡ showing (join (λ c. brought (r .calls (m c))) (chunks r x))

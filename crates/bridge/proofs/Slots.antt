@@ -126,19 +126,34 @@ module _ (r : Run) (w : Lawful r) where
       slots (no p) = absurd (h .apart (slotOf r y) (slotOf r x) (openedAt r w y .bound) (openedAt r w x .bound) p
           (omega (arith, held r w y n t .ticket, openedAt r w y .ticketed)) (held r w y n t .ticket ∙ e ∙ sym (held r w x n s .ticket)))
 
+  -- a slot's ticket is a standing transfer's
+  pub has-holder : (n t k : ℕ) → holderOf (state r n) t ≡ some k → (x : Transfer r) × Stands r x n × (ticket r x ≡ t)
+  unfolding holderOf
+  has-holder n t k z =
+      let l : Lowest (heldBy (state r n) t) k = lowest-some (heldBy (state r n) t) k z in
+      let p = and-true (not (isFree (slot (state r n) k .phase))) (eqb (slot (state r n) k .ticket) t) (l .passes) in
+      let o : Occupied n k = occupied n k (l .bound) (not-true _ (p .0)) in (
+        o .0,
+        o .1,
+        sym (held r w (o .0) n (o .1) .ticket) ∙ ap (λ (i : ℕ). slot (state r n) i .ticket) (o .2) ∙ eqb-true _ t (p .1),
+      )
+
   -- a ticket that no standing transfer has is no slot's
   pub no-holder : (n t : ℕ) → ((x : Transfer r) → Stands r x n → ticket r x ≢ t) → holderOf (state r n) t ≡ none
-  unfolding holderOf
   no-holder n t u = go (option-cases (holderOf (state r n) t))
     where
       go : (holderOf (state r n) t ≡ none) ⊎ ((k : ℕ) × (holderOf (state r n) t ≡ some k)) → holderOf (state r n) t ≡ none
       go (inl z) = z
-      go (inr (k, z)) =
-          let l : Lowest (heldBy (state r n) t) k = lowest-some (heldBy (state r n) t) k z in
-          let p = and-true (not (isFree (slot (state r n) k .phase))) (eqb (slot (state r n) k .ticket) t) (l .passes) in
-          let o : Occupied n k = occupied n k (l .bound) (not-true _ (p .0)) in
-          absurd (u (o .0) (o .1) (sym (held r w (o .0) n (o .1) .ticket) ∙ ap (λ (i : ℕ). slot (state r n) i .ticket) (o .2)
-          ∙ eqb-true _ t (p .1)))
+      go (inr (k, z)) = let h = has-holder n t k z in absurd (u (h .0) (h .1) (h .2))
+
+  -- so a ticket that is some slot's is a standing transfer's
+  pub known-holder : (n t : ℕ) → holderOf (state r n) t ≢ none → (x : Transfer r) × Stands r x n × (ticket r x ≡ t)
+  known-holder n t u = go (option-cases (holderOf (state r n) t))
+    where
+      go : (holderOf (state r n) t ≡ none) ⊎ ((k : ℕ) × (holderOf (state r n) t ≡ some k))
+          → (x : Transfer r) × Stands r x n × (ticket r x ≡ t)
+      go (inl z) = absurd (u z)
+      go (inr (k, z)) = has-holder n t k z
 
   -- a frame that a turn yields is sent for a standing transfer
   pub record Sender (j : ℕ) (f : Frame) : Type 0 where

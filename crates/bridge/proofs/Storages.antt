@@ -86,7 +86,7 @@ first-zero (t ∷ ts) (suc k) h e f = rw (ne-eqb t 0 (f 0 (omega arith)))
 -- the ledger's own number, last ticket and slots are the state's
 pub record Agrees (g : Ledger) (s : Bridge) : Type 0 where
   pub own : g .own ≡ s .own
-  pub given : g .given ≡ s .tickets
+  pub lastTicket : g .lastTicket ≡ s .tickets
   pub four : length (g .tickets) ≡ 4
   pub each : (k : ℕ) → k < 4 → getD (g .tickets) k 0 ≡ slot s k .ticket
 
@@ -119,7 +119,7 @@ fresh-agrees : (o : ℕ) → Agrees (newLedger o) (fresh o)
 unfolding fresh
 fresh-agrees o = record {
   own = refl;
-  given = refl;
+  lastTicket = refl;
   four = refl;
   each = λ k l. zeros-at k ∙ sym (ap (λ (x : Slot). x .ticket) (fresh-slot o k));
 }
@@ -195,7 +195,7 @@ module _ (r : Run) (w : Lawful r) where
           Agrees (ledger r (suc n)) (state r (suc n))
       moves u o t = rw (unnoted n u) (record {
         own = a .own ∙ sym o;
-        given = a .given ∙ sym t;
+        lastTicket = a .lastTicket ∙ sym t;
         four = a .four;
         each = λ k l. a .each k l ∙ sym (kept n k l u);
       })
@@ -217,7 +217,7 @@ module _ (r : Run) (w : Lawful r) where
       go (opens b k e f g l t z) =
           rw (noted-is n (openResult (state r n) (buffer r n) b k .answer) (opening itsOwn b) refl (answer-is z) e) (to z (record {
             own = a .own;
-            given = refl;
+            lastTicket = refl;
             four = length-set (ledger r n .tickets) (firstGivable (ledger r n .tickets)) (suc (state r n .tickets)) ∙ a .four;
             each = each;
           }))
@@ -244,7 +244,7 @@ module _ (r : Run) (w : Lawful r) where
       go (closes t k e l p q z) =
           rw (noted-is n (plain 0) (close t) refl (answer-is z) e) (to z (record {
             own = a .own;
-            given = a .given;
+            lastTicket = a .lastTicket;
             four = length-map (ledger r n .tickets) (λ v. cond (eqb v t) 0 v) ∙ a .four;
             each = λ j m. freed-at (ledger r n .tickets) t j ∙ rw (a .each j m) (pick j m (ℕ-discrete j k));
           }))

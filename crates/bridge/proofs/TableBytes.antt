@@ -16,8 +16,9 @@ use Rattle.bus.specs.declared.Directory.{Directory}
 use Rattle.bridge.specs.Model.{Frame, Slot, done, opening, aged, sentFrame, chunkLen, contentRefusal, askTable, askOffset, askCount, asks}
 use Rattle.bridge.specs.Model.{carries}
 use Rattle.bridge.specs.Statement.{Arrives, Sent, Run, state, buffer, Lawful, Transfer, slotOf, Stands, lenOf, Replied, brought}
-use Rattle.bridge.specs.Statement.{showing, shownAt, Done, Device, Timeline, range, Own, Meanwhile, Arrivals, Unwritten}
-use Rattle.bridge.specs.Corollaries.{NotAfter, SinceUntil}
+use Rattle.bridge.specs.Statement.{showing, shownAt, Done, Device, Timeline, range, Own, NotAfter, Meanwhile, Arrivals, Unwritten}
+use Rattle.bridge.specs.Statement.{Premises}
+use Rattle.bridge.specs.Corollaries.{SinceTaken}
 use Rattle.bridge.proofs.ReadWrite.{read-of}
 use Rattle.bridge.proofs.Ids.{offset-of-id, kind-of-id, table-of-id}
 use Rattle.bridge.proofs.Devices.{command-unanswered, request-answered, answerer-own, request-read}
@@ -253,10 +254,27 @@ module _ (r : Run) (w : Lawful r) (x : Transfer r) (n : ℕ) (t : Timeline) (pre
           (un .unchanged τ (t .answered (gt .m)) mw (covers c (gt .m) (gt .before) (gt .replied) (ow .untilArrived)))
           ∙ sym (reply-bytes c (gt .m) (gt .before) (gt .replied))
 
-  -- by demand 3's meanwhile
-  pub table-meanwhile : Unwritten r x t (Meanwhile r x n t) → Stands r x n → Past r x n → Done r x n → (τ : ℕ) → Meanwhile r x n t τ
+  -- an answer that was taken is meanwhile
+  taken-meanwhile : (τ₀ : ℕ) → NotAfter r x n t τ₀ → (c m : ℕ) → m < n → Replied r x c m → t .answered m ≤ t .when m
+      → Meanwhile r x n t τ₀ (t .answered m)
+  taken-meanwhile τ₀ first c m l p u =
+      record { since = omega (arith, first c m l p); c = c; m = m; before = l; last = p; until = omega arith }
+
+  pub table-meanwhile : (τ₀ : ℕ) → Premises r x n t τ₀ → Stands r x n → Past r x n → Done r x n → (τ : ℕ) → Meanwhile r x n t τ₀ τ
       → shownAt r x n ≡ showing (range r x (t .device τ))
-  table-meanwhile un = table-shown (Meanwhile r x n t) un (λ c m l p u. record {
+  table-meanwhile τ₀ h = table-shown (Meanwhile r x n t τ₀) (h .unwritten) (taken-meanwhile τ₀ (h .first))
+
+  -- there is such a moment: the answer to the first request
+  pub some-moment : (τ₀ : ℕ) → NotAfter r x n t τ₀ → Stands r x n → Past r x n → Done r x n → (τ : ℕ) × Meanwhile r x n t τ₀ τ
+  some-moment τ₀ first s p e =
+      let g : Got r x 0 n = all-got r w x n s p (done-is r w x n s .0 e) 0 (openedAt r w x .law .some) in
+      let o : Own r t (g .m) _ = pre .own (g .m) _ (arrives 0 (g .m) (g .before) (g .replied)) in
+      (t .answered (g .m), taken-meanwhile τ₀ first 0 (g .m) (g .before) (g .replied) (o .untilArrived))
+
+  -- from the first answer that was taken on
+  pub table-since : Unwritten r x t (SinceTaken r x n t) → Stands r x n → Past r x n → Done r x n → (τ : ℕ) → SinceTaken r x n t τ
+      → shownAt r x n ≡ showing (range r x (t .device τ))
+  table-since un = table-shown (SinceTaken r x n t) un (λ c m l p u. record {
     c = c;
     m = m;
     firstBefore = l;
@@ -266,17 +284,5 @@ module _ (r : Run) (w : Lawful r) (x : Transfer r) (n : ℕ) (t : Timeline) (pre
     m′ = m;
     before = l;
     last = p;
-    until = u;
-  })
-
-  -- by a moment not after any answer that was taken
-  pub table-since : (τ₀ : ℕ) → NotAfter r x n t τ₀ → Unwritten r x t (SinceUntil r x n t τ₀) → Stands r x n → Past r x n → Done r x n
-      → (τ : ℕ) → SinceUntil r x n t τ₀ τ → shownAt r x n ≡ showing (range r x (t .device τ))
-  table-since τ₀ na un = table-shown (SinceUntil r x n t τ₀) un (λ c m l p u. record {
-    since = na c m l p;
-    c = c;
-    m = m;
-    before = l;
-    last = p;
-    until = u;
+    until = omega arith;
   })

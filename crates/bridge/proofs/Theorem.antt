@@ -7,7 +7,7 @@ use mathlib.Core.Bool.{true, false}
 use native.Mathlib.Omega.{arith}
 use native.Mathlib.Decide.{decLt}
 use lib.ListN.{length, getD, List·getD-eq-default}
-use Rattle.bridge.specs.Model.{Slot, free, ready, waiting, done, gaveUp, Call, status, isWrite}
+use Rattle.bridge.specs.Model.{Slot, free, ready, waiting, done, gaveUp, Answer, Call, status, isWrite}
 use Rattle.bridge.specs.Statement.{Run, state, buffer, After, Lawful, Shaped, Transfer, Stands, turns, chunks, Replied, ThreeFailed}
 use Rattle.bridge.specs.Statement.{AllWritten, statusAt, Claims, ReadClaims, runOf, Demand3}
 use Rattle.bridge.specs.Calls.{Calls}
@@ -20,11 +20,11 @@ use Rattle.bridge.proofs.Bound.{ended}
 use Rattle.bridge.proofs.Ages.{phases}
 use Rattle.bridge.proofs.Past.{past-read, Past, Got, Fails}
 use Rattle.bridge.proofs.Ahead.{reply-accepted, replied-once, replied-order, replied-done, failed-thrice}
-use Rattle.bridge.proofs.ShownBytes.{done-progress, hidden, write-hidden, shown-joined, all-got}
+use Rattle.bridge.proofs.ShownBytes.{done-progress, hidden, write-hidden, shown-joined, shown-whole, all-got}
 use Rattle.bridge.proofs.Writes.{all-written-done, done-all-written}
-use Rattle.bridge.proofs.Slots.{places, alone, no-holder}
-use Rattle.bridge.proofs.TableBytes.{table-meanwhile}
-use Rattle.bridge.proofs.Keeps.{keeps-sound, fresh-keeps, refusals-keep}
+use Rattle.bridge.proofs.Slots.{places, alone, no-holder, known-holder}
+use Rattle.bridge.proofs.TableBytes.{table-meanwhile, some-moment}
+use Rattle.bridge.proofs.Keeps.{keeps-sound, reset-fresh, unsound-refused, refusals-keep}
 use Rattle.bridge.proofs.Numbers.{opening-numbers, opens-exactly, numbers-in-runs}
 use Rattle.bridge.proofs.Turns.{turn-sends, sends-for-transfers}
 
@@ -72,7 +72,9 @@ module _ (r : Run) (w : Lawful r) (x : Transfer r) (n : ℕ) (s : Stands r x n) 
     ordered = replied-order r w x;
     shown = λ m h. shown-joined r w x n s p (back (λ c l. (m c, h c l .0, h c l .1))) m h;
     hidden = hidden r w x n s;
-    table = λ t h. table-meanwhile r w x n t (h .arrivals) (h .unwritten) s p;
+    whole = shown-whole r w x n s p;
+    table = λ t τ₀ h. table-meanwhile r w x n t (h .arrivals) τ₀ h s p;
+    during = λ t τ₀ a h. some-moment r w x n t a τ₀ h s p;
   }
     where
       p : Past r x n
@@ -105,6 +107,8 @@ pub after : (r : Run) → Lawful r → (n : ℕ) → After r n
 after r w n = record {
   standing = λ x s. claims r w x n s;
   unknown = λ t u. unknown-ticket (state r n) (buffer r n) t (storage-sound r w n .0) (storage-sound r w n .1) (no-holder r w n t u);
+  known = λ t u. known-holder r w n t (λ z. u (ap (λ (a : Answer). a .number)
+      (unknown-ticket (state r n) (buffer r n) t (storage-sound r w n .0) (storage-sound r w n .1) z .0)));
 }
 
 -- the run of a list of calls is lawful
@@ -123,7 +127,8 @@ demand3 own ho b lb cs sh n l = after (runOf own b cs) (listed own ho b lb cs sh
 pub calls : Calls
 calls = record {
   keepsSound = keeps-sound;
-  freshSound = fresh-keeps;
+  resetFresh = reset-fresh;
+  unsoundRefused = unsound-refused;
   soundNumbers = sound-numbers;
   refusalsKeep = refusals-keep;
   turnSends = turn-sends;

@@ -60,7 +60,7 @@ next-bytes t own k x b l lb r =
     record {
       n = chunkLen (x .count) (x .progress);
       next = refl;
-      some = len-some (x .count) (x .progress) (r .mid .below);
+      nonempty = len-some (x .count) (x .progress) (r .mid .below);
       few = len-eight (x .count) (x .progress);
       inside = in-count;
       requests = read-is own k x b;

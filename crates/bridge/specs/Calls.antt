@@ -21,9 +21,14 @@ use Rattle.bridge.specs.Statement.{chunks, requestFrame, commandFrame}
 abbrev pub KeepsSound : Type 0
 KeepsSound = (s : Bridge) (b : List ℕ) (c : Call) → sound s ≡ true → sound (step s b c .state) ≡ true
 
--- so does a reset that is answered 0, whatever the state was: it leaves the fresh bridge
-abbrev pub FreshSound : Type 0
-FreshSound = (own : ℕ) → own ≤ 15 → sound (fresh own) ≡ true
+-- a reset to an own number that is at most 15 leaves the fresh bridge, whatever the state was, and that is sound
+abbrev pub ResetFresh : Type 0
+ResetFresh = (s : Bridge) (b : List ℕ) (own : ℕ) → own ≤ 15 → (step s b (reset own) .state ≡ fresh own) × (sound (fresh own) ≡ true)
+
+-- an unsound state gets 11 from every call but reset; state and buffer stay as they were
+abbrev pub UnsoundRefused : Type 0
+UnsoundRefused = (s : Bridge) (b : List ℕ) (c : Call) → sound s ≡ false → ((own : ℕ) → c ≢ reset own) →
+    step s b c ≡ record { answer = plain 11; state = s; buffer = b }
 
 -- a sound state's phases and kinds are those that have names: 11 for a phase or kind that is none
 abbrev pub SoundNumbers : Type 0
@@ -48,7 +53,7 @@ pub record FirstReady (s : Bridge) (k : ℕ) : Type 0 where
 pub record NextBytes (own k : ℕ) (x : Slot) (b : List ℕ) (f : Frame) : Type 0 where
   pub n : ℕ
   pub next : n ≡ chunkLen (x .count) (x .progress)
-  pub some : 1 ≤ n
+  pub nonempty : 1 ≤ n
   pub few : n ≤ 8
   pub inside : x .progress + n ≤ x .count
   pub requests : asks (x .kind) ≡ true →
@@ -67,7 +72,8 @@ pub record TurnYields (s : Bridge) (b : List ℕ) (a : Answer) : Type 0 where
 abbrev pub TurnSends : Type 0
 TurnSends = (s : Bridge) (b : List ℕ) → step s b (turn itsOwn) .answer .number ≡ 0 → TurnYields s b (step s b (turn itsOwn) .answer)
 
--- in a run, by the calls alone: a turn's frame is the REQ or CMD of a chunk of a transfer that stands, and the slot last served its
+-- in a run, by the calls alone: a turn's frame is the REQ or CMD of a chunk of a transfer that stands, and the slot last served is its
+-- slot
 pub record SentFor (r : Run) (j : ℕ) (f : Frame) : Type 0 where
   pub asker : Transfer r
   pub stands : Stands r asker j
@@ -103,7 +109,7 @@ pub record Acceptable (s : Bridge) (b : List ℕ) (a : Ask) : Type 0 where
   pub lent : length b ≡ 512
   pub device : askDevice a ≤ 15
   pub table : askTable a ≤ 31
-  pub some : 1 ≤ askCount a
+  pub nonempty : 1 ≤ askCount a
   pub few : askCount a ≤ 128
   pub inside : askOffset a + askCount a ≤ 2048
   pub room : (k : ℕ) × (k < 4) × (slot s k .phase ≡ free)
@@ -122,7 +128,7 @@ OpeningInRun r n l a =
     (First (¬ ((1 ≤ askCount a) × (askCount a ≤ 128))) 9
     (First (2048 < askOffset a + askCount a) 8
     (First ((k : ℕ) → k < 4 → (x : Transfer r) × Stands r x n × (slotOf r x ≡ k)) 12
-    (First (4294967295 ≤ ledger r n .given) 13
+    (First (4294967295 ≤ ledger r n .lastTicket) 13
     Zero)))))
 
 -- of a frame: 17 where it is no read's reply
@@ -140,12 +146,16 @@ FrameInRun r n l f =
 -- of call n, whichever it is; status, and the bytes call with the bridge's buffer, are told by demand 3
 pub record NumbersInRun (r : Run) (n : ℕ) : Type 0 where
   pub opens : (l : Lent) (a : Ask) → r .calls n ≡ opening l a → (m : ℕ) → (answer r n .number ≡ m) ↔ OpeningInRun r n l a m
-  pub tickets : (l : Lent) (a : Ask) → r .calls n ≡ opening l a → answer r n .number ≡ 0 → answer r n .ticket ≡ suc (ledger r n .given)
+  pub tickets : (l : Lent) (a : Ask) → r .calls n ≡ opening l a → answer r n .number ≡ 0 → answer r n .ticket ≡ suc (ledger r n .lastTicket)
   pub turns : (l : Lent) → r .calls n ≡ turn l → (m : ℕ) → (answer r n .number ≡ m) ↔ First (l ≢ itsOwn) 10 Zero m
   pub frames : (l : Lent) (f : Frame) → r .calls n ≡ frame l f → (m : ℕ) → (answer r n .number ≡ m) ↔ FrameInRun r n l f m
+  -- a frame answered 0 is a read's reply
+  pub replies : (l : Lent) (f : Frame) → r .calls n ≡ frame l f → answer r n .number ≡ 0 → (x : Transfer r) × (c : ℕ) × Replied r x c n
   pub others : (b : List ℕ) (t : ℕ) → r .calls n ≡ bytes (other b) t → answer r n ≡ plain 10
   pub closes : (t : ℕ) → r .calls n ≡ close t → (m : ℕ) →
       (answer r n .number ≡ m) ↔ First ((x : Transfer r) → Stands r x n → ticket r x ≢ t) 14 Zero m
+  -- a closing answered 0 is that of a transfer that stands
+  pub closed : (t : ℕ) → r .calls n ≡ close t → answer r n .number ≡ 0 → (x : Transfer r) × Stands r x n × (ticket r x ≡ t)
   pub resets : (o : ℕ) → r .calls n ≡ reset o → (m : ℕ) → (answer r n .number ≡ m) ↔ First (15 < o) 11 Zero m
 
 abbrev pub NumbersInRuns : Type 0
@@ -154,7 +164,8 @@ NumbersInRuns = (r : Run) → Lawful r → (n : ℕ) → NumbersInRun r n
 -- all of it
 pub record Calls : Type 0 where
   pub keepsSound : KeepsSound
-  pub freshSound : FreshSound
+  pub resetFresh : ResetFresh
+  pub unsoundRefused : UnsoundRefused
   pub soundNumbers : SoundNumbers
   pub refusalsKeep : RefusalsKeep
   pub turnSends : TurnSends

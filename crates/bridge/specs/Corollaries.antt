@@ -1,4 +1,4 @@
--- Beside demand 3: what follows from it in a few lines.
+-- Beside demand 3: what has ended stays so, and a premise on writes that asks for less.
 use Prim.Native.Nat.{ℕ, _≤_, _<_}
 use mathlib.Core.Path.{_≡_}
 use mathlib.Core.Bool.{false}
@@ -17,29 +17,30 @@ pub record Stays (r : Run) (x : Transfer r) (n n′ : ℕ) : Type 0 where
 abbrev pub EndedStays : Type 0
 EndedStays = (r : Run) → Lawful r → (x : Transfer r) (n n′ : ℕ) → n ≤ n′ → Stands r x n → Stands r x n′ → Stays r x n n′
 
--- ── The paper's wider "meanwhile" ──────────────────────────────────────────────────────────────────────────────────
+-- ── A narrower "meanwhile", so that the premise on writes asks for less ───────────────────────────────────────────
 
--- moment τ₀ is not after any answer that the read took: so is the device's first answer to this read, taken or lost
-abbrev pub NotAfter : (r : Run) → Transfer r → ℕ → Timeline → ℕ → Type 0
-NotAfter r x n t τ₀ = (c m : ℕ) → m < n → Replied r x c m → τ₀ ≤ t .answered m
-
--- moment τ is between it and a reply that the read took, by the last of which it is done
-pub record SinceUntil (r : Run) (x : Transfer r) (n : ℕ) (t : Timeline) (τ₀ τ : ℕ) : Type 0 where
-  pub since : τ₀ ≤ τ
+-- moment τ is not before the first answer that the read took, nor after its last reply arrived: an earlier answer that got lost does
+-- not count
+pub record SinceTaken (r : Run) (x : Transfer r) (n : ℕ) (t : Timeline) (τ : ℕ) : Type 0 where
   pub c : ℕ
   pub m : ℕ
-  pub before : m < n
-  pub last : Replied r x c m
-  pub until : τ ≤ t .when m
+  pub firstBefore : m < n
+  pub first : Replied r x c m
+  pub since : t .answered m ≤ τ
+  pub c′ : ℕ
+  pub m′ : ℕ
+  pub before : m′ < n
+  pub last : Replied r x c′ m′
+  pub until : τ ≤ t .when m′
 
--- if the range isn't written from then on, the bytes shown are the table's at each such moment
-abbrev pub WiderMeanwhile : Type 0
-WiderMeanwhile =
+-- if the range isn't written between these, the bytes shown are the table's at each such moment
+abbrev pub NarrowMeanwhile : Type 0
+NarrowMeanwhile =
     (r : Run) → Lawful r → (x : Transfer r) (n : ℕ) → Stands r x n → isWrite (x .ask) ≡ false → Done r x n →
-    (t : Timeline) → Arrivals r x n t → (τ₀ : ℕ) → NotAfter r x n t τ₀ → Unwritten r x t (SinceUntil r x n t τ₀) →
-    (τ : ℕ) → SinceUntil r x n t τ₀ τ → shownAt r x n ≡ showing (range r x (t .device τ))
+    (t : Timeline) → Arrivals r x n t → Unwritten r x t (SinceTaken r x n t) →
+    (τ : ℕ) → SinceTaken r x n t τ → shownAt r x n ≡ showing (range r x (t .device τ))
 
 -- all of it
 pub record Corollaries : Type 0 where
   pub endedStays : EndedStays
-  pub widerMeanwhile : WiderMeanwhile
+  pub narrowMeanwhile : NarrowMeanwhile

@@ -73,16 +73,17 @@ pub record Lawful (r : Run) : Type 0 where
 
 -- ── The ledger: own number, tickets and slots by the calls and their answers alone ─────────────────────────────────
 
--- It reads no state, so that `slotOf` and the frames below do not either; `Places` says that its slots are the paper's.
+-- It uses the calls and their answers, never the bridge, and so do `slotOf` and the frames below; `Places` says that its slots are
+-- the paper's.
 
 -- the own number, the last ticket given, and the ticket of each slot (0: free)
 pub record Ledger : Type 0 where
   pub own : ℕ
-  pub given : ℕ
+  pub lastTicket : ℕ
   pub tickets : List ℕ
 
 abbrev pub newLedger : ℕ → Ledger
-newLedger own = record { own = own; given = 0; tickets = replicate 4 0 }
+newLedger own = record { own = own; lastTicket = 0; tickets = replicate 4 0 }
 
 -- a slot that an opening may take
 abbrev pub givableEntry : ℕ → Bool
@@ -96,12 +97,12 @@ firstGivable (t ∷ ts) = cond (givableEntry t) 0 (suc (firstGivable ts))
 -- a call answered 0, and its answer: an opening takes the lowest free slot, a closing frees its slot, a reset all
 abbrev pub noted : Ledger → Answer → Call → Ledger
 noted g y (opening l a) =
-    record { own = g .own; given = y .ticket; tickets = set (g .tickets) (firstGivable (g .tickets)) (y .ticket) }
+    record { own = g .own; lastTicket = y .ticket; tickets = set (g .tickets) (firstGivable (g .tickets)) (y .ticket) }
 noted g y (turn l) = g
 noted g y (frame l f) = g
 noted g y (status u) = g
 noted g y (bytes l u) = g
-noted g y (close u) = record { own = g .own; given = g .given; tickets = map (λ v. cond (eqb v u) 0 v) (g .tickets) }
+noted g y (close u) = record { own = g .own; lastTicket = g .lastTicket; tickets = map (λ v. cond (eqb v u) 0 v) (g .tickets) }
 noted g y (reset o) = newLedger o
 
 -- after the first n calls
@@ -193,7 +194,7 @@ commandFrame r x c j =
     frameOf (idOf (askOffset (x .ask) + 8 * c) cmd (ledger r j .own) (askDevice (x .ask)) (askTable (x .ask)))
     (take (lenOf r x c) (drop (8 * c) (askGiven (x .ask))))
 
--- turn j, since the opening, served the write's slot and yielded its CMD for chunk c
+-- turn j, since the opening, SERVED the write's slot and yielded its CMD for chunk c
 pub record Wrote (r : Run) (x : Transfer r) (c j : ℕ) : Type 0 where
   pub since : x .at < j
   pub turned : accepted r j ≡ true
@@ -328,31 +329,32 @@ pub record Own (r : Run) (t : Timeline) (m : ℕ) (f : Frame) : Type 0 where
 -- ── "Meanwhile: from its first answer to this read until that is done; a changed directory counts as a write; the
 -- table's bytes are the range's then." ───────────────────────────────────────────────────────────────────────────────
 
--- moment τ is MEANWHILE: not before the first answer that this read took, nor after its last reply arrived, by which it is done.
--- (An earlier answer that got lost does not count here: so the premise below asks for less than the paper's. `WiderMeanwhile` of
--- Corollaries counts it.)
-pub record Meanwhile (r : Run) (x : Transfer r) (n : ℕ) (t : Timeline) (τ : ℕ) : Type 0 where
+-- moment τ₀ is not after any answer that the read took; the device's first answer to this read, taken or lost, is such a moment
+abbrev pub NotAfter : (r : Run) → Transfer r → ℕ → Timeline → ℕ → Type 0
+NotAfter r x n t τ₀ = (c m : ℕ) → m < n → Replied r x c m → τ₀ ≤ t .answered m
+
+-- moment τ is MEANWHILE: not before τ₀, nor after the arrival of a reply that the read took, by the last of which it is done
+pub record Meanwhile (r : Run) (x : Transfer r) (n : ℕ) (t : Timeline) (τ₀ τ : ℕ) : Type 0 where
+  pub since : τ₀ ≤ τ
   pub c : ℕ
   pub m : ℕ
-  pub firstBefore : m < n
-  pub first : Replied r x c m
-  pub since : t .answered m ≤ τ
-  pub c′ : ℕ
-  pub m′ : ℕ
-  pub before : m′ < n
-  pub last : Replied r x c′ m′
-  pub until : τ ≤ t .when m′
+  pub before : m < n
+  pub last : Replied r x c m
+  pub until : τ ≤ t .when m
 
--- the bytes of the asked range in a device
+-- THE TABLE'S BYTES: those of the asked range, in a device as it is at a moment
 unfoldable pub range : (r : Run) → Transfer r → Device → List ℕ
 range r x d = take (askCount (x .ask)) (drop (startOf (d .directory) (askTable (x .ask)) + askOffset (x .ask)) (d .memory))
+
+-- "no reply to a closed or reset transfer arrives": the transfer whose request is answered still stands
+abbrev pub Current : (r : Run) → Transfer r → ℕ → Timeline → Type 0
+Current r x n t = (m : ℕ) (f : Frame) → Arrives r x n m f → (y : Transfer r) (c : ℕ) → Sent r y c (t .asked m) → Stands r y m
 
 -- what arrives: "each reply arriving under its number is its own, unaltered, to a request these calls sent, and no reply to a
 -- closed or reset transfer arrives"
 pub record Arrivals (r : Run) (x : Transfer r) (n : ℕ) (t : Timeline) : Type 0 where
   pub own : (m : ℕ) (f : Frame) → Arrives r x n m f → Own r t m f
-  -- the transfer whose request is answered still stands
-  pub current : (m : ℕ) (f : Frame) → Arrives r x n m f → (y : Transfer r) (c : ℕ) → Sent r y c (t .asked m) → Stands r y m
+  pub current : Current r x n t
 
 -- "its range isn't written" between any two moments of a set, and "a changed directory counts as a write". (The paper asks for
 -- `directory`; the proof does without it, for `range` speaks of the range where the directory puts it.)
@@ -360,10 +362,11 @@ pub record Unwritten (r : Run) (x : Transfer r) (t : Timeline) (During : ℕ →
   pub directory : (τ τ′ : ℕ) → During τ → During τ′ → t .device τ .directory ≡ t .device τ′ .directory
   pub unchanged : (τ τ′ : ℕ) → During τ → During τ′ → range r x (t .device τ) ≡ range r x (t .device τ′)
 
--- the premise of demand 3's last sentence
-pub record Premises (r : Run) (x : Transfer r) (n : ℕ) (t : Timeline) : Type 0 where
+-- the premises of demand 3's last sentence, from moment τ₀ on
+pub record Premises (r : Run) (x : Transfer r) (n : ℕ) (t : Timeline) (τ₀ : ℕ) : Type 0 where
   pub arrivals : Arrivals r x n t
-  pub unwritten : Unwritten r x t (Meanwhile r x n t)
+  pub first : NotAfter r x n t τ₀
+  pub unwritten : Unwritten r x t (Meanwhile r x n t τ₀)
 
 -- ── The claims ─────────────────────────────────────────────────────────────────────────────────────────────────────
 
@@ -392,41 +395,47 @@ pub record Places (r : Run) (x : Transfer r) : Type 0 where
   pub lowest : (k : ℕ) → k < slotOf r x → (y : Transfer r) × Stands r y (x .at) × (slotOf r y ≡ k)
 
 pub record ReadClaims (r : Run) (x : Transfer r) (n : ℕ) : Type 0 where
-  -- "A read is done exactly when the request for each started eight bytes has a matching reply"
+  -- "A read is done, and shows its bytes, exactly when it stands and the request for each started eight bytes has a matching reply:
+  -- those replies' bytes in order, each reply taken after this read sent its request." (That it stands is the premise of Claims; a
+  -- reply is taken after its request by Replied.)
   pub done : Done r x n ↔ ((c : ℕ) → c < chunks r x → (m : ℕ) × (m < n) × Replied r x c m)
   -- a reply is answered 0, a chunk has one only, and they come in the chunks' order
   pub taken : (c m : ℕ) → Replied r x c m → answer r m .number ≡ 0
   pub once : (c m m′ : ℕ) → Replied r x c m → Replied r x c m′ → m ≡ m′
   pub ordered : (c m m′ : ℕ) → Replied r x c m → Replied r x (suc c) m′ → m < m′
-  -- "and shows its bytes: those replies' bytes in order"; before it is done, nothing
+  -- the bytes that it shows; unless it is done it shows none
   pub shown : (m : ℕ → ℕ) → ((c : ℕ) → c < chunks r x → (m c < n) × Replied r x c (m c)) →
       shownAt r x n ≡ showing (join (λ c. brought (r .calls (m c))) (chunks r x))
   pub hidden : statusAt r x n ≢ 0 → shownAt r x n ≡ plain (statusAt r x n)
-  -- "those bytes are the table's"
-  pub table : (t : Timeline) → Premises r x n t → Done r x n → (τ : ℕ) → Meanwhile r x n t τ →
+  -- as many as it asked for
+  pub whole : Done r x n → length (shownAt r x n .shown) ≡ askCount (x .ask)
+  -- "those bytes are the table's", at each moment meanwhile, of which there is one
+  pub table : (t : Timeline) (τ₀ : ℕ) → Premises r x n t τ₀ → Done r x n → (τ : ℕ) → Meanwhile r x n t τ₀ τ →
       shownAt r x n ≡ showing (range r x (t .device τ))
+  pub during : (t : Timeline) (τ₀ : ℕ) → Arrivals r x n t → NotAfter r x n t τ₀ → Done r x n → (τ : ℕ) × Meanwhile r x n t τ₀ τ
 
 -- of a transfer that stands after the first n calls
 pub record Claims (r : Run) (x : Transfer r) (n : ℕ) : Type 0 where
   pub places : Places r x
   -- its ticket is its own
   pub alone : (y : Transfer r) → Stands r y n → ticket r y ≡ ticket r x → y .at ≡ x .at
-  -- "ends, done or given up, within 72 accepted turns for each started eight bytes"; before, it is not finished
+  -- "ends, done or given up, within 72 accepted turns for each started eight bytes"; otherwise it is not finished (15)
   pub ends : 72 * chunks r x ≤ turns r (x .at) n → Done r x n ⊎ GivenUp r x n
   pub otherwise : statusAt r x n ≢ 0 → statusAt r x n ≢ 16 → statusAt r x n ≡ 15
   -- "It has given up exactly when one of its requests was sent three times ..."
   pub gaveUp : GivenUp r x n ↔ ThreeFailed r x n
   pub read : isWrite (x .ask) ≡ false → ReadClaims r x n
-  -- a write is done exactly when it was sent, and shows nothing
+  -- a write is done exactly when its CMD for every started eight bytes was yielded in order; it shows no bytes
   pub written : isWrite (x .ask) ≡ true → Done r x n ↔ AllWritten r x n
   pub shownOfWrite : isWrite (x .ask) ≡ true → shownAt r x n ≡ plain (statusAt r x n)
 
--- after the first n calls: of every transfer that stands; and a ticket that no standing transfer has is unknown, so that what was
--- closed or reset is neither done nor shown
+-- after the first n calls: of every transfer that stands; a ticket that no standing transfer has is unknown, so that what was
+-- closed or reset is neither done nor shown; and each other ticket is a standing transfer's
 pub record After (r : Run) (n : ℕ) : Type 0 where
   pub standing : (x : Transfer r) → Stands r x n → Claims r x n
   pub unknown : (t : ℕ) → ((x : Transfer r) → Stands r x n → ticket r x ≢ t) →
       (answerTo r n (status t) ≡ plain 14) × (answerTo r n (bytes itsOwn t) ≡ plain 14)
+  pub known : (t : ℕ) → answerTo r n (status t) .number ≢ 14 → (x : Transfer r) × Stands r x n × (ticket r x ≡ t)
 
 -- the run of a list of calls; past its end stands a call that changes nothing
 abbrev pub runOf : ℕ → List ℕ → List Call → Run
