@@ -12,9 +12,10 @@ use lib.Seq.{sets}
 use lib.Dec.{eqb}
 use borrow.Author.Tests.{le-ltb, eq-eqb, ne-eqb}
 use Rattle.wire.specs.Order.{_if_else_, _orElse_}
+use Rattle.wire.specs.Answer.{answer}
 use Rattle.wire.proofs.Orders.{if-zero, else-zero}
-use Rattle.bus.specs.Ident.{idOf, idKind, packNumber, packed, packOf, partsOf, unpacked}
-use Rattle.bus.specs.Frames.{rsp, content, headNumber, headOf}
+use Rattle.bus.specs.Ident.{idOf, idKind, packNumber, packOf, partsOf}
+use Rattle.bus.specs.Frames.{rsp, content, headNumber, receiveNumber, headOf}
 use Rattle.bus.specs.Request.{request, requestNumber, wroteRequest, requestBytesOf}
 use Rattle.bus.specs.Holder.{noAnswer}
 use Rattle.bus.specs.declared.Parts.{Parts}
@@ -24,6 +25,7 @@ use Rattle.bus.specs.declared.Unpacked.{Unpacked}
 use Rattle.bus.specs.declared.Unpacked.the-variants as U
 use Rattle.bus.specs.declared.Request.{Request}
 use Rattle.bus.specs.declared.RequestBytes.{RequestBytes}
+use Rattle.bus.proofs.IdentLaws.{unpacked-is}
 use Rattle.bus.proofs.FrameLaws.{part-length, content-length, head-short}
 use Rattle.bridge.specs.Model.{Frame, Bridge, Slot, slot, sound, isReady, isNone, from, orFour, nextReady, agedBridge, lentRefusal, turn′}
 use Rattle.bridge.specs.Model.{sendFor, chunkLen, outgoing, awaits, awaiting, contentRefusal, replyRefusal, frame′, advanced, withSlots}
@@ -41,7 +43,7 @@ use Rattle.bridge.proofs.CodeSlots.{awaiting-from}
 -- parts that the rows hold
 pub packs : (p : Parts) → p .kind ≤ 7 → p .from ≤ 15 → p .to ≤ 15 → p .table ≤ 31 → p .offset ≤ 2047
     → packOf p ≡ P.Is (idOf (p .offset) (p .kind) (p .from) (p .to) (p .table))
-unfolding packOf packNumber packed _if_else_
+unfolding packOf packNumber answer _if_else_
 packs p k f t b o =
     rw (le-ltb 7 (p .kind) k, le-ltb 15 (p .from) f, le-ltb 15 (p .to) t, le-ltb 31 (p .table) b, le-ltb 2047 (p .offset) o)
 
@@ -112,24 +114,25 @@ module _ (s : Bridge) (b : List ℕ) where
 -- the parts of a frame that no receiver refuses, or the number that refuses it
 module _ (own : ℕ) (f : Frame) where
   pub head-is : (p : Parts) → headOf own f ≡ U.Is p → (headNumber own f ≡ 0) × (p ≡ partsOf (f .id))
-  unfolding headOf unpacked
-  head-is p e = go (headNumber own f) e
-    where
-      go : (n : ℕ) → unpacked n (partsOf (f .id)) ≡ U.Is p → (n ≡ 0) × (p ≡ partsOf (f .id))
-      go zero q = (refl, cc)
-      go (suc n) q = absurd (let z : _≡_ {A = ℕ} 0 1 = cc in omega arith)
+  unfolding headOf receiveNumber
+  head-is p e = let h = unpacked-is (receiveNumber own f) (partsOf (f .id)) p e in (if-zero 10 _ _ (h .0) .1, sym (h .1))
 
-  pub head-refused : (n : ℕ) → headOf own f ≡ U.Refused n → (headNumber own f ≡ n) × (n ≡ 0 → ⊥)
-  unfolding headOf unpacked
-  head-refused n e = go (headNumber own f) e
+  -- an own number 0..15 is not refused
+  receive-is : own ≤ 15 → receiveNumber own f ≡ headNumber own f
+  unfolding receiveNumber _if_else_
+  receive-is h = rw (le-ltb 15 own h)
+
+  pub head-refused : (n : ℕ) → own ≤ 15 → headOf own f ≡ U.Refused n → (headNumber own f ≡ n) × (n ≡ 0 → ⊥)
+  unfolding headOf answer
+  head-refused n o e = go (headNumber own f) (ap (λ (m : ℕ). answer U.Is U.Refused m (partsOf (f .id))) (sym (receive-is o)) ∙ e)
     where
-      go : (m : ℕ) → unpacked m (partsOf (f .id)) ≡ U.Refused n → (m ≡ n) × (n ≡ 0 → ⊥)
+      go : (m : ℕ) → answer U.Is U.Refused m (partsOf (f .id)) ≡ U.Refused n → (m ≡ n) × (n ≡ 0 → ⊥)
       go zero q = absurd (let z : _≡_ {A = ℕ} 0 1 = cc in omega arith)
       go (suc m) q = let z : suc m ≡ n = cc in (z, λ o. omega arith)
 
-  pub content-refused : (n : ℕ) → headOf own f ≡ U.Refused n → n ≡ contentRefusal own f
+  pub content-refused : (n : ℕ) → own ≤ 15 → headOf own f ≡ U.Refused n → n ≡ contentRefusal own f
   unfolding contentRefusal _orElse_
-  content-refused n e = let h = head-refused n e in rw (h .0) (go n (h .1))
+  content-refused n o e = let h = head-refused n o e in rw (h .0) (go n (h .1))
     where
       go : (m : ℕ) → (m ≡ 0 → ⊥) → m ≡ (m orElse (5 if not (eqb (idKind (f .id)) rsp) else 0))
       go zero q = absurd (q refl)
@@ -154,8 +157,8 @@ module _ (own : ℕ) (f : Frame) where
     unfolding contentRefusal
     content-head = else-zero _ _ e .0
 
-    pub content-parts : (n : ℕ) {A : Type 0} → headOf own f ≡ U.Refused n → A
-    content-parts n q = let h = head-refused n q in absurd (h .1 (sym (h .0) ∙ content-head))
+    pub content-parts : (n : ℕ) {A : Type 0} → own ≤ 15 → headOf own f ≡ U.Refused n → A
+    content-parts n o q = let h = head-refused n o q in absurd (h .1 (sym (h .0) ∙ content-head))
 
 module _ (s : Bridge) (b : List ℕ) (f : Frame) where
   pub frame-refused : (n : ℕ) → n ≡ replyRefusal s (length b) f → (n ≡ 0 → ⊥)
@@ -167,6 +170,9 @@ module _ (s : Bridge) (b : List ℕ) (f : Frame) where
     reply-lent : (sound s ≡ true) × (length b ≡ 512)
     unfolding replyRefusal
     reply-lent = lent-ok s (length b) (else-zero _ _ e .0)
+
+    pub reply-own : s .own ≤ 15
+    reply-own = true-sound s (reply-lent .0) .own
 
     pub reply-content : contentRefusal (s .own) f ≡ 0
     unfolding replyRefusal

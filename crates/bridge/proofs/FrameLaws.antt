@@ -11,7 +11,7 @@ use Rattle.bus.specs.Frames.{cmd, req, padded, content, frameOf}
 use Rattle.bus.specs.Ident.{idOf, idKind}
 use Rattle.bus.specs.Request.{request}
 use Rattle.bridge.specs.Model.{Frame, Slot, outgoing, sentFrame, readFrame, writeFrame, chunkLen, asks, carries}
-use Rattle.bridge.proofs.Ids.{kind-of-id}
+use Rattle.bus.proofs.IdentLaws.{kind-of-id}
 use Rattle.bridge.proofs.ReadWrite.{asks-alone}
 
 -- a CMD is no REQ

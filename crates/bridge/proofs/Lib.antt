@@ -3,8 +3,6 @@ pub mod CodeCalls
 pub mod CodeSlots
 pub mod Search
 pub mod Refusals
-pub mod Ids
-pub mod Devices
 pub mod ReadWrite
 pub mod FrameLaws
 pub mod Sound

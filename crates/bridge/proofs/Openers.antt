@@ -3,7 +3,7 @@ use Rattle.wire.specs.Order.{_if_else_, _orElse_}
 use Rattle.bus.specs.Ident.{idOf, idOffset, idKind, idFrom, idTo, idTable, idSpare}
 use Rattle.bus.specs.Frames.{padded, content, frameOf, noFrame, headNumber}
 use Rattle.bus.specs.Request.{request, requestOf, reserved}
-use Rattle.bus.specs.Holder.{sizeOf, rightOf, sumTo, startOf, totalOf, soundTables, soundDirectory, directoryNumber, lengthNumber, commandNumber}
+use Rattle.bus.specs.Holder.{sizeOf, rightOf, startOf, totalOf, soundTables, soundDirectory, directoryNumber, lengthNumber, memoryNumber, byKind, commandNumber}
 use Rattle.bus.specs.Holder.{askNumber, queryNumber, byteOf, requestAt, reservedAt, kindNumber, serveNumber, noAnswer, answerWith, replyTo}
 use Rattle.bus.specs.Holder.{placeOf, protocol, actOf, memoryAct, servedBy, memoryBy, serveOf, memoryOf}
 use Rattle.bridge.specs.Model.{asks, carries, askRefusal, slot, fresh, soundPhase, soundSlot, soundSlots, absent, distinct, sound}
@@ -23,7 +23,7 @@ unfolding request requestOf reserved
 requests = tt
 
 unfoldable pub holder : Unit {0}
-unfolding sizeOf rightOf sumTo startOf totalOf soundTables soundDirectory directoryNumber lengthNumber commandNumber askNumber queryNumber byteOf
+unfolding sizeOf rightOf startOf totalOf soundTables soundDirectory directoryNumber lengthNumber memoryNumber byKind commandNumber askNumber queryNumber byteOf
 holder = tt
 
 unfoldable pub holder2 : Unit {0}

@@ -20,8 +20,8 @@ use Rattle.bridge.specs.Statement.{showing, shownAt, Done, Device, Timel
 use Rattle.bridge.specs.Statement.{Premises}
 use Rattle.bridge.specs.Corollaries.{SinceTaken}
 use Rattle.bridge.proofs.ReadWrite.{read-of}
-use Rattle.bridge.proofs.Ids.{offset-of-id, kind-of-id, table-of-id}
-use Rattle.bridge.proofs.Devices.{command-unanswered, request-answered, answerer-own, request-read}
+use Rattle.bus.proofs.IdentLaws.{offset-of-id, kind-of-id, table-of-id}
+use Rattle.bus.proofs.Replies.{command-unanswered, request-answered, answerer-own, request-read}
 use Rattle.bridge.proofs.FrameLaws.{len-eight, len-inside, id-of, content-of, read-is}
 use Rattle.bridge.proofs.FrameLaws.{write-is}
 use Rattle.bridge.proofs.Sound.{ReadyOk, Same, aged-same}

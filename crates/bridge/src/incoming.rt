@@ -19,12 +19,13 @@ ghost use Rattle.bridge.specs.Answers.{steppedOf};
 
 // 1 to 5, by which a bridge of this own number judges a frame; else 0.
 fn content_number(own: u8, f: bus::Frame) -> u8
+    requires { ⌜ own ≤ 15 ⌝ }
     ensures { λ r. ⌜ r ≡ contentRefusal own f ⌝ }
 {
     let head = bus::ident::read_head(own, f);
     match head {
         bus::Unpacked::Is(p) => {
-            if p.kind != 2 {
+            if p.kind != bus::RSP {
                 return 5;
             }
             0
@@ -47,7 +48,7 @@ fn awaits(x: Slot, k: usize, p: bus::Parts, len: u8) -> bool
 
 // The slot that awaits a frame, or 4.
 fn awaiting(b: Bridge, f: bus::Frame) -> usize
-    requires { ⌜ contentRefusal (b .own) f ≡ 0 ⌝ }
+    requires { ⌜ (b .own ≤ 15) × (contentRefusal (b .own) f ≡ 0) ⌝ }
     ensures { λ r. ⌜ r ≡ orFour (awaiting b f) ⌝ }
 {
     let bus::Unpacked::Is(p) = bus::ident::read_head(b.own, f) else {

@@ -20,27 +20,27 @@ use crate::WAITING;
 use crate::WRITE;
 
 // A slot of this kind sends REQ and may wait.
-pub fn asks(kind: u8) -> bool
+pub(crate) fn asks(kind: u8) -> bool
     ensures { λ r. ⌜ r ≡ asks kind ⌝ }
 {
     kind == READ
 }
 
 // A slot of this kind sends CMD.
-pub fn carries(kind: u8) -> bool
+pub(crate) fn carries(kind: u8) -> bool
     ensures { λ r. ⌜ r ≡ carries kind ⌝ }
 {
     kind == WRITE
 }
 
-pub fn is_ready(phase: u8) -> bool
+pub(crate) fn is_ready(phase: u8) -> bool
     ensures { λ r. ⌜ r ≡ isReady phase ⌝ }
 {
     phase == READY
 }
 
 // A free slot.
-pub fn blank() -> Slot
+pub(crate) fn blank() -> Slot
     ensures { λ r. ⌜ r ≡ blank ⌝ }
 {
     Slot {
@@ -58,7 +58,7 @@ pub fn blank() -> Slot
 }
 
 // A slot moved on: what may change, and the rest kept.
-pub fn moved(x: Slot, phase: u8, progress: u8, sends: u8, left: u8) -> Slot
+pub(crate) fn moved(x: Slot, phase: u8, progress: u8, sends: u8, left: u8) -> Slot
     ensures { λ r. ⌜ r ≡ moved x phase progress sends left ⌝ }
 {
     Slot {
@@ -76,7 +76,7 @@ pub fn moved(x: Slot, phase: u8, progress: u8, sends: u8, left: u8) -> Slot
 }
 
 // 7, 9 and 8, by which an opening judges its arguments; else 0.
-pub fn ask_number(device: u8, table: u8, offset: u16, count: usize) -> u8
+pub(crate) fn ask_number(device: u8, table: u8, offset: u16, count: usize) -> u8
     ensures { λ r. ⌜ r ≡ askRefusal device table offset count ⌝ }
 {
     if 15 < device {
@@ -174,7 +174,7 @@ fn distinct(slots: [Slot; 4]) -> bool
 }
 
 // Whether a bridge is in a sound state.
-pub fn sound(b: Bridge) -> bool
+pub(crate) fn sound(b: Bridge) -> bool
     ensures { λ r. ⌜ r ≡ sound b ⌝ }
 {
     let slots = b.slots;
@@ -182,7 +182,7 @@ pub fn sound(b: Bridge) -> bool
 }
 
 // 11 and 10, by which a call judges the bridge and a buffer of length n; else 0.
-pub fn lent_number(b: Bridge, n: usize) -> u8
+pub(crate) fn lent_number(b: Bridge, n: usize) -> u8
     ensures { λ r. ⌜ r ≡ lentRefusal b n ⌝ }
 {
     if !sound(b) {
@@ -195,7 +195,7 @@ pub fn lent_number(b: Bridge, n: usize) -> u8
 }
 
 // A bridge with a number and no frame.
-pub fn plain(b: Bridge, number: u8) -> Stepped
+pub(crate) fn plain(b: Bridge, number: u8) -> Stepped
     ensures { λ r. ⌜ r ≡ record { bridge = b; answer = noAnswer number } ⌝ }
 {
     let bytes = [0u8; 8];
@@ -216,7 +216,7 @@ pub fn plain(b: Bridge, number: u8) -> Stepped
 }
 
 // The first of four tests that holds, or 4.
-pub fn first(a: bool, b: bool, c: bool, d: bool) -> usize
+pub(crate) fn first(a: bool, b: bool, c: bool, d: bool) -> usize
     ensures { λ r. ⌜ r ≡ orFour (firstSlot (λ k. getD (a ∷ b ∷ c ∷ d ∷ []) k false) 0 4) ⌝ }
 {
     if a {
@@ -241,7 +241,7 @@ fn is_free(x: Slot) -> bool
 }
 
 // The lowest free slot, or 4.
-pub fn lowest_free(b: Bridge) -> usize
+pub(crate) fn lowest_free(b: Bridge) -> usize
     ensures { λ r. ⌜ r ≡ orFour (lowestFree b) ⌝ }
 {
     let slots = b.slots;
@@ -260,7 +260,7 @@ fn holds(x: Slot, ticket: u32) -> bool
 }
 
 // The slot that a ticket's transfer holds, or 4.
-pub fn holder(b: Bridge, ticket: u32) -> usize
+pub(crate) fn holder(b: Bridge, ticket: u32) -> usize
     ensures { λ r. ⌜ r ≡ orFour (holderOf b ticket) ⌝ }
 {
     let slots = b.slots;
@@ -273,7 +273,7 @@ pub fn holder(b: Bridge, ticket: u32) -> usize
 }
 
 // The first ready slot after the one last served, or 4.
-pub fn next_ready(b: Bridge) -> usize
+pub(crate) fn next_ready(b: Bridge) -> usize
     ensures { λ r. ⌜ r ≡ orFour (nextReady b) ⌝ }
 {
     let slots = b.slots;
@@ -310,7 +310,7 @@ fn age(x: Slot) -> Slot
 }
 
 // The bridge with every slot one turn older.
-pub fn age_all(b: Bridge) -> Bridge
+pub(crate) fn age_all(b: Bridge) -> Bridge
     ensures { λ r. ⌜ r ≡ agedBridge b ⌝ }
 {
     let old = b.slots;
@@ -324,7 +324,7 @@ pub fn age_all(b: Bridge) -> Bridge
 }
 
 // How many bytes go with the next frame: eight, the last fewer.
-pub fn chunk_len(count: u8, progress: u8) -> u8
+pub(crate) fn chunk_len(count: u8, progress: u8) -> u8
     ensures { λ r. ⌜ r ≡ chunkLen count progress ⌝ }
 {
     if count <= progress {
@@ -335,7 +335,7 @@ pub fn chunk_len(count: u8, progress: u8) -> u8
 }
 
 // A slot past the current eight bytes: ready for the next, or done.
-pub fn advance(x: Slot) -> Slot
+pub(crate) fn advance(x: Slot) -> Slot
     ensures { λ r. ⌜ r ≡ advanced x ⌝ }
 {
     if x.progress as u32 + 8 < x.count as u32 {

@@ -13,50 +13,50 @@ use Rattle.wire.specs.Order.{_if_else_}
 use Rattle.wire.proofs.Orders.{if-zero, else-zero}
 use Rattle.bus.specs.Ident.{idKind, idOffset}
 use Rattle.bus.specs.Frames.{Frame, cmd, req, xtnd, content, headNumber}
-use Rattle.bus.specs.Holder.{Directory, Served, totalOf, sizeOf, rightOf, directoryNumber, lengthNumber, commandNumber, askNumber, queryNumber, kindNumber}
-use Rattle.bus.specs.Holder.{serveNumber, byteOf, requestAt, reservedAt, tableOf, noAnswer, replyTo, placeOf, protocol, actOf, memoryAct, servedBy, memoryBy}
+use Rattle.bus.specs.Holder.{Directory, Served, totalOf, sizeOf, rightOf, memoryNumber, commandNumber, askNumber, queryNumber, kindNumber}
+use Rattle.bus.specs.Holder.{serveNumber, byteOf, requestAt, reservedAt, tableOf, byKind, noAnswer, replyTo, placeOf, protocol, actOf, memoryAct, servedBy, memoryBy}
 use Rattle.bus.specs.Holder.{serveOf, memoryOf}
 use Rattle.bus.specs.Demand2.{SoundDirectory}
 use Rattle.bus.proofs.IdentLaws.{table-small}
-use Rattle.bus.proofs.Directories.{sound-directory, right-length, table-within}
+use Rattle.bus.proofs.Directories.{memory-zero, table-within}
 
 -- ── Numbers by type ────────────────────────────────────────────────────────────────────────────────────────────────
 
 module _ (d : Directory) (f : Frame) where
   pub command-case : idKind (f .id) ≡ cmd → kindNumber d f ≡ commandNumber (f .len) (sizeOf d (tableOf f)) (rightOf d (tableOf f)) (idOffset (f .id))
-  unfolding kindNumber
+  unfolding kindNumber byKind
   command-case h = rw (eq-eqb _ _ h)
 
   pub ask-case : idKind (f .id) ≡ req
       → kindNumber d f ≡ askNumber (f .len) (reservedAt f 0) (sizeOf d (tableOf f)) (rightOf d (tableOf f)) (idOffset (f .id)) (requestAt f 0 .count)
-  unfolding kindNumber
+  unfolding kindNumber byKind
   ask-case h = rw (ne-eqb (idKind (f .id)) cmd (λ e. omega arith), eq-eqb _ _ h)
 
   pub query-case : idKind (f .id) ≡ xtnd → kindNumber d f ≡ queryNumber (f .len) (byteOf f 0) (reservedAt f 1) (requestAt f 1 .count)
-  unfolding kindNumber
+  unfolding kindNumber byKind
   query-case h = rw (ne-eqb (idKind (f .id)) cmd (λ e. omega arith), ne-eqb (idKind (f .id)) req (λ e. omega arith), eq-eqb _ _ h)
 
   pub other-case : idKind (f .id) ≢ cmd → idKind (f .id) ≢ req → idKind (f .id) ≢ xtnd → kindNumber d f ≡ 5
-  unfolding kindNumber
+  unfolding kindNumber byKind
   other-case c r x = rw (ne-eqb _ _ c, ne-eqb _ _ r, ne-eqb _ _ x)
 
 -- ── Actions by type ────────────────────────────────────────────────────────────────────────────────────────────────
 
 module _ (d : Directory) (m : List ℕ) (f : Frame) where
   pub act-command : idKind (f .id) ≡ cmd → (actOf d m f ≡ noAnswer 0) × (memoryAct d m f ≡ sets m (placeOf d f) (content f))
-  unfolding actOf memoryAct
+  unfolding actOf memoryAct byKind
   act-command h = (rw (eq-eqb _ _ h), rw (eq-eqb _ _ h))
 
   pub act-ask : idKind (f .id) ≡ req
       → (actOf d m f ≡ replyTo d f (requestAt f 0) (take (requestAt f 0 .count) (drop (placeOf d f) m))) × (memoryAct d m f ≡ m)
-  unfolding actOf memoryAct
+  unfolding actOf memoryAct byKind
   act-ask h =
       let n = ne-eqb (idKind (f .id)) cmd (λ e. omega arith) in
       (rw (n, eq-eqb _ _ h), rw n)
 
   pub act-query : idKind (f .id) ≡ xtnd
       → (actOf d m f ≡ replyTo d f (requestAt f 1) (take (requestAt f 1 .count) (protocol d))) × (memoryAct d m f ≡ m)
-  unfolding actOf memoryAct
+  unfolding actOf memoryAct byKind
   act-query h =
       let n = ne-eqb (idKind (f .id)) cmd (λ e. omega arith) in
       (rw (n, ne-eqb (idKind (f .id)) req (λ e. omega arith), eq-eqb _ _ h), rw n)
@@ -119,10 +119,10 @@ pub record Accepted (d : Directory) (n : ℕ) (f : Frame) : Type 0 where
 pub accepted : (d : Directory) (n : ℕ) (f : Frame) → serveNumber d n f ≡ 0 → Accepted d n f
 unfolding serveNumber
 accepted d n f h =
-    let h1 = else-zero (directoryNumber d) _ h in
-    let h2 = else-zero (lengthNumber d n) _ (h1 .1) in
-    let h3 = else-zero (headNumber (d .own) f) (kindNumber d f) (h2 .1) in
-    record { directory = sound-directory d (h1 .0); total = right-length d n (h2 .0); head = h3 .0; kind = h3 .1 }
+    let h1 = else-zero (memoryNumber d n) _ h in
+    let h2 = else-zero (headNumber (d .own) f) (kindNumber d f) (h1 .1) in
+    let h3 = memory-zero d n (h1 .0) in
+    record { directory = h3 .0; total = h3 .1; head = h2 .0; kind = h2 .1 }
 
 module _ (d : Directory) (n : ℕ) (f : Frame) (a : Accepted d n f) where
   -- a range of the addressed table lies within the memory

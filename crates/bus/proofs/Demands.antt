@@ -13,14 +13,16 @@ use Rattle.wire.proofs.Puts.{sets-in, sets-outside}
 use Rattle.bus.specs.Ident.{idFrom, idKind, idOffset, idOf, unpackOf}
 use Rattle.bus.specs.Frames.{Frame, cmd, req, rsp, xtnd, padded, content, frameOf}
 use Rattle.bus.specs.Request.{Request, requestOf}
-use Rattle.bus.specs.Holder.{Directory, Served, sizeOf, serveNumber, byteOf, requestAt, tableOf, noAnswer, answerWith, replyTo, placeOf, protocol}
-use Rattle.bus.specs.Holder.{actOf, memoryAct, servedBy, serveOf, memoryOf}
+use Rattle.bus.specs.Holder.{Directory, Served, startOf, sizeOf, serveNumber, byteOf, requestAt, tableOf, noAnswer, answerWith, replyTo, placeOf, protocol}
+use Rattle.bus.specs.Holder.{byKind, actOf, memoryAct, servedBy, serveOf, memoryOf}
 use Rattle.bus.specs.Demand2.{CommandServed, Replied, RequestServed, QueryServed, ServeNumber, Demand2}
 use Rattle.bus.specs.declared.Unpacked.the-variants as U
 use Rattle.bus.proofs.IdentLaws.{Lawful, unpack-id, from-small}
 use Rattle.bus.proofs.FrameLaws.{padded-length, padded-in, padded-after, content-length, content-at, head-short, part-length}
 use Rattle.bus.proofs.Cases.{Accepted, accepted, command-fits, ask-fits, query-fits, act-command, act-ask, act-query, served-case, refused-case}
 use Rattle.bus.proofs.Numbers.{serve-numbers}
+use Rattle.bus.proofs.Directories.{table-apart}
+use Rattle.bus.proofs.Ignored.{ignored}
 
 -- the values that a frame of the code has
 pub record IsFrame (f : Frame) : Type 0 where
@@ -70,7 +72,12 @@ module _ (d : Directory) (m : List ℕ) (f : Frame) (w : IsFrame f)
   ok : Accepted d (length m) f
   ok = accepted d (length m) f z
 
-  command-served : idKind (f .id) ≡ cmd → CommandServed d m f
+  apart-place : (k i : ℕ) → i < sizeOf d k → k ≢ tableOf f → idOffset (f .id) + f .len ≤ sizeOf d (tableOf f)
+      → (startOf d k + i < placeOf d f) ⊎ (placeOf d f + f .len ≤ startOf d k + i)
+  unfolding placeOf
+  apart-place k i h n t = table-apart d k (tableOf f) i (idOffset (f .id)) (f .len) h t n
+
+  command-served : idKind (f .id) ≡ cmd → CommandServed d m f (serveOf d m f) (memoryOf d m f)
   unfolding byteOf
   command-served k =
       let a = act-command d m f k in
@@ -86,9 +93,10 @@ module _ (d : Directory) (m : List ℕ) (f : Frame) (w : IsFrame f)
         sameLength = rw e (length-sets m (placeOf d f) (content f));
         addressed = λ i lt. rw e (sets-in m (placeOf d f) (content f) fit i (omega (arith, l)) ∙ content-at f i lt);
         others = λ j o. rw e (sets-outside m (placeOf d f) (content f) fit j (rw l o));
+        otherTables = λ k i lt h n. rw e (sets-outside m (placeOf d f) (content f) fit _ (rw l (apart-place k i h n (r .0))));
       }
 
-  request-served : idKind (f .id) ≡ req → RequestServed d m f
+  request-served : idKind (f .id) ≡ req → RequestServed d m f (serveOf d m f) (memoryOf d m f)
   request-served k =
       let a = act-ask d m f k in
       let s = served-case d m f z in
@@ -128,7 +136,7 @@ module _ (d : Directory) (m : List ℕ) (f : Frame) (w : IsFrame f)
       let g : d .«write_blocking» / 256 % 256 ≡ d .«write_blocking» / 256 = omega arith in
       rw (e, g)
 
-  query-served : idKind (f .id) ≡ xtnd → QueryServed d m f
+  query-served : idKind (f .id) ≡ xtnd → QueryServed d m f (serveOf d m f) (memoryOf d m f)
   query-served k = go (query-fits d (length m) f ok k)
     where
       q : Request
@@ -140,7 +148,7 @@ module _ (d : Directory) (m : List ℕ) (f : Frame) (w : IsFrame f)
       e : serveOf d m f ≡ replyTo d f q bs
       e = served-case d m f z .0 ∙ act-query d m f k .0
 
-      go : (q .count ≡ 1) ⊎ (q .count ≡ 5) → QueryServed d m f
+      go : (q .count ≡ 1) ⊎ (q .count ≡ 5) → QueryServed d m f (serveOf d m f) (memoryOf d m f)
       go o =
           let n : q .count ≤ 5 = few-asked (q .count) o in
           let l : length bs ≡ q .count = length-take-le (q .count) (protocol d) (omega (arith, protocol-length)) in
@@ -158,7 +166,7 @@ module _ (d : Directory) (m : List ℕ) (f : Frame) (w : IsFrame f)
 module _ (d : Directory) (m : List ℕ) (f : Frame) where
   -- the answer's number is the judgement's
   act-zero : actOf d m f .number ≡ 0
-  unfolding actOf replyTo answerWith noAnswer
+  unfolding actOf byKind replyTo answerWith noAnswer
   act-zero = go (eqb (idKind (f .id)) cmd) (eqb (idKind (f .id)) req) (eqb (idKind (f .id)) xtnd)
     where
       go : (a b c : Bool) → (cond a (noAnswer 0) (cond b (replyTo d f (requestAt f 0) (take (requestAt f 0 .count) (drop (placeOf d f) m)))
@@ -176,12 +184,15 @@ module _ (d : Directory) (m : List ℕ) (f : Frame) where
       go zero = act-zero
       go (suc n) = refl
 
-  pub demand2 : IsFrame f → d .«table_blocking» < 65536 → d .«write_blocking» < 65536 → Demand2 d m f
-  demand2 w tb wb =
-      record {
+  pub demand2 : (s : Served) (after : List ℕ) → s ≡ serveOf d m f → after ≡ memoryOf d m f → IsFrame f
+      → d .«table_blocking» < 65536 → d .«write_blocking» < 65536 → Demand2 d m f s after
+  demand2 s after e g w tb wb =
+      rw (e, g)
+      (record {
         number = subst (ServeNumber d m f) (sym number-is) (serve-numbers d m f);
         refused = λ n. refused-case d m f (serveOf d m f .number) (sym number-is) n;
         command = λ z. command-served d m f w tb wb (sym number-is ∙ z);
         request = λ z. request-served d m f w tb wb (sym number-is ∙ z);
         query = λ z. query-served d m f w tb wb (sym number-is ∙ z);
-      }
+        ignored = λ h i l b. ignored d m f h i l b;
+      })

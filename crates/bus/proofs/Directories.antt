@@ -1,39 +1,50 @@
 -- Laws of directories: where tables lie, and what a sound directory says.
 use mathlib.Core.Path.{_≡_, refl, sym, _∙_, ap}
-use mathlib.Core.Logic.{_⊎_, inl, inr}
+use mathlib.Core.Logic.{_⊎_, inl, inr, _≢_}
 use mathlib.Core.Bool.{Bool, true, false, not, _&&_}
-use mathlib.Core.List.{List}
 use Prim.Native.Nat.{ℕ, zero, suc, _+_, _-_, _*_, _≤_, _<_}
 use native.Mathlib.Numerals.{add-one}
 use native.Mathlib.Nat.{zero-add, suc-add}
 use native.Mathlib.Omega.{arith}
 use native.Mathlib.Decide.{decLt}
 use lib.Dec.{leb, ltb, eqb}
-use lib.ListN.{getD}
 use borrow.Author.Tests.{leb-true, leb-false, le-leb, lt-leb, not-false, eqb-true}
-use Rattle.wire.proofs.Orders.{order, if-zero}
-use Rattle.bus.specs.Holder.{Directory, sumTo, startOf, totalOf, sizeOf, rightOf, soundTables, soundDirectory, directoryNumber, lengthNumber}
+use Rattle.wire.proofs.Orders.{order, if-zero, else-zero}
+use Rattle.bus.specs.Holder.{Directory, startOf, totalOf, sizeOf, rightOf, soundTables, soundDirectory, directoryNumber, lengthNumber, memoryNumber}
 use Rattle.bus.specs.Demand2.{SoundTable, SoundDirectory}
 
--- ── Sums ───────────────────────────────────────────────────────────────────────────────────────────────────────────
+-- ── Starts ───────────────────────────────────────────────────────────────────────────────────────────────────────────
 
-pub sum-next : (l : List ℕ) (i : ℕ) → sumTo l (i + 1) ≡ sumTo l i + getD l i 0
-unfolding sumTo
-sum-next l i = rw add-one
+pub start-next : (d : Directory) (k : ℕ) → startOf d (k + 1) ≡ startOf d k + sizeOf d k
+unfolding startOf
+start-next d k = rw add-one
 
--- later sums are no smaller
-sum-more : (l : List ℕ) (k i : ℕ) → sumTo l i ≤ sumTo l (k + i)
-unfolding sumTo
-sum-more l zero i = rw zero-add (omega arith)
-sum-more l (suc k) i = rw suc-add (omega (arith, sum-more l k i))
+-- later tables start no earlier
+start-more : (d : Directory) (k i : ℕ) → startOf d i ≤ startOf d (k + i)
+unfolding startOf
+start-more d zero i = rw zero-add (omega arith)
+start-more d (suc k) i = rw suc-add (omega (arith, start-more d k i))
 
--- a table ends where the next starts, and within the total
+-- a table ends before every later one starts
+pub table-before : (d : Directory) (k t : ℕ) → k < t → startOf d k + sizeOf d k ≤ startOf d t
+table-before d k t h =
+    let e : t - (k + 1) + (k + 1) ≡ t = omega arith in
+    let m : startOf d (k + 1) ≤ startOf d t = rw e at (start-more d (t - (k + 1)) (k + 1)) in
+    rw (start-next d k) at m
+
+-- and within the total
 pub table-within : (d : Directory) (t : ℕ) → t < 32 → startOf d t + sizeOf d t ≤ totalOf d
-unfolding startOf totalOf sizeOf
-table-within d t h =
-    let e : 31 - t + (t + 1) ≡ 32 = omega arith in
-    let m : sumTo (d .sizes) (t + 1) ≤ sumTo (d .sizes) 32 = rw e at (sum-more (d .sizes) (31 - t) (t + 1)) in
-    rw (sum-next (d .sizes) t) at m
+unfolding totalOf
+table-within d t h = table-before d t 32 h
+
+-- a place in a table lies outside every range of another table
+pub table-apart : (d : Directory) (k t i from len : ℕ) → i < sizeOf d k → from + len ≤ sizeOf d t → k ≢ t
+    → (startOf d k + i < startOf d t + from) ⊎ (startOf d t + from + len ≤ startOf d k + i)
+table-apart d k t i from len l h n = go (decLt k t)
+  where
+    go : Dec (k < t) → (startOf d k + i < startOf d t + from) ⊎ (startOf d t + from + len ≤ startOf d k + i)
+    go (yes p) = inl (omega (arith, l, table-before d k t p))
+    go (no p) = inr (omega (arith, h, table-before d t k (omega (arith, p, n))))
 
 -- ── Conjunctions ───────────────────────────────────────────────────────────────────────────────────────────────────
 
@@ -51,41 +62,41 @@ right-false false b e = refl
 
 -- ── Sound tables ───────────────────────────────────────────────────────────────────────────────────────────────────
 
-module _ (sizes rights : List ℕ) where
-  pub tables-next : (i : ℕ) → soundTables sizes rights i ≡ true → getD sizes i 0 ≤ 2056 → getD rights i 0 ≤ 2 → soundTables sizes rights (i + 1) ≡ true
+module _ (d : Directory) where
+  pub tables-next : (i : ℕ) → soundTables d i ≡ true → sizeOf d i ≤ 2056 → rightOf d i ≤ 2 → soundTables d (i + 1) ≡ true
   unfolding soundTables
   tables-next i h s r = rw (add-one, h, le-leb _ _ s, le-leb _ _ r)
 
   -- an unsound table makes every later count of tables unsound
-  stays-unsound : (k i : ℕ) → soundTables sizes rights i ≡ false → soundTables sizes rights (k + i) ≡ false
+  stays-unsound : (k i : ℕ) → soundTables d i ≡ false → soundTables d (k + i) ≡ false
   unfolding soundTables
   stays-unsound zero i h = rw zero-add h
-  stays-unsound (suc k) i h = rw suc-add (left-false (soundTables sizes rights (k + i) && leb (getD sizes (k + i) 0) 2056) (leb (getD rights (k + i) 0) 2) (left-false (soundTables sizes rights (k + i)) (leb (getD sizes (k + i) 0) 2056) (stays-unsound k i h)))
+  stays-unsound (suc k) i h = rw suc-add (left-false (soundTables d (k + i) && leb (sizeOf d (k + i)) 2056) (leb (rightOf d (k + i)) 2) (left-false (soundTables d (k + i)) (leb (sizeOf d (k + i)) 2056) (stays-unsound k i h)))
 
-  unsound-next : (i : ℕ) → (2056 < getD sizes i 0) ⊎ (2 < getD rights i 0) → soundTables sizes rights (i + 1) ≡ false
+  unsound-next : (i : ℕ) → (2056 < sizeOf d i) ⊎ (2 < rightOf d i) → soundTables d (i + 1) ≡ false
   unfolding soundTables
-  unsound-next i (inl h) = rw add-one (left-false (soundTables sizes rights i && leb (getD sizes i 0) 2056) (leb (getD rights i 0) 2) (right-false (soundTables sizes rights i) (leb (getD sizes i 0) 2056) (lt-leb _ _ h)))
-  unsound-next i (inr h) = rw add-one (right-false (soundTables sizes rights i && leb (getD sizes i 0) 2056) (leb (getD rights i 0) 2) (lt-leb _ _ h))
+  unsound-next i (inl h) = rw add-one (left-false (soundTables d i && leb (sizeOf d i) 2056) (leb (rightOf d i) 2) (right-false (soundTables d i) (leb (sizeOf d i) 2056) (lt-leb _ _ h)))
+  unsound-next i (inr h) = rw add-one (right-false (soundTables d i && leb (sizeOf d i) 2056) (leb (rightOf d i) 2) (lt-leb _ _ h))
 
-  pub tables-unsound : (n i : ℕ) → i < n → (2056 < getD sizes i 0) ⊎ (2 < getD rights i 0) → soundTables sizes rights n ≡ false
+  pub tables-unsound : (n i : ℕ) → i < n → (2056 < sizeOf d i) ⊎ (2 < rightOf d i) → soundTables d n ≡ false
   tables-unsound n i lt h =
       let e : n - (i + 1) + (i + 1) ≡ n = omega arith in
       rw e at (stays-unsound (n - (i + 1)) (i + 1) (unsound-next i h))
 
-  tables-all : (n : ℕ) → soundTables sizes rights n ≡ true → (k : ℕ) → k < n → (getD sizes k 0 ≤ 2056) × (getD rights k 0 ≤ 2)
+  tables-all : (n : ℕ) → soundTables d n ≡ true → (k : ℕ) → k < n → (sizeOf d k ≤ 2056) × (rightOf d k ≤ 2)
   unfolding soundTables
   tables-all zero h k l = absurd (omega arith)
   tables-all (suc n) h k l =
-      let a = both (soundTables sizes rights n && leb (getD sizes n 0) 2056) (leb (getD rights n 0) 2) h in
-      let b = both (soundTables sizes rights n) (leb (getD sizes n 0) 2056) (a .0) in
+      let a = both (soundTables d n && leb (sizeOf d n) 2056) (leb (rightOf d n) 2) h in
+      let b = both (soundTables d n) (leb (sizeOf d n) 2056) (a .0) in
       at-last (decLt k n) (λ p. tables-all n (b .0) k p) (leb-true _ _ (b .1)) (leb-true _ _ (a .1))
     where
-      at-last : Dec (k < n) → (k < n → (getD sizes k 0 ≤ 2056) × (getD rights k 0 ≤ 2)) → getD sizes n 0 ≤ 2056 → getD rights n 0 ≤ 2
-          → (getD sizes k 0 ≤ 2056) × (getD rights k 0 ≤ 2)
+      at-last : Dec (k < n) → (k < n → (sizeOf d k ≤ 2056) × (rightOf d k ≤ 2)) → sizeOf d n ≤ 2056 → rightOf d n ≤ 2
+          → (sizeOf d k ≤ 2056) × (rightOf d k ≤ 2)
       at-last (yes p) f u v = f p
       at-last (no p) f u v = let e : k ≡ n = omega arith in rw e (u, v)
 
-  all-tables : (n : ℕ) → ((k : ℕ) → k < n → (getD sizes k 0 ≤ 2056) × (getD rights k 0 ≤ 2)) → soundTables sizes rights n ≡ true
+  all-tables : (n : ℕ) → ((k : ℕ) → k < n → (sizeOf d k ≤ 2056) × (rightOf d k ≤ 2)) → soundTables d n ≡ true
   unfolding soundTables
   all-tables zero h = refl
   all-tables (suc n) h =
@@ -95,28 +106,28 @@ module _ (sizes rights : List ℕ) where
 -- ── Sound directories ──────────────────────────────────────────────────────────────────────────────────────────────
 
 pub sound-says : (d : Directory) → soundDirectory d ≡ true → SoundDirectory d
-unfolding soundDirectory sizeOf rightOf
+unfolding soundDirectory
 sound-says d h =
-    let a = both (leb (d .own) 15 && soundTables (d .sizes) (d .rights) 32) (leb (totalOf d) 32768) h in
-    let b = both (leb (d .own) 15) (soundTables (d .sizes) (d .rights) 32) (a .0) in
+    let a = both (leb (d .own) 15 && soundTables d 32) (leb (totalOf d) 32768) h in
+    let b = both (leb (d .own) 15) (soundTables d 32) (a .0) in
     record {
       own = leb-true _ _ (b .0);
-      tables = λ k l. let t = tables-all (d .sizes) (d .rights) 32 (b .1) k l in record { size = t .0; right = t .1 };
+      tables = λ k l. let t = tables-all d 32 (b .1) k l in record { size = t .0; right = t .1 };
       total = leb-true _ _ (a .1);
     }
 
 pub says-sound : (d : Directory) → SoundDirectory d → soundDirectory d ≡ true
-unfolding soundDirectory sizeOf rightOf
-says-sound d s =
-    rw (le-leb _ _ (s .own), all-tables (d .sizes) (d .rights) 32 (λ k l. (s .tables k l .size, s .tables k l .right)), le-leb _ _ (s .total))
-
-pub unsound : (d : Directory) → (15 < d .own) ⊎ ((soundTables (d .sizes) (d .rights) 32 ≡ false) ⊎ (32768 < totalOf d)) → soundDirectory d ≡ false
 unfolding soundDirectory
-unsound d (inl h) = left-false (leb (d .own) 15 && soundTables (d .sizes) (d .rights) 32) (leb (totalOf d) 32768) (left-false (leb (d .own) 15) (soundTables (d .sizes) (d .rights) 32) (lt-leb _ _ h))
-unsound d (inr (inl h)) = left-false (leb (d .own) 15 && soundTables (d .sizes) (d .rights) 32) (leb (totalOf d) 32768) (right-false (leb (d .own) 15) (soundTables (d .sizes) (d .rights) 32) h)
-unsound d (inr (inr h)) = right-false (leb (d .own) 15 && soundTables (d .sizes) (d .rights) 32) (leb (totalOf d) 32768) (lt-leb _ _ h)
+says-sound d s =
+    rw (le-leb _ _ (s .own), all-tables d 32 (λ k l. (s .tables k l .size, s .tables k l .right)), le-leb _ _ (s .total))
 
-pub is-sound : (d : Directory) → d .own ≤ 15 → soundTables (d .sizes) (d .rights) 32 ≡ true → totalOf d ≤ 32768 → soundDirectory d ≡ true
+pub unsound : (d : Directory) → (15 < d .own) ⊎ ((soundTables d 32 ≡ false) ⊎ (32768 < totalOf d)) → soundDirectory d ≡ false
+unfolding soundDirectory
+unsound d (inl h) = left-false (leb (d .own) 15 && soundTables d 32) (leb (totalOf d) 32768) (left-false (leb (d .own) 15) (soundTables d 32) (lt-leb _ _ h))
+unsound d (inr (inl h)) = left-false (leb (d .own) 15 && soundTables d 32) (leb (totalOf d) 32768) (right-false (leb (d .own) 15) (soundTables d 32) h)
+unsound d (inr (inr h)) = right-false (leb (d .own) 15 && soundTables d 32) (leb (totalOf d) 32768) (lt-leb _ _ h)
+
+pub is-sound : (d : Directory) → d .own ≤ 15 → soundTables d 32 ≡ true → totalOf d ≤ 32768 → soundDirectory d ≡ true
 unfolding soundDirectory
 is-sound d o t s = rw (le-leb _ _ o, t, le-leb _ _ s)
 
@@ -137,3 +148,7 @@ sound-directory d e = sound-says d (not-false _ (if-zero 10 _ _ e .0))
 pub right-length : (d : Directory) (n : ℕ) → lengthNumber d n ≡ 0 → n ≡ totalOf d
 unfolding lengthNumber
 right-length d n e = eqb-true _ _ (not-false _ (if-zero 9 _ _ e .0))
+
+pub memory-zero : (d : Directory) (n : ℕ) → memoryNumber d n ≡ 0 → SoundDirectory d × (n ≡ totalOf d)
+unfolding memoryNumber
+memory-zero d n e = let h = else-zero (directoryNumber d) (lengthNumber d n) e in (sound-directory d (h .0), right-length d n (h .1))

@@ -7,8 +7,10 @@ use lib.Dec.{lit<, ltb, eqb}
 use mathlib.Core.Bool.{false, true, not}
 use borrow.Author.Tests.{lt-leb, le-ltb, eq-eqb, ltb-false, leb-false, eqb-true, not-false}
 use Rattle.wire.specs.Order.{_if_else_, _orElse_}
+use Rattle.wire.specs.Answer.{answer, result}
+use Rattle.wire.proofs.Answers.{answered, means}
 use Rattle.wire.proofs.Orders.{order, if-zero, if-orElse, zero-orElse}
-use Rattle.bus.specs.Ident.{Parts, row, idSpare, idTable, idTo, idFrom, idKind, idOffset, idOf, partsOf, packNumber, packed, packOf, unpackNumber, unpacked, unpackOf}
+use Rattle.bus.specs.Ident.{Parts, row, idSpare, idTable, idTo, idFrom, idKind, idOffset, idOf, idIn, partsOf, packNumber, packOf, packedAnswer, noParts, unpackNumber, unpackOf, unpackedAnswer}
 use Rattle.bus.specs.Frames.{Frame, headNumber}
 use Rattle.bus.specs.Rows.{Rows}
 use Rattle.bus.specs.declared.Packed.{Packed}
@@ -121,19 +123,23 @@ unpack-lawful id e =
 
 -- ── The answers ────────────────────────────────────────────────────────────────────────────────────────────────────
 
-pub packed-is : (n x id : ℕ) → packed n x ≡ P.Is id → (n ≡ 0) × (x ≡ id)
-unfolding packed
-packed-is zero x id e = (refl, cc)
-packed-is (suc n) x id e = absurd (let z : _≡_ {A = ℕ} 0 1 = cc in omega arith)
+-- the cases of each enum are told apart
+pub packed-is : (n x id : ℕ) → answer P.Is P.Refused n x ≡ P.Is id → (n ≡ 0) × (x ≡ id)
+packed-is = answered P.Is P.Refused (λ n y e. let z : _≡_ {A = ℕ} 0 1 = cc in omega arith) (λ x y e. cc)
 
-pub unpacked-is : (n : ℕ) (x p : Parts) → unpacked n x ≡ U.Is p → (n ≡ 0) × (x ≡ p)
-unfolding unpacked
-unpacked-is zero x p e = (refl, cc)
-unpacked-is (suc n) x p e = absurd (let z : _≡_ {A = ℕ} 0 1 = cc in omega arith)
+pub unpacked-is : (n : ℕ) (x p : Parts) → answer U.Is U.Refused n x ≡ U.Is p → (n ≡ 0) × (x ≡ p)
+unpacked-is = answered U.Is U.Refused (λ n y e. let z : _≡_ {A = ℕ} 0 1 = cc in omega arith) (λ x y e. cc)
+
+-- each case means its number and its value
+pub packed-means : (r : Packed) (n x : ℕ) → r ≡ answer P.Is P.Refused n x → (r ≡ answer P.Is P.Refused n x) × (packedAnswer r ≡ result 0 n x)
+packed-means = means P.Is P.Refused 0 packedAnswer (λ x. refl) (λ n. refl)
+
+pub unpacked-means : (r : Unpacked) (n : ℕ) (x : Parts) → r ≡ answer U.Is U.Refused n x → (r ≡ answer U.Is U.Refused n x) × (unpackedAnswer r ≡ result noParts n x)
+unpacked-means = means U.Is U.Refused noParts unpackedAnswer (λ x. refl) (λ n. refl)
 
 -- unpacking the identifier of lawful parts gives them back
 pub unpack-id : (p : Parts) → Lawful p → unpackOf (idOf (p .offset) (p .kind) (p .from) (p .to) (p .table)) ≡ U.Is p
-unfolding unpackOf unpacked
+unfolding unpackOf answer
 unpack-id p l =
     rw (
       unpack-zero _ (id-small (p .offset) (p .kind) (p .from) (p .to) (p .table) (l .offset) (l .kind) (l .from) (l .to) (l .table))
@@ -196,36 +202,11 @@ unfolding partsOf idTo idFrom idKind idOffset idTable
 parts-lawful id = record { offset = omega arith; kind = omega arith; from = omega arith; to = omega arith; table = omega arith }
 
 pub pack-after-unpack : (id : ℕ) (p : Parts) → unpackOf id ≡ U.Is p → packOf p ≡ P.Is id
-unfolding unpackOf packOf packed idOf
+unfolding unpackOf packOf answer idOf
 pack-after-unpack id p e =
-    let h = unpacked-is _ _ p e in
+    let h = unpacked-is (unpackNumber id) (partsOf id) p e in
     let l : Lawful p = rw (h .1) at (parts-lawful id) in
-    rw (judged p l, ← row-law id p e .sum)
-
--- a number and a value, as a function's two answers
-pub packed-no : (k n x : ℕ) → k ≡ n → (k ≡ 0 → ⊥) → P.Refused k ≡ packed n x
-unfolding packed
-packed-no k zero x e h = absurd (h e)
-packed-no k (suc n) x e h = ap P.Refused e
-
-pub packed-yes : (k n x y : ℕ) → k ≡ n → k ≡ 0 → y ≡ x → P.Is y ≡ packed n x
-unfolding packed
-packed-yes k zero x y e h v = ap P.Is v
-packed-yes k (suc n) x y e h v = absurd (omega arith)
-
-pub unpacked-no : (k n : ℕ) (x : Parts) → k ≡ n → (k ≡ 0 → ⊥) → U.Refused k ≡ unpacked n x
-unfolding unpacked
-unpacked-no k zero x e h = absurd (h e)
-unpacked-no k (suc n) x e h = ap U.Refused e
-
-pub unpacked-yes : (k n : ℕ) (x y : Parts) → k ≡ n → k ≡ 0 → y ≡ x → U.Is y ≡ unpacked n x
-unfolding unpacked
-unpacked-yes k zero x y e h v = ap U.Is v
-unpacked-yes k (suc n) x y e h v = absurd (omega arith)
-
--- an answer with a value has the number 0
-pub some-zero : (k n : ℕ) → k ≡ n → k ≡ 0 → 0 ≡ n
-some-zero k n e h = sym h ∙ e
+    rw (judged p l) (ap P.Is (sym (row-law id p e .sum)))
 
 -- 1 and 2, then 3 and 4
 pub head-is : (own : ℕ) (f : Frame) → headNumber own f ≡ (unpackNumber (f .id) orElse (3 if ltb 8 (f .len) else 4 if not (eqb (idTo (f .id)) own) else 0))

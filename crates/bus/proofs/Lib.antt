@@ -4,4 +4,6 @@ pub mod Directories
 pub mod FrameLaws
 pub mod Cases
 pub mod Numbers
+pub mod Ignored
 pub mod Demands
+pub mod Replies

@@ -9,12 +9,12 @@ use lib.Dec.{leb, ltb, eqb}
 use lib.ListN.{length}
 use borrow.Author.Tests.{ltb-true, ltb-false, leb-true, leb-false, eqb-true, eqb-false, not-true, not-false}
 use Rattle.wire.specs.Order.{_if_else_, _orElse_}
-use Rattle.wire.specs.First.{First, Zero}
-use Rattle.wire.proofs.Firsts.{link, links, neither}
+use Rattle.wire.specs.First.{First, Unless, Zero}
+use Rattle.wire.proofs.Firsts.{link, links, unless, unlesses, neither}
 use Rattle.wire.proofs.Orders.{if-orElse, zero-orElse}
 use Rattle.bus.specs.Ident.{idSpare, idTo, idKind, idOffset}
 use Rattle.bus.specs.Frames.{Frame, cmd, req, xtnd, headNumber}
-use Rattle.bus.specs.Holder.{Directory, soundDirectory, totalOf, sizeOf, rightOf, directoryNumber, lengthNumber, commandNumber, askNumber, queryNumber}
+use Rattle.bus.specs.Holder.{Directory, soundDirectory, totalOf, sizeOf, rightOf, directoryNumber, lengthNumber, memoryNumber, commandNumber, askNumber, queryNumber}
 use Rattle.bus.specs.Holder.{kindNumber, serveNumber, byteOf, requestAt, reservedAt, tableOf}
 use Rattle.bus.specs.Demand2.{SoundDirectory, CommandNumber, AskNumber, QueryNumber, KindNumber, ServeNumber}
 use Rattle.bus.proofs.Directories.{sound-says, says-sound}
@@ -39,11 +39,14 @@ le-false : (a b : ℕ) → leb a b ≡ false → ¬ (a ≤ b)
 le-false a b e h = omega (arith, leb-false a b e)
 
 -- the first of two tests that lets a number pass
-choose : {P : Type 0} (a b : Bool) → (a ≡ true → ¬ P) → (b ≡ true → ¬ P) → (a ≡ false → b ≡ false → P) → First P 9 Zero (0 if a else 0 if b else 9)
+choose : {P : Type 0} (a b : Bool) → (a ≡ true → P) → (b ≡ true → P) → (a ≡ false → b ≡ false → ¬ P) → Unless P 9 Zero (0 if a else 0 if b else 9)
 unfolding _if_else_
 choose true b p q h = inr (p refl, refl)
 choose false true p q h = inr (q refl, refl)
 choose false false p q h = inl (h refl refl, refl)
+
+is-false : (a b : ℕ) → not (eqb a b) ≡ false → a ≡ b
+is-false a b e = eqb-true a b (not-false _ e)
 
 -- ── Numbers by type ────────────────────────────────────────────────────────────────────────────────────────────────
 
@@ -71,37 +74,42 @@ few zero e g = absurd (eqb-false 0 0 e refl)
 few (suc n) e g = (omega arith, ltb-false 8 (suc n) g)
 
 abbrev Count : ℕ → (ℕ → Type 0) → ℕ → Type 0
-Count n rest = First (¬ ((1 ≤ n) × (n ≤ 8))) 9 rest
+Count n rest = Unless ((1 ≤ n) × (n ≤ 8)) 9 rest
+
+-- a length, and clear reserved bits
+abbrev Clear : ℕ → ℕ → Bool → (ℕ → Type 0) → ℕ → Type 0
+Clear len k v rest = Unless ((len ≡ k) × (v ≡ false)) 6 rest
+
+clear-number : (len k : ℕ) (v : Bool) (r : ℕ) (rest : ℕ → Type 0) → rest r → Clear len k v rest (6 if not (eqb len k) else 6 if v else r)
+clear-number len k v r rest h =
+    unlesses 6 (not (eqb len k)) v r rest (λ e p. ne-true len k e (p .0)) (λ e p. apart v e (p .1)) (λ e g. (is-false len k e, g)) (λ e g. h)
 
 ask-numbers : (len : ℕ) (v : Bool) (size right offset count : ℕ)
-    → First ((len ≢ 3) ⊎ (v ≡ true)) 6 (Missing (right ≡ 0) size (Count count (Range size (offset + count)))) (askNumber len v size right offset count)
+    → Clear len 3 v (Missing (right ≡ 0) size (Count count (Range size (offset + count)))) (askNumber len v size right offset count)
 unfolding askNumber
 ask-numbers len v size right offset n =
-    links 6 (not (eqb len 3)) v _ (Missing (right ≡ 0) size (Count n (Range size (offset + n))))
-    (λ e. inl (ne-true _ _ e)) (λ e. inr e) (λ e g. neither (ne-false _ _ e) (λ t. apart _ t g))
-    (λ l c. links 7 (eqb size 0) (eqb right 0) _ (Count n (Range size (offset + n)))
+    clear-number len 3 v _ (Missing (right ≡ 0) size (Count n (Range size (offset + n))))
+    (links 7 (eqb size 0) (eqb right 0) _ (Count n (Range size (offset + n)))
     (λ e. inl (eqb-true _ _ e)) (λ e. inr (eqb-true _ _ e)) (λ e g. neither (eqb-false _ _ e) (eqb-false _ _ g))
-    (λ s r. links 9 (eqb n 0) (ltb 8 n) _ (Range size (offset + n))
-    (λ e h. omega (arith, eqb-true n 0 e)) (λ e h. omega (arith, ltb-true 8 n e)) (λ e g k. k (few n e g))
+    (λ s r. unlesses 9 (eqb n 0) (ltb 8 n) _ (Range size (offset + n))
+    (λ e h. omega (arith, eqb-true n 0 e)) (λ e h. omega (arith, ltb-true 8 n e)) (few n)
     (λ y z. range-number size (offset + n))))
 
 abbrev Queries : ℕ → ℕ → Type 0
-Queries n = First (¬ ((n ≡ 1) ⊎ (n ≡ 5))) 9 Zero
+Queries n = Unless ((n ≡ 1) ⊎ (n ≡ 5)) 9 Zero
 
 one-or-five : (n : ℕ) → Queries n (0 if eqb n 1 else 0 if eqb n 5 else 9)
 one-or-five n =
-    choose (eqb n 1) (eqb n 5) (λ z k. k (inl (eqb-true n 1 z))) (λ z k. k (inr (eqb-true n 5 z)))
+    choose (eqb n 1) (eqb n 5) (λ z. inl (eqb-true n 1 z)) (λ z. inr (eqb-true n 5 z))
     (λ y z. neither (eqb-false n 1 y) (eqb-false n 5 z))
 
 query-numbers : (len first : ℕ) (v : Bool) (count : ℕ)
-    → First (len ≡ 0) 6 (First (first ≢ 0x80) 5 (First ((len ≢ 4) ⊎ (v ≡ true)) 6 (Queries count))) (queryNumber len first v count)
+    → First (len ≡ 0) 6 (Unless (first ≡ 0x80) 5 (Clear len 4 v (Queries count))) (queryNumber len first v count)
 unfolding queryNumber
 query-numbers len first v count =
-    link 6 (eqb len 0) _ (First (first ≢ 0x80) 5 (First ((len ≢ 4) ⊎ (v ≡ true)) 6 (Queries count))) (eqb-true _ _) (eqb-false _ _)
-    (λ l. link 5 (not (eqb first 0x80)) _ (First ((len ≢ 4) ⊎ (v ≡ true)) 6 (Queries count)) (ne-true _ _) (ne-false _ _)
-    (λ b. links 6 (not (eqb len 4)) v _ (Queries count)
-    (λ e. inl (ne-true _ _ e)) (λ e. inr e) (λ e g. neither (ne-false _ _ e) (λ t. apart _ t g))
-    (λ y z. one-or-five count)))
+    link 6 (eqb len 0) _ (Unless (first ≡ 0x80) 5 (Clear len 4 v (Queries count))) (eqb-true _ _) (eqb-false _ _)
+    (λ l. unless 5 (not (eqb first 0x80)) _ (Clear len 4 v (Queries count)) (ne-true _ _) (is-false _ _)
+    (λ b. clear-number len 4 v _ (Queries count) (one-or-five count)))
 
 module _ (d : Directory) (f : Frame) where
   kind-numbers : KindNumber d f (kindNumber d f)
@@ -120,20 +128,20 @@ module _ (d : Directory) (m : List ℕ) (f : Frame) where
   whole : serveNumber d (length m) f
       ≡ (11 if not (soundDirectory d) else 10 if not (eqb (length m) (totalOf d)) else 1 if leb (2 ^ 29) (f .id) else 2 if not (eqb (idSpare (f .id)) 0)
       else 3 if ltb 8 (f .len) else 4 if not (eqb (idTo (f .id)) (d .own)) else kindNumber d f)
-  unfolding serveNumber directoryNumber lengthNumber headNumber
-  whole = rw (if-orElse, zero-orElse, if-orElse, zero-orElse, if-orElse, if-orElse, if-orElse, if-orElse, zero-orElse)
+  unfolding serveNumber memoryNumber directoryNumber lengthNumber headNumber
+  whole = rw (if-orElse, zero-orElse, if-orElse, if-orElse, zero-orElse, if-orElse, if-orElse, if-orElse, if-orElse, zero-orElse)
 
   pub serve-numbers : ServeNumber d m f (serveNumber d (length m) f)
   serve-numbers =
-      let r4 = First (idTo (f .id) ≢ d .own) 4 (KindNumber d f) in
+      let r4 = Unless (idTo (f .id) ≡ d .own) 4 (KindNumber d f) in
       let r3 = First (8 < f .len) 3 r4 in
-      let r2 = First (idSpare (f .id) ≢ 0) 2 r3 in
+      let r2 = Unless (idSpare (f .id) ≡ 0) 2 r3 in
       let r1 = First (2 ^ 29 ≤ f .id) 1 r2 in
-      let r10 = First (length m ≢ totalOf d) 10 r1 in
+      let r10 = Unless (length m ≡ totalOf d) 10 r1 in
       rw whole
-      (link 11 _ _ r10 (λ e s. apart _ (says-sound d s) (not-true _ e)) (λ e k. k (sound-says d (not-false _ e)))
-      (λ s. link 10 _ _ r1 (ne-true _ _) (ne-false _ _)
+      (unless 11 _ _ r10 (λ e s. apart _ (says-sound d s) (not-true _ e)) (λ e. sound-says d (not-false _ e))
+      (λ s. unless 10 _ _ r1 (ne-true _ _) (is-false _ _)
       (λ l. link 1 _ _ r2 (leb-true _ _) (le-false _ _)
-      (λ i. link 2 _ _ r3 (ne-true _ _) (ne-false _ _)
+      (λ i. unless 2 _ _ r3 (ne-true _ _) (is-false _ _)
       (λ p. link 3 _ _ r4 (ltb-true _ _) (lt-false _ _)
-      (λ n. link 4 _ _ (KindNumber d f) (ne-true _ _) (ne-false _ _) (λ t. kind-numbers d f)))))))
+      (λ n. unless 4 _ _ (KindNumber d f) (ne-true _ _) (is-false _ _) (λ t. kind-numbers d f)))))))

@@ -7,8 +7,10 @@ use native.Mathlib.Omega.{arith}
 use lib.Dec.{eqb}
 use lib.ListN.{replicate}
 use borrow.Author.Tests.{ltb-false, eq-eqb, eqb-true, not-false}
+use Rattle.wire.specs.Answer.{answer, result}
+use Rattle.wire.proofs.Answers.{answered, means, stands}
 use Rattle.wire.proofs.Orders.{order, if-zero}
-use Rattle.bus.specs.Request.{Request, requestOf, reserved, readNumber, asked, readRequestOf, request, requestNumber, wroteRequest, requestBytesOf}
+use Rattle.bus.specs.Request.{Request, requestOf, reserved, readNumber, readRequestOf, noRequest, askedAnswer, request, requestNumber, wroteRequest, requestBytesOf}
 use Rattle.bus.specs.Rows.{ReadAfterWrite}
 use Rattle.bus.specs.declared.Asked.{Asked}
 use Rattle.bus.specs.declared.Asked.the-variants as A
@@ -45,10 +47,11 @@ pub is-clear : (a c : ℕ) → a / 32 ≡ 0 → c / 16 % 2 ≡ 0 → reserved a 
 unfolding reserved
 is-clear a c h k = rw (h, k)
 
-pub asked-is : (n : ℕ) (x q : Request) → asked n x ≡ A.Is q → (n ≡ 0) × (x ≡ q)
-unfolding asked
-asked-is zero x q e = (refl, cc)
-asked-is (suc n) x q e = absurd (let z : _≡_ {A = ℕ} 0 1 = cc in omega arith)
+pub asked-is : (n : ℕ) (x q : Request) → answer A.Is A.Refused n x ≡ A.Is q → (n ≡ 0) × (x ≡ q)
+asked-is = answered A.Is A.Refused (λ n y e. let z : _≡_ {A = ℕ} 0 1 = cc in omega arith) (λ x y e. cc)
+
+pub asked-means : (r : Asked) (n : ℕ) (x : Request) → r ≡ answer A.Is A.Refused n x → (r ≡ answer A.Is A.Refused n x) × (askedAnswer r ≡ result noRequest n x)
+asked-means = means A.Is A.Refused noRequest askedAnswer (λ x. refl) (λ n. refl)
 
 -- the bytes of a request, read
 pub request-back : (q : Request) → Holds q → requestOf (q .table) (q .offset / 8) (q .offset % 8 * 32 + q .count) ≡ q
@@ -60,15 +63,11 @@ request-back q h =
     rw (t, o, n)
 
 pub reads-back : (q : Request) → Holds q → readRequestOf (q .table) (q .offset / 8) (q .offset % 8 * 32 + q .count) ≡ A.Is q
-unfolding readRequestOf readNumber asked
+unfolding readRequestOf readNumber
 reads-back q h =
     let z : reserved (q .table) (q .offset % 8 * 32 + q .count) ≡ false = is-clear _ _ (omega arith) (omega arith) in
     let n : 0 ≡ readNumber (q .table) (q .offset % 8 * 32 + q .count) = search order depth 6 in
-    go _ (sym n)
-  where
-    go : (m : ℕ) → m ≡ 0 → asked m (requestOf (q .table) (q .offset / 8) (q .offset % 8 * 32 + q .count)) ≡ A.Is q
-    go zero e = ap A.Is (request-back q h)
-    go (suc m) e = absurd (omega arith)
+    sym (stands A.Is A.Refused _ _ _ (sym n) (sym (request-back q h)))
 
 -- bytes with clear reserved bits, read and written again
 module _ (a b c : ℕ) (ha : a < 256) (hb : b < 256) (hc : c < 256) (clean : reserved a c ≡ false) where
@@ -112,17 +111,6 @@ read-after-write q e a b c k = go (requestNumber q) refl e k
         let ec : q .offset % 8 * 32 + q .count ≡ c = cc in
         rw (← ea, ← eb, ← ec) (reads-back q (holds q n))
     go (suc m) n z l = absurd (omega arith)
-
--- a number and a request, as a function's two answers
-pub asked-no : (k n : ℕ) (x : Request) → k ≡ n → (k ≡ 0 → ⊥) → A.Refused k ≡ asked n x
-unfolding asked
-asked-no k zero x e h = absurd (h e)
-asked-no k (suc n) x e h = ap A.Refused e
-
-pub asked-yes : (k n : ℕ) (x y : Request) → k ≡ n → k ≡ 0 → y ≡ x → A.Is y ≡ asked n x
-unfolding asked
-asked-yes k zero x y e h v = ap A.Is v
-asked-yes k (suc n) x y e h v = absurd (omega arith)
 
 -- the number of request bytes, by their reserved bits
 pub read-no : (a c : ℕ) → reserved a c ≡ true → 6 ≡ readNumber a c

@@ -5,8 +5,10 @@ use mathlib.Core.List.{List, [], _++_}
 use lib.Dec.{leb, ltb, eqb}
 use lib.ListN.{length, take, replicate}
 use Rattle.wire.specs.Order.{_if_else_}
-use Rattle.bus.specs.Ident.{idSpare, idTo, partsOf, unpacked}
+use Rattle.wire.specs.Answer.{answer}
+use Rattle.bus.specs.Ident.{idSpare, idTo, partsOf}
 use Rattle.bus.specs.declared.Unpacked.{Unpacked}
+use Rattle.bus.specs.declared.Unpacked.the-variants as U
 pub use Rattle.bus.specs.declared.Frame.{Frame}
 
 -- the types: 0 CMD, 1 REQ, 2 RSP, 7 XTND
@@ -38,7 +40,7 @@ frameOf id bs = record { id = id; len = length bs; bytes = padded bs }
 unfoldable pub noFrame : Frame
 noFrame = record { id = 0; len = 0; bytes = replicate 8 0 }
 
--- what every receiver looks at first. 1: identifier 2^29 or more; 2: spare bits set; 3: frame length over 8; 4: to another device
+-- what every receiver of an own number 0..15 looks at first. 1: identifier 2^29 or more; 2: spare bits set; 3: frame length over 8; 4: to another device
 unfoldable pub headNumber : ℕ → Frame → ℕ
 headNumber own f =
     1 if leb (2 ^ 29) (f .id)
@@ -47,6 +49,10 @@ headNumber own f =
     else 4 if not (eqb (idTo (f .id)) own)
     else 0
 
+-- 11: own number unsound; then 1, 2, 3, 4
+unfoldable pub receiveNumber : ℕ → Frame → ℕ
+receiveNumber own f = 11 if ltb 15 own else headNumber own f
+
 -- the parts of a frame's identifier, unless a receiver of this own number refuses it
 unfoldable pub headOf : ℕ → Frame → Unpacked
-headOf own f = unpacked (headNumber own f) (partsOf (f .id))
+headOf own f = answer U.Is U.Refused (receiveNumber own f) (partsOf (f .id))

@@ -21,26 +21,22 @@ sizeOf d k = getD (d .sizes) k 0
 unfoldable pub rightOf : Directory → ℕ → ℕ
 rightOf d k = getD (d .rights) k 0
 
--- the sum of the first k numbers of a list
-unfoldable pub sumTo : List ℕ → ℕ → ℕ
-sumTo l zero = 0
-sumTo l (suc k) = sumTo l k + getD l k 0
-
 -- 32 tables lie back to back; table k starts at the sum of the sizes before it
 unfoldable pub startOf : Directory → ℕ → ℕ
-startOf d k = sumTo (d .sizes) k
+startOf d zero = 0
+startOf d (suc k) = startOf d k + sizeOf d k
 
 unfoldable pub totalOf : Directory → ℕ
 totalOf d = startOf d 32
 
 -- of the first n tables: size 0..2,056, right 0 none, 1 read, 2 read and write
-unfoldable pub soundTables : (sizes rights : List ℕ) → ℕ → Bool
-soundTables sizes rights zero = true
-soundTables sizes rights (suc n) = soundTables sizes rights n && leb (getD sizes n 0) 2056 && leb (getD rights n 0) 2
+unfoldable pub soundTables : Directory → ℕ → Bool
+soundTables d zero = true
+soundTables d (suc n) = soundTables d n && leb (sizeOf d n) 2056 && leb (rightOf d n) 2
 
 -- total at most 32,768, own number 0..15
 unfoldable pub soundDirectory : Directory → Bool
-soundDirectory d = leb (d .own) 15 && soundTables (d .sizes) (d .rights) 32 && leb (totalOf d) 32768
+soundDirectory d = leb (d .own) 15 && soundTables d 32 && leb (totalOf d) 32768
 
 -- 11: directory or own number unsound
 unfoldable pub directoryNumber : Directory → ℕ
@@ -49,6 +45,10 @@ directoryNumber d = 11 if not (soundDirectory d) else 0
 -- 10: lent memory of wrong length. Memory has exactly the total length
 unfoldable pub lengthNumber : Directory → ℕ → ℕ
 lengthNumber d n = 10 if not (eqb n (totalOf d)) else 0
+
+-- 11, 10: what is judged of the directory and the memory's length n
+unfoldable pub memoryNumber : Directory → ℕ → ℕ
+memoryNumber d n = directoryNumber d orElse lengthNumber d n
 
 -- ── Refusals by type. 6: length or reserved request bits wrong; 7: table empty, or lacks the right; 9: count not allowed;
 -- 8: range past its end ──────────────────────────────────────────────────────────────────────────────────────────────
@@ -96,12 +96,12 @@ requestAt f i = requestOf (byteOf f i) (byteOf f (1 + i)) (byteOf f (2 + i))
 unfoldable pub reservedAt : Frame → ℕ → Bool
 reservedAt f i = reserved (byteOf f i) (byteOf f (2 + i))
 
--- the addressed table, and its size and right
+-- the addressed table
 abbrev pub tableOf : Frame → ℕ
 tableOf f = idTable (f .id)
 
 -- by a frame's type: CMD, REQ, XTND, or another
-abbrev pub byKind : {A : Type 0} → ℕ → A → A → A → A → A
+unfoldable pub byKind : {A : Type 0} → ℕ → A → A → A → A → A
 byKind k c r x other = cond (eqb k cmd) c (cond (eqb k req) r (cond (eqb k xtnd) x other))
 
 -- 5 (type not served: RSP gets 5 here), 6, 7, 9, 8
@@ -115,7 +115,7 @@ kindNumber d f =
 
 -- Order: 11, 10, 1, 2, 3, 4, 5, 6, 7, 9, 8, with one exception: XTND of length 0 is 6. n is the memory's length
 unfoldable pub serveNumber : Directory → ℕ → Frame → ℕ
-serveNumber d n f = directoryNumber d orElse lengthNumber d n orElse headNumber (d .own) f orElse kindNumber d f
+serveNumber d n f = memoryNumber d n orElse headNumber (d .own) f orElse kindNumber d f
 
 -- ── Answers ────────────────────────────────────────────────────────────────────────────────────────────────────────
 
@@ -139,7 +139,8 @@ placeOf d f = startOf d (tableOf f) + idOffset (f .id)
 unfoldable pub protocol : Directory → List ℕ
 protocol d = 2 ∷ (bytesOf 2 (d .«table_blocking») ++ bytesOf 2 (d .«write_blocking»))
 
--- of a frame that is not refused: the answer, and the memory after it. CMD stores the bytes at the offset
+-- of a frame that is not refused: the answer, and the memory after it. CMD stores the bytes at the offset. (Another type is refused
+-- with 5 before.)
 unfoldable pub actOf : Directory → List ℕ → Frame → Served
 actOf d m f =
     byKind (idKind (f .id))

@@ -1,8 +1,9 @@
 -- 01 "Identifier and frame": the 29-bit identifier, by sums, quotients and remainders.
-use Prim.Native.Nat.{ℕ, zero, suc, _+_, _*_, _/_, _%_, _^_}
+use Prim.Native.Nat.{ℕ, _+_, _*_, _/_, _%_, _^_}
 use mathlib.Core.Bool.{not}
 use lib.Dec.{leb, ltb, eqb}
 use Rattle.wire.specs.Order.{_if_else_}
+use Rattle.wire.specs.Answer.{answer}
 pub use Rattle.bus.specs.declared.Parts.{Parts}
 use Rattle.bus.specs.declared.Packed.{Packed}
 use Rattle.bus.specs.declared.Packed.the-variants as P
@@ -45,7 +46,8 @@ unfoldable pub idOf : (offset kind from to table : ℕ) → ℕ
 idOf offset kind from to table =
     table / 16 * 2 ^ 2 + table % 16 * 2 ^ 3 + to * 2 ^ 7 + from * 2 ^ 11 + kind * 2 ^ 15 + offset * 2 ^ 18
 
--- parts that no row holds. 01 gives no number for them; ours are those of its opening: 5 type, 7 device or table, 8 offset
+-- parts that no row holds. 01 gives no number for them; ours: 5 for a type over 7, then as in the bridge's opening 7 for a device or
+-- a table and 8 for the offset
 unfoldable pub packNumber : Parts → ℕ
 packNumber p =
     5 if ltb 7 (p .kind)
@@ -55,37 +57,28 @@ packNumber p =
     else 8 if ltb 2047 (p .offset)
     else 0
 
-unfoldable pub packed : ℕ → ℕ → Packed
-packed zero id = P.Is id
-packed (suc n) id = P.Refused (suc n)
+-- the identifier of parts
+abbrev pub idIn : Parts → ℕ
+idIn p = idOf (p .offset) (p .kind) (p .from) (p .to) (p .table)
 
 unfoldable pub packOf : Parts → Packed
-packOf p = packed (packNumber p) (idOf (p .offset) (p .kind) (p .from) (p .to) (p .table))
+packOf p = answer P.Is P.Refused (packNumber p) (idIn p)
 
 -- 1: identifier 2^29 or more; 2: spare bits set
 unfoldable pub unpackNumber : ℕ → ℕ
 unpackNumber id = 1 if leb (2 ^ 29) id else 2 if not (eqb (idSpare id) 0) else 0
 
-unfoldable pub unpacked : ℕ → Parts → Unpacked
-unpacked zero p = U.Is p
-unpacked (suc n) p = U.Refused (suc n)
-
 unfoldable pub unpackOf : ℕ → Unpacked
-unpackOf id = unpacked (unpackNumber id) (partsOf id)
+unpackOf id = answer U.Is U.Refused (unpackNumber id) (partsOf id)
 
--- the paper's number and values of each answer: in a refusal every other number is 0
-abbrev pub packedNumber : Packed → ℕ
-packedNumber (P.Is id) = 0
-packedNumber (P.Refused n) = n
+-- the paper's number and values of each case: in a refusal every other number is 0
+abbrev pub packedAnswer : Packed → ℕ × ℕ
+packedAnswer (P.Is id) = (0, id)
+packedAnswer (P.Refused n) = (n, 0)
 
-abbrev pub packedId : Packed → ℕ
-packedId (P.Is id) = id
-packedId (P.Refused n) = 0
+abbrev pub noParts : Parts
+noParts = record { offset = 0; kind = 0; from = 0; to = 0; table = 0 }
 
-abbrev pub unpackedNumber : Unpacked → ℕ
-unpackedNumber (U.Is p) = 0
-unpackedNumber (U.Refused n) = n
-
-abbrev pub unpackedParts : Unpacked → Parts
-unpackedParts (U.Is p) = p
-unpackedParts (U.Refused n) = record { offset = 0; kind = 0; from = 0; to = 0; table = 0 }
+abbrev pub unpackedAnswer : Unpacked → ℕ × Parts
+unpackedAnswer (U.Is p) = (0, p)
+unpackedAnswer (U.Refused n) = (n, noParts)

@@ -5,13 +5,14 @@ use mathlib.Core.List.{List, [], _∷_}
 use lib.Dec.{ltb, eqb}
 use lib.ListN.{replicate}
 use Rattle.wire.specs.Order.{_if_else_}
+use Rattle.wire.specs.Answer.{answer}
 pub use Rattle.bus.specs.declared.Request.{Request}
 use Rattle.bus.specs.declared.Asked.{Asked}
 use Rattle.bus.specs.declared.Asked.the-variants as A
 use Rattle.bus.specs.declared.RequestBytes.{RequestBytes}
 
 -- the first byte is the reply's table (top three bits 0); the second is the reply offset divided by 8; the third holds the
--- offset's low three bits in bits 7-5, 0 in bit 4, the count in bits 3-0
+-- offset's low three bits in bits 7-5, 0 in bit 4, the count in bits 3-0. The reserved bits are not looked at here
 unfoldable pub requestOf : (a b c : ℕ) → Request
 requestOf a b c = record { table = a % 32; offset = b * 8 + c / 32; count = c % 16 }
 
@@ -23,21 +24,16 @@ reserved a c = not (eqb (a / 32) 0) || not (eqb (c / 16 % 2) 0)
 unfoldable pub readNumber : (a c : ℕ) → ℕ
 readNumber a c = 6 if reserved a c else 0
 
-unfoldable pub asked : ℕ → Request → Asked
-asked zero q = A.Is q
-asked (suc n) q = A.Refused (suc n)
-
 unfoldable pub readRequestOf : (a b c : ℕ) → Asked
-readRequestOf a b c = asked (readNumber a c) (requestOf a b c)
+readRequestOf a b c = answer A.Is A.Refused (readNumber a c) (requestOf a b c)
 
--- the paper's number and values of each answer
-abbrev pub askedNumber : Asked → ℕ
-askedNumber (A.Is q) = 0
-askedNumber (A.Refused n) = n
+-- the paper's number and values of each case
+abbrev pub noRequest : Request
+noRequest = record { table = 0; offset = 0; count = 0 }
 
-abbrev pub askedRequest : Asked → Request
-askedRequest (A.Is q) = q
-askedRequest (A.Refused n) = record { table = 0; offset = 0; count = 0 }
+abbrev pub askedAnswer : Asked → ℕ × Request
+askedAnswer (A.Is q) = (0, q)
+askedAnswer (A.Refused n) = (n, noRequest)
 
 -- the bytes that ask for a count of bytes to a table and an offset
 unfoldable pub request : (table offset count : ℕ) → List ℕ

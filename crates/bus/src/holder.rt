@@ -1,10 +1,14 @@
 // The table holder.
+use crate::CMD;
 use crate::Directory;
 use crate::Frame;
+use crate::REQ;
+use crate::RSP;
 use crate::Request;
 use crate::Served;
-use crate::ident::head_number;
+use crate::XTND;
 use crate::rows::from_of;
+use crate::rows::head_number;
 use crate::rows::id_of;
 use crate::rows::is_reserved;
 use crate::rows::kind_of;
@@ -17,7 +21,7 @@ ghost use mathlib.Core.List.{List};
 ghost use lib.ListN.{length, take, drop};
 ghost use lib.Seq.{sets};
 ghost use Rattle.bus.specs.Frames.{padded};
-ghost use Rattle.bus.specs.Holder.{startOf, totalOf, soundTables, soundDirectory, directoryNumber, lengthNumber, commandNumber, askNumber, queryNumber, kindNumber, serveNumber, byteOf, requestAt, noAnswer, replyTo, placeOf, protocol, actOf, memoryAct, serveOf, memoryOf};
+ghost use Rattle.bus.specs.Holder.{startOf, totalOf, soundTables, soundDirectory, directoryNumber, lengthNumber, memoryNumber, commandNumber, askNumber, queryNumber, kindNumber, serveNumber, byteOf, requestAt, noAnswer, replyTo, placeOf, protocol, actOf, memoryAct, serveOf, memoryOf};
 ghost use Rattle.bus.specs.Demand2.{Demand2};
 
 // Where table k starts: the sum of the sizes before it.
@@ -25,27 +29,24 @@ fn start(d: Directory, k: usize) -> usize
     requires { ⌜ k ≤ 32 ⌝ }
     ensures { λ r. ⌜ (r ≡ startOf d k) × (r ≤ 65535 * k) ⌝ }
 {
-    let sizes = d.sizes;
     let mut sum: usize = 0;
     let mut i = 0;
     while i < k {
-        sum += sizes[i] as usize;
+        sum += d.sizes[i] as usize;
         i += 1;
     }
     sum
 }
 
 fn tables_sound(d: Directory) -> bool
-    ensures { λ r. ⌜ r ≡ soundTables (d .sizes) (d .rights) 32 ⌝ }
+    ensures { λ r. ⌜ r ≡ soundTables d 32 ⌝ }
 {
-    let sizes = d.sizes;
-    let rights = d.rights;
     let mut i = 0;
     while i < 32 {
-        if 2056 < sizes[i] {
+        if 2056 < d.sizes[i] {
             return false;
         }
-        if 2 < rights[i] {
+        if 2 < d.rights[i] {
             return false;
         }
         i += 1;
@@ -69,14 +70,24 @@ pub fn directory_number(d: Directory) -> u8
     0
 }
 
-// 10 for memory of another length n than the directory's total, else 0.
-pub fn length_number(d: Directory, n: usize) -> u8
+fn length_number(d: Directory, n: usize) -> u8
     ensures { λ r. ⌜ r ≡ lengthNumber d n ⌝ }
 {
     if n != start(d, 32) {
         return 10;
     }
     0
+}
+
+// 11 for an unsound directory, 10 for memory of another length n than its total, else 0.
+pub fn memory_number(d: Directory, n: usize) -> u8
+    ensures { λ r. ⌜ r ≡ memoryNumber d n ⌝ }
+{
+    let number = directory_number(d);
+    if number != 0 {
+        return number;
+    }
+    length_number(d, n)
 }
 
 fn command_number(len: u8, size: u16, right: u8, offset: u16) -> u8
@@ -154,17 +165,17 @@ fn kind_number(d: Directory, f: Frame) -> u8
 {
     let id = f.id;
     let kind = kind_of(id);
-    if kind == 7 {
+    if kind == XTND {
         let reserved = is_reserved(f.bytes[1], f.bytes[3]);
         return query_number(f.len, f.bytes[0], reserved, f.bytes[3] % 16);
     }
     let t = table_of(id) as usize;
     let size = d.sizes[t];
     let right = d.rights[t];
-    if kind == 0 {
+    if kind == CMD {
         return command_number(f.len, size, right, offset_of(id));
     }
-    if kind == 1 {
+    if kind == REQ {
         let reserved = is_reserved(f.bytes[0], f.bytes[2]);
         return ask_number(f.len, reserved, size, right, offset_of(id), f.bytes[2] % 16);
     }
@@ -175,13 +186,9 @@ fn kind_number(d: Directory, f: Frame) -> u8
 fn serve_number(d: Directory, n: usize, f: Frame) -> u8
     ensures { λ r. ⌜ r ≡ serveNumber d n f ⌝ }
 {
-    let directory = directory_number(d);
-    if directory != 0 {
-        return directory;
-    }
-    let length = length_number(d, n);
-    if length != 0 {
-        return length;
+    let memory = memory_number(d, n);
+    if memory != 0 {
+        return memory;
     }
     let head = head_number(d.own, f);
     if head != 0 {
@@ -220,7 +227,7 @@ fn reply(d: Directory, f: Frame, q: Request, bytes: &[u8]) -> Served
     requires { ⌜ (d .own ≤ 15) × (q .table ≤ 31) × (q .offset ≤ 2047) × (length (now bytes) ≤ 8) × (q .count ≡ length (now bytes)) ⌝ }
     ensures { λ r. ⌜ r ≡ replyTo d f q (now (bytes .entry)) ⌝ }
 {
-    let id = id_of(q.offset, 2, d.own, from_of(f.id), q.table);
+    let id = id_of(q.offset, RSP, d.own, from_of(f.id), q.table);
     Served {
         number: 0,
         answers: 1,
@@ -284,12 +291,12 @@ fn act(d: Directory, memory: &mut [u8], f: Frame) -> Served
     ensures { λ r. ⌜ (r ≡ actOf d (now (memory .entry)) f) × (now (memory .exit) ≡ memoryAct d (now (memory .entry)) f) ⌝ }
 {
     let kind = kind_of(f.id);
-    if kind == 0 {
+    if kind == CMD {
         let bytes = f.bytes;
         store(memory, place(d, f), bytes, f.len as usize);
         return no_answer(0);
     }
-    if kind == 1 {
+    if kind == REQ {
         return answer_ask(d, &memory[..], f);
     }
     answer_query(d, f)
@@ -298,7 +305,7 @@ fn act(d: Directory, memory: &mut [u8], f: Frame) -> Served
 // What the holder of these tables, which lie back to back in memory, does with a frame.
 pub fn serve(d: Directory, memory: &mut [u8], f: Frame) -> Served
     ensures { λ r. ⌜ (r ≡ serveOf d (now (memory .entry)) f) × (now (memory .exit) ≡ memoryOf d (now (memory .entry)) f) ⌝ }
-    ensures demand2 { λ r. ⌜ Demand2 d (now (memory .entry)) f ⌝ }
+    ensures demand2 { λ r. ⌜ Demand2 d (now (memory .entry)) f r (now (memory .exit)) ⌝ }
 {
     let number = serve_number(d, memory.len(), f);
     if number != 0 {

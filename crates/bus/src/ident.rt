@@ -3,12 +3,14 @@ use crate::Frame;
 use crate::Packed;
 use crate::Parts;
 use crate::Unpacked;
+use crate::rows::head_number;
 use crate::rows::id_of;
 use crate::rows::parts_of;
-use crate::rows::to_of;
+use crate::rows::unpack_number;
 ghost use mathlib.Core.Path.{_≡_};
-ghost use Rattle.bus.specs.Ident.{packNumber, packOf, packedNumber, unpackNumber, unpackOf, unpackedNumber};
-ghost use Rattle.bus.specs.Frames.{headNumber, headOf};
+ghost use Rattle.wire.specs.Answer.{result};
+ghost use Rattle.bus.specs.Ident.{idIn, packNumber, packOf, packedAnswer, noParts, partsOf, unpackNumber, unpackOf, unpackedAnswer};
+ghost use Rattle.bus.specs.Frames.{receiveNumber, headOf};
 ghost use Rattle.bus.specs.Rows.{UnpackAfterPack, PackAfterUnpack, RowLaw};
 
 fn pack_number(p: Parts) -> u8
@@ -34,7 +36,7 @@ fn pack_number(p: Parts) -> u8
 
 // The identifier of parts that its rows hold; else 5 (type), 7 (device or table) or 8 (offset).
 pub fn pack(p: Parts) -> Packed
-    ensures { λ r. ⌜ (r ≡ packOf p) × (packedNumber r ≡ packNumber p) ⌝ }
+    ensures { λ r. ⌜ (r ≡ packOf p) × (packedAnswer r ≡ result 0 (packNumber p) (idIn p)) ⌝ }
     ensures back { λ r. ⌜ UnpackAfterPack p r ⌝ }
 {
     let number = pack_number(p);
@@ -44,21 +46,9 @@ pub fn pack(p: Parts) -> Packed
     Packed::Is(id_of(p.offset, p.kind, p.from, p.to, p.table) as u32)
 }
 
-fn unpack_number(id: u32) -> u8
-    ensures { λ r. ⌜ r ≡ unpackNumber id ⌝ }
-{
-    if 536870912 <= id {
-        return 1;
-    }
-    if id % 4 != 0 {
-        return 2;
-    }
-    0
-}
-
-// The parts of a lawful identifier; 1 for 2^29 or more, 2 for spare bits.
+// The parts of a lawful identifier; 1 for 2^29 or more, 2 for spare bits set.
 pub fn unpack(id: u32) -> Unpacked
-    ensures { λ r. ⌜ (r ≡ unpackOf id) × (unpackedNumber r ≡ unpackNumber id) ⌝ }
+    ensures { λ r. ⌜ (r ≡ unpackOf id) × (unpackedAnswer r ≡ result noParts (unpackNumber id) (partsOf id)) ⌝ }
     ensures back { λ r. ⌜ PackAfterUnpack id r ⌝ }
     ensures rows { λ r. ⌜ RowLaw id r ⌝ }
 {
@@ -69,28 +59,20 @@ pub fn unpack(id: u32) -> Unpacked
     Unpacked::Is(parts_of(id))
 }
 
-// 1, 2, 3 and 4, by which every receiver of this own number judges a frame; else 0.
-pub fn head_number(own: u8, f: Frame) -> u8
-    ensures { λ r. ⌜ r ≡ headNumber own f ⌝ }
+fn receive_number(own: u8, f: Frame) -> u8
+    ensures { λ r. ⌜ r ≡ receiveNumber own f ⌝ }
 {
-    let number = unpack_number(f.id);
-    if number != 0 {
-        return number;
+    if 15 < own {
+        return 11;
     }
-    if 8 < f.len {
-        return 3;
-    }
-    if to_of(f.id) != own {
-        return 4;
-    }
-    0
+    head_number(own, f)
 }
 
-// The parts of the identifier of a frame that a receiver of this own number does not refuse; else 1, 2, 3 or 4.
+// The parts of the identifier of a frame that a receiver of this own number does not refuse; else 11 (own number over 15), 1, 2, 3, 4.
 pub fn read_head(own: u8, f: Frame) -> Unpacked
-    ensures { λ r. ⌜ (r ≡ headOf own f) × (unpackedNumber r ≡ headNumber own f) ⌝ }
+    ensures { λ r. ⌜ (r ≡ headOf own f) × (unpackedAnswer r ≡ result noParts (receiveNumber own f) (partsOf (f .id))) ⌝ }
 {
-    let number = head_number(own, f);
+    let number = receive_number(own, f);
     if number != 0 {
         return Unpacked::Refused(number);
     }

@@ -4,7 +4,16 @@ pub mod ident;
 pub mod requests;
 mod rows;
 
-// The parts of an identifier; `kind` is its type: 0 CMD, 1 REQ, 2 RSP, 7 XTND.
+// The types of frames.
+pub const CMD: u8 = 0;
+
+pub const REQ: u8 = 1;
+
+pub const RSP: u8 = 2;
+
+pub const XTND: u8 = 7;
+
+// The parts of an identifier; `kind` is its type.
 #[repr(C)]
 pub struct Parts {
     pub offset: u16,

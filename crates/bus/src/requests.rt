@@ -5,12 +5,13 @@ use crate::RequestBytes;
 use crate::rows::is_reserved;
 use crate::rows::request_of;
 ghost use mathlib.Core.Path.{_≡_};
-ghost use Rattle.bus.specs.Request.{readNumber, readRequestOf, askedNumber, requestNumber, requestBytesOf};
+ghost use Rattle.wire.specs.Answer.{result};
+ghost use Rattle.bus.specs.Request.{requestOf, noRequest, readNumber, readRequestOf, askedAnswer, requestNumber, requestBytesOf};
 ghost use Rattle.bus.specs.Rows.{ReadAfterWrite, WriteAfterRead};
 
 // The request in three bytes; 6 where a reserved bit is set.
 pub fn read_request(a: u8, b: u8, c: u8) -> Asked
-    ensures { λ r. ⌜ (r ≡ readRequestOf a b c) × (askedNumber r ≡ readNumber a c) ⌝ }
+    ensures { λ r. ⌜ (r ≡ readRequestOf a b c) × (askedAnswer r ≡ result noRequest (readNumber a c) (requestOf a b c)) ⌝ }
     ensures back { λ r. ⌜ WriteAfterRead a b c r ⌝ }
 {
     if is_reserved(a, c) {

@@ -1,2 +1,6 @@
 pub mod Layouts
 pub mod Types
+pub mod Raws
+pub mod Finite
+pub mod Scalings
+pub mod Reckonings

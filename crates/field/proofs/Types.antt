@@ -34,3 +34,7 @@ unfolding sizeOf
 size-plain t h =
     let l : List ℕ = 1 ∷ 1 ∷ 2 ∷ 2 ∷ 4 ∷ 4 ∷ 8 ∷ 4 ∷ 0 ∷ 0 ∷ 1 ∷ 2 ∷ 4 ∷ [] in
     rw (← getD-set-other l 6 t 0 0 h) (entry (set l 6 0) t)
+
+-- the size of a known type
+pub size-at : (t k m : ℕ) → t ≡ k → sizeOf k ≡ m → sizeOf t ≡ m
+size-at t k m e s = rw e s

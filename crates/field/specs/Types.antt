@@ -1,8 +1,6 @@
 -- The types of fields. 01: "Types 0-7 are U08, S08, U16, S16, U32, S32, S64, F32; 10, 11, 12 are 8, 16, 32-bit bit fields."
 use Prim.Native.Nat.{ℕ}
-use mathlib.Core.Bool.{Bool, _||_}
-use mathlib.Core.List.{List, [], _∷_}
-use lib.Dec.{eqb, leb}
+use mathlib.Core.List.{[], _∷_}
 use lib.ListN.{getD}
 
 abbrev pub U08 : ℕ

@@ -1,9 +1,16 @@
 // Fields of an MLG: the version's layout, types, raw values and shown values.
 ghost use mathlib.Core.Path.{_≡_};
-ghost use lib.ListN.{getD};
+ghost use Prim.Native.Nat.{_≤_, _<_};
+ghost use lib.ListN.{length, getD};
+ghost use lib.Signed.{mag};
+ghost use lib.Ieee.{binary32, ofInt, ofBits};
+ghost use Rattle.wire.specs.BigEndian.{beOf};
 ghost use Rattle.field.specs.Layout.{served, layoutOf};
 ghost use Rattle.field.specs.Types.{sizeOf};
-ghost use Rattle.field.specs.Field.{typeNumber};
+ghost use Rattle.field.specs.Field.{typeNumber, typeOf, fieldSize};
+ghost use Rattle.field.specs.Raw.{valueFieldNumber, valueNumber, rawOf, rawAt, rawResult, rawAnswer};
+ghost use Rattle.field.specs.Shown.{shows, finite, rawFloat, applied, appliedResult, shownAt, shownResult, shownAnswer};
+ghost use Rattle.field.specs.Shown.{scalingIn, partsNumber, scalingNumber, scalingAt, scalingResult, scalingAnswer};
 
 // Bytes of a header, of the info start in it, and of a field.
 pub struct Layout {
@@ -19,7 +26,7 @@ pub fn is_served(version: u16) -> bool
     version == 2
 }
 
-// The layout of a served version.
+// The layout of a served version; who calls judges the version first.
 pub fn layout_of(version: u16) -> Layout
     ensures { λ r. ⌜ r ≡ layoutOf version ⌝ }
 {
@@ -40,13 +47,14 @@ pub fn size_of(kind: u8) -> u8
     if k < 13 { SIZES[k] } else { 0 }
 }
 
+// The byte at a place, 0 where there is none.
 fn byte_at(s: &[u8], at: usize) -> u8
     ensures { λ r. ⌜ r ≡ getD (now (s .entry)) at 0 ⌝ }
 {
     if at < s.len() { s[at] } else { 0 }
 }
 
-// 24 for a field's type, 24 for a bit field's bits over its width, else 0.
+// 24 for a field's type, 24 for a bit field's bits over its width, else 0; bytes that are not there count as 0.
 pub fn type_number(field: &[u8]) -> u8
     ensures { λ r. ⌜ r ≡ typeNumber (now (field .entry)) ⌝ }
 {
@@ -62,4 +70,235 @@ pub fn type_number(field: &[u8]) -> u8
         return 24;
     }
     0
+}
+
+// A field's raw value, exact; an F32's is its bits.
+pub enum RawValue {
+    Is(i64),
+    Refused(u8),
+}
+
+// 23 for a field of another length than the version's, then its type's number.
+fn field_number(version: u16, field: &[u8]) -> u8
+    ensures { λ r. ⌜ r ≡ valueFieldNumber version (now (field .entry)) ⌝ }
+{
+    let layout = layout_of(version);
+    if field.len() != layout.field {
+        return 23;
+    }
+    type_number(field)
+}
+
+// The same, then 23 for raw bytes of another length than the type's.
+fn value_number(version: u16, field: &[u8], raw: &[u8]) -> u8
+    ensures { λ r. ⌜ r ≡ valueNumber version (now (field .entry)) (now (raw .entry)) ⌝ }
+{
+    let number = field_number(version, field);
+    if number != 0 {
+        return number;
+    }
+    let size = size_of(byte_at(field, 0));
+    if raw.len() != size as usize {
+        return 23;
+    }
+    0
+}
+
+// The whole number that raw bytes of a type make.
+fn raw_of(kind: u8, raw: &[u8]) -> i64
+    requires { ⌜ length (now raw) ≡ sizeOf kind ⌝ }
+    ensures { λ r. ⌜ r ≡ rawOf kind (now (raw .entry)) ⌝ }
+{
+    if kind == 1 {
+        return wire::s08(byte_at(raw, 0));
+    }
+    if kind == 3 {
+        return wire::s16(wire::be16(raw, 0));
+    }
+    if kind == 5 {
+        return wire::s32(wire::be32(raw, 0));
+    }
+    if kind == 6 {
+        return wire::s64(wire::number(raw));
+    }
+    wire::be32(raw, 0) as i64
+}
+
+// A field's raw value, by the field's bytes and its raw bytes.
+pub fn raw_value(field: &[u8], raw: &[u8]) -> RawValue
+    ensures { λ r. ⌜ (r ≡ rawAt 2 (now (field .entry)) (now (raw .entry)))
+        × (rawAnswer r ≡ rawResult 2 (now (field .entry)) (now (raw .entry))) ⌝ }
+{
+    let number = value_number(2, field, raw);
+    if number != 0 {
+        return RawValue::Refused(number);
+    }
+    RawValue::Is(raw_of(byte_at(field, 0), raw))
+}
+
+// A field's scale and transform.
+#[repr(C)]
+pub struct Scaling {
+    pub scale: f32,
+    pub transform: f32,
+}
+
+// A field's scale and transform, or why it has none to apply.
+pub enum FieldScaling {
+    Is(Scaling),
+    Refused(u8),
+}
+
+// A field's shown value.
+pub enum ShownValue {
+    Is(f32),
+    Refused(u8),
+}
+
+// Whether a type has a shown value.
+fn is_shown(kind: u8) -> bool
+    ensures { λ r. ⌜ r ≡ shows kind ⌝ }
+{
+    (kind == 0) | ((kind == 1) | ((kind == 2) | ((kind == 3) | (kind == 7))))
+}
+
+// Whether a pattern is that of a finite f32.
+fn finite_bits(bits: u32) -> bool
+    ensures { λ r. ⌜ r ≡ finite (ofBits binary32 bits) ⌝ }
+{
+    bits % 2147483648 / 8388608 != 255
+}
+
+// Whether an f32 is finite: it lies between the infinities.
+fn is_finite(x: f32) -> bool
+    ensures { λ r. ⌜ r ≡ finite x ⌝ }
+{
+    if x < f32::from_bits(2139095040) {
+        f32::from_bits(4286578688) < x
+    } else {
+        false
+    }
+}
+
+// 30 by the field alone: its type has no shown value, or its transform or scale is not finite.
+fn parts_number(field: &[u8]) -> u8
+    ensures { λ r. ⌜ r ≡ partsNumber (now (field .entry)) ⌝ }
+{
+    if !is_shown(byte_at(field, 0)) {
+        return 30;
+    }
+    if !finite_bits(wire::be32(field, 50)) {
+        return 30;
+    }
+    if !finite_bits(wire::be32(field, 46)) {
+        return 30;
+    }
+    0
+}
+
+// The scale and the transform in a field's bytes.
+fn scaling_in(field: &[u8]) -> Scaling
+    requires { ⌜ partsNumber (now field) ≡ 0 ⌝ }
+    ensures { λ r. ⌜ r ≡ scalingIn (now (field .entry)) ⌝ }
+{
+    Scaling {
+        scale: f32::from_bits(wire::be32(field, 46)),
+        transform: f32::from_bits(wire::be32(field, 50)),
+    }
+}
+
+// 23 or 24 for the field, then 30.
+fn scaling_number(version: u16, field: &[u8]) -> u8
+    ensures { λ r. ⌜ r ≡ scalingNumber version (now (field .entry)) ⌝ }
+{
+    let number = field_number(version, field);
+    if number != 0 {
+        return number;
+    }
+    parts_number(field)
+}
+
+// A field's scale and transform, by its bytes.
+pub fn scaling_of(field: &[u8]) -> FieldScaling
+    ensures { λ r. ⌜ (r ≡ scalingAt 2 (now (field .entry)))
+        × (scalingAnswer r ≡ scalingResult 2 (now (field .entry))) ⌝ }
+{
+    let number = scaling_number(2, field);
+    if number != 0 {
+        return FieldScaling::Refused(number);
+    }
+    FieldScaling::Is(scaling_in(field))
+}
+
+impl Scaling {
+    // The shown value of a raw value: transform added, then times scale.
+    pub fn apply(self, raw: f32) -> ShownValue
+        ensures { λ r. ⌜ (r ≡ applied self raw) × (shownAnswer r ≡ appliedResult self raw) ⌝ }
+    {
+        let sum = raw + self.transform;
+        if !is_finite(sum) {
+            return ShownValue::Refused(30);
+        }
+        let product = sum * self.scale;
+        if !is_finite(product) {
+            return ShownValue::Refused(30);
+        }
+        ShownValue::Is(product)
+    }
+}
+
+// A number of at most 16 bits as an f32, exactly.
+fn as_float(z: i64) -> f32
+    requires { ⌜ mag z < 65536 ⌝ }
+    ensures { λ r. ⌜ r ≡ ofInt binary32 z ⌝ }
+{
+    z as f32
+}
+
+// The shown value of an F32's raw bytes.
+fn shown_float(scaling: Scaling, raw: &[u8]) -> ShownValue
+    requires { ⌜ length (now raw) ≤ 4 ⌝ }
+    ensures { λ r. ⌜ r ≡ applied scaling (ofBits binary32 (beOf (now (raw .entry)))) ⌝ }
+{
+    let bits = wire::be32(raw, 0);
+    if !finite_bits(bits) {
+        return ShownValue::Refused(30);
+    }
+    scaling.apply(f32::from_bits(bits))
+}
+
+// The shown value of the raw bytes of a U08, S08, U16 or S16.
+fn shown_whole(scaling: Scaling, kind: u8, raw: &[u8]) -> ShownValue
+    requires { ⌜ (length (now raw) ≡ sizeOf kind) × (kind < 4) ⌝ }
+    ensures { λ r. ⌜ r ≡ applied scaling (ofInt binary32 (rawOf kind (now (raw .entry)))) ⌝ }
+{
+    scaling.apply(as_float(raw_of(kind, raw)))
+}
+
+// The shown value of a field and raw bytes that no number refuses before sum and product.
+fn shown_of(field: &[u8], raw: &[u8]) -> ShownValue
+    requires { ⌜ (length (now raw) ≡ fieldSize (now field)) × (partsNumber (now field) ≡ 0) ⌝ }
+    ensures { λ r. ⌜ r ≡ applied (scalingIn (now (field .entry))) (rawFloat (typeOf (now (field .entry))) (now (raw .entry))) ⌝ }
+{
+    let scaling = scaling_in(field);
+    let kind = byte_at(field, 0);
+    if kind == 7 {
+        return shown_float(scaling, raw);
+    }
+    shown_whole(scaling, kind, raw)
+}
+
+// A field's shown value, by the field's bytes and its raw bytes.
+pub fn shown_value(field: &[u8], raw: &[u8]) -> ShownValue
+    ensures { λ r. ⌜ (r ≡ shownAt 2 (now (field .entry)) (now (raw .entry)))
+        × (shownAnswer r ≡ shownResult 2 (now (field .entry)) (now (raw .entry))) ⌝ }
+{
+    let number = value_number(2, field, raw);
+    if number != 0 {
+        return ShownValue::Refused(number);
+    }
+    if parts_number(field) != 0 {
+        return ShownValue::Refused(30);
+    }
+    shown_of(field, raw)
 }

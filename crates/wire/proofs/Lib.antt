@@ -1,5 +1,6 @@
 pub mod Orders
 pub mod Firsts
+pub mod Answers
 pub mod Numbers
 pub mod Signs
 pub mod Sums

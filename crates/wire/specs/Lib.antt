@@ -1,5 +1,6 @@
 pub mod Order
 pub mod First
+pub mod Answer
 pub mod BigEndian
 pub mod Sign
 pub mod Sum

@@ -2,7 +2,6 @@ use borrow.Author.Needs.{needs}
 use Rattle.field.proofs.type_number.Statement.{statement}
 use Rattle.field.proofs.type_number.Tie as tie
 use native.Mathlib.Omega.{arith}
-use lib.ListN.{getD}
 use Rattle.wire.proofs.Orders.{order}
 use Rattle.field.specs.Field.{typeNumber}
 use Rattle.field.proofs.Types.{size-most}

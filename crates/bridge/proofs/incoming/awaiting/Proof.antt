@@ -16,7 +16,7 @@ enum-told : tie.Need-enum-told
 enum-told c = search needs
 
 returns : tie.Need-returns
-returns c = content-parts (c .before .before .before .args .b .own) (c .before .before .before .args .f) (c .before .before .before .pre) _ (sym (c .before .before .read-head .ensures .0) ∙ c .enum-told .given .1)
+returns c = content-parts (c .before .before .before .args .b .own) (c .before .before .before .args .f) (c .before .before .before .pre .1) _ (c .before .before .before .pre .0) (sym (c .before .before .read-head .ensures .0) ∙ c .enum-told .given .1)
 
 array-copy-out-awaits : tie.Need-array-copy-out-awaits
 array-copy-out-awaits c = search needs

@@ -20,7 +20,7 @@ returns-2 : tie.Need-returns-2
 returns-2 c = content-zero (c .before .before .before .before .before .before .args .own) (c .before .before .before .before .before .before .args .f) _ (sym (c .before .before .before .before .before .read-head .ensures .0) ∙ c .before .before .before .head .given .1) (c .if1 .left)
 
 returns-3 : tie.Need-returns-3
-returns-3 c = content-refused (c .before .before .before .before .args .own) (c .before .before .before .before .args .f) _ (sym (c .before .before .before .read-head .ensures .0) ∙ c .before .head2 .given .1)
+returns-3 c = content-refused (c .before .before .before .before .args .own) (c .before .before .before .before .args .f) _ (c .before .before .before .before .pre) (sym (c .before .before .before .read-head .ensures .0) ∙ c .before .head2 .given .1)
 
 pub content-number-spec : {M : Type 1} → statement M
 content-number-spec =

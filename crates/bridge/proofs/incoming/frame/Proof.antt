@@ -5,7 +5,7 @@ use mathlib.Core.Path.{sym, _∙_, ap}
 use native.Mathlib.Omega.{arith}
 use Rattle.bus.specs.Frames.{content}
 use Rattle.bridge.specs.Model.{slot}
-use Rattle.bridge.proofs.CodeFrames.{frame-refused, reply-content, reply-len, reply-at, reply-fits, frame-is}
+use Rattle.bridge.proofs.CodeFrames.{frame-refused, reply-own, reply-content, reply-len, reply-at, reply-fits, frame-is}
 
 reply-number-requires : tie.Need-reply-number-requires
 reply-number-requires c κs = search needs
@@ -17,7 +17,10 @@ returns : tie.Need-returns
 returns c = (c .plain .ensures ∙ frame-refused (c .before .before .before .before .args .b) (c .before .before .before .before .args .buffer .now) (c .before .before .before .before .args .f) _ (c .before .before .reply-number .ensures) (c .before .if1 .taken) .0, frame-refused (c .before .before .before .before .args .b) (c .before .before .before .before .args .buffer .now) (c .before .before .before .before .args .f) _ (c .before .before .reply-number .ensures) (c .before .if1 .taken) .1)
 
 awaiting-requires : tie.Need-awaiting-requires
-awaiting-requires c κs = reply-content (c .before .before .before .args .b) (c .before .before .before .args .buffer .now) (c .before .before .before .args .f) (sym (c .before .reply-number .ensures) ∙ c .if1 .left)
+awaiting-requires c κs =
+    let a = c .before .before .before .args in
+    let e = sym (c .before .reply-number .ensures) ∙ c .if1 .left in
+    (reply-own (a .b) (a .buffer .now) (a .f) e, reply-content (a .b) (a .buffer .now) (a .f) e)
 
 mul-x : tie.Need-mul-x
 mul-x c = omega (arith, reply-at (c .before .before .before .before .before .args .b) (c .before .before .before .before .before .args .buffer .now) (c .before .before .before .before .before .args .f) (sym (c .before .before .before .reply-number .ensures) ∙ c .before .before .if1 .left) _ (c .before .awaiting .ensures) .1)

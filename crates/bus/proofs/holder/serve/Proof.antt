@@ -20,7 +20,9 @@ returns : tie.Need-returns
 unfolding byteOf
 returns c = let a = c .before .before .before .before .args in
     let e = refused-case (a .d) (a .memory .now) (a .f) (c .before .before .serve-number .result) (sym (c .before .before .serve-number .ensures)) (c .before .if1 .taken) in
-    ((c .no-answer .ensures ∙ sym (e .0), sym (e .1)), demand2 (a .d) (a .memory .now) (a .f) (record { eight = search needs; bytes = λ i l. let h : Fits w8 (getD (a .f .bytes) i 0) = search needs in omega arith }) (search needs) (search needs))
+    let p = c .no-answer .ensures ∙ sym (e .0) in
+    let q = sym (e .1) in
+    ((p, q), demand2 (a .d) (a .memory .now) (a .f) _ _ p q (record { eight = search needs; bytes = λ i l. let h : Fits w8 (getD (a .f .bytes) i 0) = search needs in omega arith }) (search needs) (search needs))
 
 act-requires : tie.Need-act-requires
 act-requires c κs = search needs
@@ -32,7 +34,9 @@ returns-2 : tie.Need-returns-2
 unfolding byteOf
 returns-2 c = let a = c .before .before .before .before .before .before .before .args in
     let e = served-case (a .d) (a .memory .now) (a .f) (sym (c .before .before .before .before .before .serve-number .ensures) ∙ c .before .before .before .before .if1 .left) in
-    ((c .before .before .act .ensures .0 ∙ sym (e .0), c .before .before .act .ensures .1 ∙ sym (e .1)), demand2 (a .d) (a .memory .now) (a .f) (record { eight = search needs; bytes = λ i l. let h : Fits w8 (getD (a .f .bytes) i 0) = search needs in omega arith }) (search needs) (search needs))
+    let p = c .before .before .act .ensures .0 ∙ sym (e .0) in
+    let q = c .before .before .act .ensures .1 ∙ sym (e .1) in
+    ((p, q), demand2 (a .d) (a .memory .now) (a .f) _ _ p q (record { eight = search needs; bytes = λ i l. let h : Fits w8 (getD (a .f .bytes) i 0) = search needs in omega arith }) (search needs) (search needs))
 
 pub serve-spec : {M : Type 1} → statement M
 serve-spec =

@@ -4,14 +4,18 @@ use Rattle.bus.proofs.ident.pack.Tie as tie
 use mathlib.Core.Path.{_≡_, sym, _∙_}
 use native.Mathlib.Omega.{arith}
 use Rattle.bus.specs.Ident.{packOf, idOf}
-use Rattle.bus.proofs.IdentLaws.{packed-no, packed-yes, some-zero, unpack-after-pack, lawful, id-small}
+use Rattle.wire.proofs.Answers.{refuses, stands}
+use Rattle.bus.proofs.IdentLaws.{packed-means, unpack-after-pack, lawful, id-small}
+use Rattle.bus.specs.declared.Packed.the-variants as P
 
 pack-number-requires : tie.Need-pack-number-requires
 pack-number-requires c κs = search needs
 
 returns : tie.Need-returns
 unfolding packOf
-returns c = let e = packed-no _ _ _ (c .before .pack-number .ensures) (c .if1 .taken) in ((e, c .before .pack-number .ensures), λ id q. unpack-after-pack (c .before .before .args .p) id (sym e ∙ q))
+returns c =
+    let e = packed-means _ _ _ (refuses P.Is P.Refused _ _ _ (c .before .pack-number .ensures) (c .if1 .taken)) in
+    (e, λ id q. unpack-after-pack (c .before .before .args .p) id (sym (e .0) ∙ q))
 
 id-of-requires : tie.Need-id-of-requires
 id-of-requires c κs = search needs
@@ -23,7 +27,9 @@ cast-t5 c = let p = c .before .before .before .args .p in
 
 returns-2 : tie.Need-returns-2
 unfolding packOf
-returns-2 c = let e = packed-yes _ _ _ _ (c .before .before .pack-number .ensures) (c .before .if1 .left) (c .id-of .ensures) in ((e, some-zero _ _ (c .before .before .pack-number .ensures) (c .before .if1 .left)), λ id q. unpack-after-pack (c .before .before .before .args .p) id (sym e ∙ q))
+returns-2 c =
+    let e = packed-means _ _ _ (stands P.Is P.Refused _ _ _ (sym (c .before .before .pack-number .ensures) ∙ c .before .if1 .left) (c .id-of .ensures)) in
+    (e, λ id q. unpack-after-pack (c .before .before .before .args .p) id (sym (e .0) ∙ q))
 
 pub pack-spec : {M : Type 1} → statement M
 pack-spec = tie.close (tie.spec pack-number-requires returns id-of-requires cast-t5 returns-2)

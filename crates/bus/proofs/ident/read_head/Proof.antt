@@ -2,21 +2,25 @@ use borrow.Author.Needs.{needs}
 use Rattle.bus.proofs.ident.read_head.Statement.{statement}
 use Rattle.bus.proofs.ident.read_head.Tie as tie
 use Rattle.bus.specs.Frames.{headOf}
-use Rattle.bus.proofs.IdentLaws.{unpacked-no, unpacked-yes, some-zero}
+use mathlib.Core.Path.{sym, _∙_}
+use Rattle.wire.proofs.Answers.{refuses, stands}
+use Rattle.bus.proofs.IdentLaws.{unpacked-means}
+use Rattle.bus.specs.declared.Unpacked.the-variants as U
 
-head-number-requires : tie.Need-head-number-requires
-head-number-requires c κs = search needs
+receive-number-requires : tie.Need-receive-number-requires
+receive-number-requires c κs = search needs
 
 returns : tie.Need-returns
 unfolding headOf
-returns c = (unpacked-no _ _ _ (c .before .head-number .ensures) (c .if1 .taken), c .before .head-number .ensures)
+returns c = unpacked-means _ _ _ (refuses U.Is U.Refused _ _ _ (c .before .receive-number .ensures) (c .if1 .taken))
 
 parts-of-requires : tie.Need-parts-of-requires
 parts-of-requires c κs = search needs
 
 returns-2 : tie.Need-returns-2
 unfolding headOf
-returns-2 c = (unpacked-yes _ _ _ _ (c .before .before .head-number .ensures) (c .before .if1 .left) (c .parts-of .ensures), some-zero _ _ (c .before .before .head-number .ensures) (c .before .if1 .left))
+returns-2 c =
+    unpacked-means _ _ _ (stands U.Is U.Refused _ _ _ (sym (c .before .before .receive-number .ensures) ∙ c .before .if1 .left) (c .parts-of .ensures))
 
 pub read-head-spec : {M : Type 1} → statement M
-read-head-spec = tie.close (tie.spec head-number-requires returns parts-of-requires returns-2)
+read-head-spec = tie.close (tie.spec receive-number-requires returns parts-of-requires returns-2)

@@ -1,0 +1,490 @@
+//! Tests of the comparison itself: sides with one fault each, which must be found.
+
+use crate::abi::*;
+use crate::judge::Judge;
+use crate::kinds::KINDS;
+use crate::model::{bridge, identifier, mlg, value};
+use crate::rng::Rng;
+use crate::side::{Model, Side};
+
+/// The faults, and the list of all of them.
+macro_rules! faults {
+    ($($name:ident),* $(,)?) => {
+        #[derive(Clone, Copy, Debug, PartialEq)]
+        enum Fault { None, $($name),* }
+        use Fault::*;
+        const FAULTS: &[Fault] = &[$($name),*];
+    };
+}
+
+faults! {
+    // 01, "Tempting and wrong"
+    ScalesBeforeShifting,
+    DropsTableBit4,
+    TakesReplyOfAnyDevice,
+    TakesReplyOfAnyLength,
+    SumsHeaderBytes,
+    ServesSlot0First,
+    // identifier and request bytes
+    SpareBitsBefore2To29,
+    RefusedPartsShown,
+    ReservedBitIgnored,
+    CountOver8InRequestBytes,
+    // holder
+    MemoryLengthBefore11,
+    TotalOf32769,
+    RightNotAsked,
+    RangeBeforeCount,
+    RspServed,
+    XtndLength0Is5,
+    GarbagePastReply,
+    CmdClearsRest,
+    // bridge
+    BufferBeforeState,
+    OpensWithTicket0AtEnd,
+    TakesHighestFreeSlot,
+    NineteenTurns,
+    SendsKeptAfterReply,
+    FreedSlotKeepsTicket,
+    Ticket0Known,
+    BytesOfDoneWrite,
+    ResetKeepsTickets,
+    TurnInPlaceForgets,
+    FrameOverrunsPart,
+    UnsoundSendsTaken,
+    EqualTicketsTaken,
+    ProgressOddTaken,
+    // MLG
+    BeginAtEndRefused,
+    InfoAtBeginTaken,
+    BitsOverWidthTaken,
+    NamesEndAtInfo,
+    SizeBeforeFields,
+    CounterModulo256,
+    WrongCounterRefused,
+    EndIs23,
+    MarkTextOf50,
+    RefusalWithoutPlace,
+    U32AsSigned,
+    NegativeZeroLost,
+    NonFiniteProductShown,
+    ShownOfU32,
+    BitFieldMasked,
+    EmptyInfoHasZero,
+    OutputBeforeReader,
+    WriterTouchesRest,
+    MarkPaddedWithSpaces,
+    TooManyFieldsWritten,
+    // FRD
+    FrdCounterModulo255,
+    FrdBeginFree,
+    FrdTimeWithoutCounter,
+    FrdType0Taken,
+    // listing
+    NoMarkOfWrongCounter,
+    ControlBytesPrinted,
+    TooLongAt65536,
+}
+
+/// The model with one fault.
+struct Faulty(Fault);
+
+impl Faulty {
+    fn has(&self, fault: Fault) -> bool {
+        self.0 == fault
+    }
+}
+
+/// The slot that a frame's offset points into.
+fn awaited(b: &Bridge, frame: &Frame) -> Option<(usize, Parts)> {
+    let parts = identifier::unpack(frame.id).ok()?;
+    let slots = 0..4;
+    let at = |index: &usize| {
+        let slot = &b.slots[*index];
+        slot.phase == WAITING && bridge::place(slot, *index) == parts.offset as usize
+    };
+    Some((slots.into_iter().find(at)?, parts))
+}
+
+impl Side for Faulty {
+    fn pack(&self, mut parts: Parts) -> Packed {
+        if self.has(DropsTableBit4) && parts.table < 32 {
+            parts.table %= 16;
+        }
+        Model.pack(parts)
+    }
+
+    fn unpack(&self, id: u32) -> Unpacked {
+        if self.has(SpareBitsBefore2To29) && id % 4 != 0 {
+            return Unpacked { number: 2, ..Unpacked::default() };
+        }
+        let mut answer = Model.unpack(id);
+        if self.has(RefusedPartsShown) && answer.number != 0 {
+            answer.parts.table = 1;
+        }
+        answer
+    }
+
+    fn read_request(&self, first: u8, second: u8, third: u8) -> Asked {
+        let third = if self.has(ReservedBitIgnored) { third & 0xEF } else { third };
+        Model.read_request(first, second, third)
+    }
+
+    fn request_bytes(&self, request: Request) -> RequestBytes {
+        if self.has(CountOver8InRequestBytes) && request.table < 32 && request.count > 8 {
+            return RequestBytes { number: 9, bytes: [0; 3] };
+        }
+        Model.request_bytes(request)
+    }
+
+    fn serve(&self, mut directory: Directory, memory: &mut [u8], mut frame: Frame) -> Served {
+        let total: usize = directory.sizes.iter().map(|size| *size as usize).sum();
+        let kind = identifier::unpack(frame.id).map(|parts| parts.kind).unwrap_or(9);
+        if self.has(MemoryLengthBefore11) && total != memory.len() {
+            return Served { number: 10, ..Served::default() };
+        }
+        if self.has(TotalOf32769) && total == 32_769 {
+            return Served { number: 1, ..Served::default() };
+        }
+        if self.has(RightNotAsked) && directory.rights.iter().all(|right| *right < 3) {
+            directory.rights = [2; 32];
+        }
+        if self.has(RspServed) && kind == 2 {
+            frame.id &= !(7 << 15);
+        }
+        let before = memory.to_vec();
+        let mut answer = Model.serve(directory, memory, frame);
+        if self.has(RangeBeforeCount) && answer.number == 9 && kind == 1 {
+            answer.number = 8;
+        }
+        if self.has(XtndLength0Is5) && answer.number == 6 && kind == 7 && frame.len == 0 {
+            answer.number = 5;
+        }
+        if self.has(GarbagePastReply) && answer.answers == 1 && answer.frame.len < 8 {
+            answer.frame.bytes[7] = 1;
+        }
+        if self.has(CmdClearsRest) && *memory != before[..] {
+            let parts = identifier::unpack(frame.id).unwrap();
+            let end: usize = directory.sizes[..=parts.table as usize].iter().map(|size| *size as usize).sum();
+            memory[end - 1] = 0;
+        }
+        answer
+    }
+
+    fn open_read(&self, b: Bridge, buffer: &[u8], device: u8, table: u8, offset: u16, count: usize) -> Opened {
+        if self.has(BufferBeforeState) && buffer.len() != 512 {
+            return Opened { bridge: b, ticket: 0, number: 10 };
+        }
+        let mut answer = Model.open_read(b, buffer, device, table, offset, count);
+        if self.has(OpensWithTicket0AtEnd) && answer.number == 13 {
+            answer.number = 0;
+        }
+        if self.has(TakesHighestFreeSlot) && answer.number == 0 {
+            let lowest = b.slots.iter().position(|slot| slot.phase == FREE).unwrap();
+            let highest = b.slots.iter().rposition(|slot| slot.phase == FREE).unwrap();
+            answer.bridge.slots.swap(lowest, highest);
+        }
+        answer
+    }
+
+    fn open_write(&self, b: Bridge, buffer: &mut [u8], device: u8, table: u8, offset: u16, bytes: &[u8]) -> Opened {
+        Model.open_write(b, buffer, device, table, offset, bytes)
+    }
+
+    fn turn(&self, mut b: Bridge, buffer: &[u8]) -> Stepped {
+        let given = b;
+        if self.has(ServesSlot0First) && b.last < 4 {
+            b.last = 3;
+        }
+        let mut answer = Model.turn(b, buffer);
+        if self.has(ServesSlot0First) && answer.answer.answers == 0 {
+            answer.bridge.last = given.last;
+        }
+        if self.has(NineteenTurns) {
+            for slot in answer.bridge.slots.iter_mut().filter(|slot| slot.left == 20) {
+                slot.left = 19;
+            }
+        }
+        if self.has(UnsoundSendsTaken) && answer.answer.number == 11 && b.slots.iter().any(|slot| slot.sends == 4) {
+            answer.answer.number = 0;
+        }
+        answer
+    }
+
+    fn frame_in(&self, b: Bridge, buffer: &mut [u8], mut frame: Frame) -> Stepped {
+        if let (true, Some((index, parts))) = (bridge::sound(&b), awaited(&b, &frame)) {
+            if self.has(TakesReplyOfAnyDevice) {
+                frame.id = identifier::pack(Parts { from: b.slots[index].device, ..parts }).unwrap();
+            }
+            if self.has(TakesReplyOfAnyLength) && frame.len <= 8 {
+                frame.len = bridge::chunk(&b.slots[index]) as u8;
+            }
+        }
+        let mut answer = Model.frame_in(b, buffer, frame);
+        if answer.answer.number == 0 {
+            let (index, _) = awaited(&b, &frame).unwrap();
+            if self.has(SendsKeptAfterReply) && answer.bridge.slots[index].phase == READY {
+                answer.bridge.slots[index].sends = b.slots[index].sends;
+            }
+            if self.has(FrameOverrunsPart) && frame.len < 8 {
+                let end = bridge::place(&b.slots[index], index) + frame.len as usize;
+                buffer[end % 512] = frame.bytes[7];
+            }
+        }
+        answer
+    }
+
+    fn status(&self, b: Bridge, ticket: u32) -> u8 {
+        let number = Model.status(b, ticket);
+        if self.has(Ticket0Known) && ticket == 0 && number == 14 {
+            return 15;
+        }
+        if self.has(EqualTicketsTaken) && number == 11 && b.own < 16 && b.last < 4 {
+            let held: Vec<&Slot> = b.slots.iter().filter(|slot| slot.phase != FREE).collect();
+            let twice = |slot: &&&Slot| held.iter().filter(|other| other.ticket == slot.ticket).count() > 1;
+            if held.iter().find(twice).is_some() {
+                return 15;
+            }
+        }
+        if self.has(ProgressOddTaken) && number == 11 && b.slots.iter().any(|slot| slot.progress == 1) {
+            return 15;
+        }
+        number
+    }
+
+    fn span(&self, b: Bridge, buffer: &[u8], ticket: u32) -> Span {
+        let mut span = Model.span(b, buffer, ticket);
+        if self.has(BytesOfDoneWrite) && span.number == 0 && span.count == 0 {
+            span.count = 8;
+        }
+        span
+    }
+
+    fn close(&self, b: Bridge, ticket: u32) -> Changed {
+        let mut changed = Model.close(b, ticket);
+        if self.has(FreedSlotKeepsTicket) && changed.number == 0 {
+            let index = b.slots.iter().position(|slot| slot.phase != FREE && slot.ticket == ticket).unwrap();
+            changed.bridge.slots[index].ticket = ticket;
+        }
+        changed
+    }
+
+    fn reset(&self, b: Bridge, own: u8) -> Changed {
+        let mut changed = Model.reset(b, own);
+        if self.has(ResetKeepsTickets) && changed.number == 0 {
+            changed.bridge.tickets = b.tickets;
+        }
+        changed
+    }
+
+    fn turn_in_place(&self, b: &mut Bridge, buffer: &[u8]) -> Served {
+        let before = *b;
+        let answer = Model.turn_in_place(b, buffer);
+        if self.has(TurnInPlaceForgets) && answer.answers == 0 {
+            *b = before;
+        }
+        answer
+    }
+
+    fn frame_in_place(&self, b: &mut Bridge, buffer: &mut [u8], frame: Frame) -> Served {
+        Model.frame_in_place(b, buffer, frame)
+    }
+
+    fn close_in_place(&self, b: &mut Bridge, ticket: u32) -> u8 {
+        Model.close_in_place(b, ticket)
+    }
+
+    fn mlg_read_header(&self, file: &[u8]) -> MlgHeader {
+        let mut answer = Model.mlg_read_header(file);
+        let refused = |number| MlgHeader { number, ..MlgHeader::default() };
+        let begin = if file.len() >= 24 { crate::model::be32(file, 16) as usize } else { 0 };
+        if self.has(BeginAtEndRefused) && answer.number == 0 && begin == file.len() {
+            return refused(23);
+        }
+        if self.has(InfoAtBeginTaken) && answer.number == 23 && crate::model::be32(file, 12) as usize == begin {
+            answer.number = 0;
+        }
+        if self.has(BitsOverWidthTaken) && answer.number == 24 {
+            let count = crate::model::be16(file, 22) as usize;
+            let fields = &file[24..24 + 89 * count];
+            if fields.chunks(89).all(|field| mlg::field_size(field[0]).is_some()) {
+                answer.number = 0;
+            }
+        }
+        if self.has(NamesEndAtInfo) && answer.number == 0 && answer.info != 0 {
+            let fields_end = 24 + 89 * answer.count as usize;
+            for field in file[24..fields_end].chunks(89) {
+                if mlg::is_bit_field(field[0]) && field[51] > 0 && crate::model::be32(field, 47) >= answer.info {
+                    return refused(23);
+                }
+            }
+        }
+        if self.has(SizeBeforeFields) && [24, 28].contains(&answer.number) && file.len() >= 24 {
+            let end = (24 + 89 * crate::model::be16(file, 22) as usize).min(file.len());
+            let sizes = file[24..end].chunks(89).map(|field| mlg::field_size(field[0]).unwrap_or(0));
+            if sizes.sum::<usize>() != crate::model::be16(file, 20) as usize {
+                return refused(23);
+            }
+        }
+        answer
+    }
+
+    fn mlg_read_block(&self, file: &[u8], size: u16, earlier: u64, place: usize) -> MlgBlock {
+        let mut block = Model.mlg_read_block(file, size, earlier, place);
+        if block.number == 0 && block.kind != BLOCK_END {
+            if self.has(CounterModulo256) {
+                block.right = (block.counter as u64 == earlier % 256) as u8;
+            }
+            if self.has(WrongCounterRefused) && block.right == 0 {
+                return MlgBlock { place, number: 23, kind: BLOCK_REFUSED, ..MlgBlock::default() };
+            }
+        }
+        if self.has(SumsHeaderBytes) && block.kind == BLOCK_DATA && block.number == 0 && block.counter > 0 {
+            return MlgBlock { place, number: 26, kind: BLOCK_REFUSED, ..MlgBlock::default() };
+        }
+        if self.has(EndIs23) && block.kind == BLOCK_END {
+            return MlgBlock { place, number: 23, kind: BLOCK_REFUSED, ..MlgBlock::default() };
+        }
+        if self.has(MarkTextOf50) && block.number == 28 {
+            return MlgBlock { start: place + 4, count: 50, kind: BLOCK_MARK, ..MlgBlock::default() };
+        }
+        if self.has(RefusalWithoutPlace) {
+            block.place = 0;
+        }
+        block
+    }
+
+    fn mlg_write_header(&self, out: &mut [u8], time: u32, fields: &[u8], names: &[u8], info: &[u8]) -> Written {
+        let mut answer = Model.mlg_write_header(out, time, fields, names, info);
+        if self.has(EmptyInfoHasZero) && info.is_empty() && answer.number == 0 && out.len() > answer.len {
+            out[answer.len] = 0;
+            answer.len += 1;
+        }
+        if self.has(OutputBeforeReader) && [24, 28].contains(&answer.number) && out.len() < 24 + fields.len() {
+            answer.number = 27;
+        }
+        if self.has(WriterTouchesRest) && answer.number == 0 && out.len() > answer.len {
+            out[answer.len..].fill(0);
+        }
+        if self.has(TooManyFieldsWritten) && answer.number == 23 && fields.len() == 89 * 65_536 {
+            answer.number = 24;
+        }
+        answer
+    }
+
+    fn mlg_write_data(&self, out: &mut [u8], size: u16, earlier: u64, time: u16, record: &[u8]) -> Written {
+        Model.mlg_write_data(out, size, earlier, time, record)
+    }
+
+    fn mlg_write_mark(&self, out: &mut [u8], earlier: u64, time: u16, text: &[u8]) -> Written {
+        let answer = Model.mlg_write_mark(out, earlier, time, text);
+        if self.has(MarkPaddedWithSpaces) && answer.number == 0 {
+            out[4 + text.len()..53].fill(b' ');
+        }
+        answer
+    }
+
+    fn raw_value(&self, field: &[u8], raw: &[u8]) -> Raw {
+        let mut answer = Model.raw_value(field, raw);
+        if answer.number == 0 {
+            if self.has(U32AsSigned) && field[0] == 4 {
+                answer.value = answer.value as i32 as i64;
+            }
+            if self.has(BitFieldMasked) && field[0] >= 10 && field[51] < 32 {
+                answer.value &= (1 << field[51]) - 1;
+            }
+        }
+        answer
+    }
+
+    fn shown_value(&self, field: &[u8], raw: &[u8]) -> Shown {
+        let mut answer = Model.shown_value(field, raw);
+        if self.has(NegativeZeroLost) {
+            answer.value += 0.0;
+        }
+        if self.has(ScalesBeforeShifting) && answer.number == 0 {
+            let value::Scaling { scale, transform } = value::scaling(field);
+            answer.value = Model.raw_value(field, raw).value as f32 * scale + transform;
+        }
+        if self.has(NonFiniteProductShown) && answer.number == 30 && field[0] < 4 {
+            let value::Scaling { scale, transform } = value::scaling(field);
+            let sum = Model.raw_value(field, raw).value as f32 + transform;
+            if sum.is_finite() && scale.is_finite() {
+                answer = Shown { value: sum * scale, number: 0 };
+            }
+        }
+        if self.has(ShownOfU32) && answer.number == 30 && field[0] == 4 {
+            answer.number = 0;
+        }
+        answer
+    }
+
+    fn frd_read_header(&self, file: &[u8]) -> FrdHeader {
+        let mut answer = Model.frd_read_header(file);
+        if self.has(FrdBeginFree) && answer.number == 23 {
+            answer.number = 0;
+        }
+        answer
+    }
+
+    fn frd_read_block(&self, file: &[u8], size: u16, earlier: u64, place: usize) -> FrdBlock {
+        let mut block = Model.frd_read_block(file, size, earlier, place);
+        if self.has(FrdCounterModulo255) && block.number == 0 && block.kind != BLOCK_END {
+            block.right = (block.counter as u64 == earlier % 255) as u8;
+        }
+        if self.has(FrdType0Taken) && block.number == 25 && file[place] == 0 {
+            block.number = 20;
+        }
+        block
+    }
+
+    fn frd_write_header(&self, out: &mut [u8], time: u32, signature: &[u8], size: u16) -> Written {
+        Model.frd_write_header(out, time, signature, size)
+    }
+
+    fn frd_write_data(&self, out: &mut [u8], size: u16, earlier: u64, record: &[u8]) -> Written {
+        Model.frd_write_data(out, size, earlier, record)
+    }
+
+    fn frd_write_time(&self, out: &mut [u8], earlier: u64, time: u32) -> Written {
+        let mut answer = Model.frd_write_time(out, earlier, time);
+        if self.has(FrdTimeWithoutCounter) && answer.number == 0 {
+            out[1..5].copy_from_slice(&time.to_be_bytes());
+            answer.len = 5;
+        }
+        answer
+    }
+
+    fn listing(&self, file: &[u8]) -> Option<Vec<u8>> {
+        if self.has(TooLongAt65536) && file.len() == 65_536 {
+            return Some(b"too long\n".to_vec());
+        }
+        let listing = Model.listing(file)?;
+        let text = String::from_utf8(listing).unwrap();
+        Some(match self.0 {
+            NoMarkOfWrongCounter => text.replace(" !\n", "\n").into_bytes(),
+            ControlBytesPrinted => text.replace('.', "\x7F").into_bytes(),
+            _ => text.into_bytes(),
+        })
+    }
+}
+
+/// Whether a fault is found in at most so many inputs of each kind.
+fn found(fault: Fault, inputs: u64) -> bool {
+    let side = Faulty(fault);
+    let mut judge = Judge::new(&side);
+    KINDS.iter().enumerate().any(|(index, kind)| {
+        (0..inputs).any(|iteration| (kind.run)(&mut Rng::new(1, index as u64, iteration), &mut judge).is_err())
+    })
+}
+
+#[test]
+fn no_fault_no_difference() {
+    assert!(!found(None, 300));
+}
+
+#[test]
+fn every_fault_is_found() {
+    let missed: Vec<Fault> = FAULTS.iter().copied().filter(|fault| !found(*fault, 2500)).collect();
+    assert_eq!(missed, vec![]);
+}

@@ -1,0 +1,188 @@
+//! The library's side: the C ABI of include/honeygimlet.h behind safe wrappers.
+//! Everything that depends on the header's details stands here and in abi.rs.
+
+#![cfg(library)]
+
+use crate::abi::*;
+use crate::side::Side;
+use std::io::Write as _;
+use std::process::{Command, Stdio};
+
+#[rustfmt::skip]
+extern "C" {
+    fn hg_pack(parts: Parts) -> Packed;
+    fn hg_unpack(id: u32) -> Unpacked;
+    fn hg_read_request(first: u8, second: u8, third: u8) -> Asked;
+    fn hg_request_bytes_of(request: Request) -> RequestBytes;
+    fn hg_serve(directory: Directory, memory: *mut u8, len: usize, frame: Frame) -> Served;
+
+    fn hg_open_read(b: Bridge, buffer: *const u8, len: usize, device: u8, table: u8, offset: u16, count: usize) -> Opened;
+    fn hg_open_write(b: Bridge, buffer: *mut u8, len: usize, device: u8, table: u8, offset: u16, bytes: *const u8, count: usize) -> Opened;
+    fn hg_turn(b: Bridge, buffer: *const u8, len: usize) -> Stepped;
+    fn hg_frame_in(b: Bridge, buffer: *mut u8, len: usize, frame: Frame) -> Stepped;
+    fn hg_status(b: Bridge, ticket: u32) -> u8;
+    fn hg_span_of(b: Bridge, buffer: *const u8, len: usize, ticket: u32) -> Span;
+    fn hg_close(b: Bridge, ticket: u32) -> Changed;
+    fn hg_reset(b: Bridge, own: u8) -> Changed;
+    fn hg_turn_in_place(b: *mut Bridge, buffer: *const u8, len: usize) -> Served;
+    fn hg_frame_in_place(b: *mut Bridge, buffer: *mut u8, len: usize, frame: Frame) -> Served;
+    fn hg_close_in_place(b: *mut Bridge, ticket: u32) -> u8;
+
+    fn hg_mlg_read_header(file: *const u8, len: usize) -> MlgHeader;
+    fn hg_mlg_read_block(file: *const u8, len: usize, size: u16, earlier: u64, place: usize) -> MlgBlock;
+    fn hg_mlg_write_header(out: *mut u8, len: usize, time: u32, fields: *const u8, fields_len: usize, names: *const u8, names_len: usize, info: *const u8, info_len: usize) -> Written;
+    fn hg_mlg_write_data(out: *mut u8, len: usize, size: u16, earlier: u64, time: u16, record: *const u8, record_len: usize) -> Written;
+    fn hg_mlg_write_mark(out: *mut u8, len: usize, earlier: u64, time: u16, text: *const u8, text_len: usize) -> Written;
+    fn hg_raw_value(field: *const u8, field_len: usize, raw: *const u8, raw_len: usize) -> Raw;
+    fn hg_shown_value(field: *const u8, field_len: usize, raw: *const u8, raw_len: usize) -> Shown;
+
+    fn hg_frd_read_header(file: *const u8, len: usize) -> FrdHeader;
+    fn hg_frd_read_block(file: *const u8, len: usize, size: u16, earlier: u64, place: usize) -> FrdBlock;
+    fn hg_frd_write_header(out: *mut u8, len: usize, time: u32, signature: *const u8, signature_len: usize, size: u16) -> Written;
+    fn hg_frd_write_data(out: *mut u8, len: usize, size: u16, earlier: u64, record: *const u8, record_len: usize) -> Written;
+    fn hg_frd_write_time(out: *mut u8, len: usize, earlier: u64, time: u32) -> Written;
+}
+
+/// `loglist` is the path of the listing program, where it is to be compared too.
+pub struct Library {
+    pub loglist: Option<String>,
+}
+
+// SAFETY, for all: each pointer comes from a slice with its length, and lives for the call.
+impl Side for Library {
+    fn pack(&self, parts: Parts) -> Packed {
+        unsafe { hg_pack(parts) }
+    }
+
+    fn unpack(&self, id: u32) -> Unpacked {
+        unsafe { hg_unpack(id) }
+    }
+
+    fn read_request(&self, first: u8, second: u8, third: u8) -> Asked {
+        unsafe { hg_read_request(first, second, third) }
+    }
+
+    fn request_bytes(&self, request: Request) -> RequestBytes {
+        unsafe { hg_request_bytes_of(request) }
+    }
+
+    fn serve(&self, directory: Directory, memory: &mut [u8], frame: Frame) -> Served {
+        unsafe { hg_serve(directory, memory.as_mut_ptr(), memory.len(), frame) }
+    }
+
+    fn open_read(&self, b: Bridge, buffer: &[u8], device: u8, table: u8, offset: u16, count: usize) -> Opened {
+        unsafe { hg_open_read(b, buffer.as_ptr(), buffer.len(), device, table, offset, count) }
+    }
+
+    fn open_write(&self, b: Bridge, buffer: &mut [u8], device: u8, table: u8, offset: u16, bytes: &[u8]) -> Opened {
+        let (start, len) = (buffer.as_mut_ptr(), buffer.len());
+        unsafe { hg_open_write(b, start, len, device, table, offset, bytes.as_ptr(), bytes.len()) }
+    }
+
+    fn turn(&self, b: Bridge, buffer: &[u8]) -> Stepped {
+        unsafe { hg_turn(b, buffer.as_ptr(), buffer.len()) }
+    }
+
+    fn frame_in(&self, b: Bridge, buffer: &mut [u8], frame: Frame) -> Stepped {
+        unsafe { hg_frame_in(b, buffer.as_mut_ptr(), buffer.len(), frame) }
+    }
+
+    fn status(&self, b: Bridge, ticket: u32) -> u8 {
+        unsafe { hg_status(b, ticket) }
+    }
+
+    fn span(&self, b: Bridge, buffer: &[u8], ticket: u32) -> Span {
+        unsafe { hg_span_of(b, buffer.as_ptr(), buffer.len(), ticket) }
+    }
+
+    fn close(&self, b: Bridge, ticket: u32) -> Changed {
+        unsafe { hg_close(b, ticket) }
+    }
+
+    fn reset(&self, b: Bridge, own: u8) -> Changed {
+        unsafe { hg_reset(b, own) }
+    }
+
+    fn turn_in_place(&self, b: &mut Bridge, buffer: &[u8]) -> Served {
+        unsafe { hg_turn_in_place(b, buffer.as_ptr(), buffer.len()) }
+    }
+
+    fn frame_in_place(&self, b: &mut Bridge, buffer: &mut [u8], frame: Frame) -> Served {
+        unsafe { hg_frame_in_place(b, buffer.as_mut_ptr(), buffer.len(), frame) }
+    }
+
+    fn close_in_place(&self, b: &mut Bridge, ticket: u32) -> u8 {
+        unsafe { hg_close_in_place(b, ticket) }
+    }
+
+    fn mlg_read_header(&self, file: &[u8]) -> MlgHeader {
+        unsafe { hg_mlg_read_header(file.as_ptr(), file.len()) }
+    }
+
+    fn mlg_read_block(&self, file: &[u8], size: u16, earlier: u64, place: usize) -> MlgBlock {
+        unsafe { hg_mlg_read_block(file.as_ptr(), file.len(), size, earlier, place) }
+    }
+
+    fn mlg_write_header(&self, out: &mut [u8], time: u32, fields: &[u8], names: &[u8], info: &[u8]) -> Written {
+        let (start, len) = (out.as_mut_ptr(), out.len());
+        let (f, n, i) = (fields.as_ptr(), names.as_ptr(), info.as_ptr());
+        unsafe { hg_mlg_write_header(start, len, time, f, fields.len(), n, names.len(), i, info.len()) }
+    }
+
+    fn mlg_write_data(&self, out: &mut [u8], size: u16, earlier: u64, time: u16, record: &[u8]) -> Written {
+        let (start, len) = (out.as_mut_ptr(), out.len());
+        unsafe { hg_mlg_write_data(start, len, size, earlier, time, record.as_ptr(), record.len()) }
+    }
+
+    fn mlg_write_mark(&self, out: &mut [u8], earlier: u64, time: u16, text: &[u8]) -> Written {
+        let (start, len) = (out.as_mut_ptr(), out.len());
+        unsafe { hg_mlg_write_mark(start, len, earlier, time, text.as_ptr(), text.len()) }
+    }
+
+    fn raw_value(&self, field: &[u8], raw: &[u8]) -> Raw {
+        unsafe { hg_raw_value(field.as_ptr(), field.len(), raw.as_ptr(), raw.len()) }
+    }
+
+    fn shown_value(&self, field: &[u8], raw: &[u8]) -> Shown {
+        unsafe { hg_shown_value(field.as_ptr(), field.len(), raw.as_ptr(), raw.len()) }
+    }
+
+    fn frd_read_header(&self, file: &[u8]) -> FrdHeader {
+        unsafe { hg_frd_read_header(file.as_ptr(), file.len()) }
+    }
+
+    fn frd_read_block(&self, file: &[u8], size: u16, earlier: u64, place: usize) -> FrdBlock {
+        unsafe { hg_frd_read_block(file.as_ptr(), file.len(), size, earlier, place) }
+    }
+
+    fn frd_write_header(&self, out: &mut [u8], time: u32, signature: &[u8], size: u16) -> Written {
+        let (start, len) = (out.as_mut_ptr(), out.len());
+        unsafe { hg_frd_write_header(start, len, time, signature.as_ptr(), signature.len(), size) }
+    }
+
+    fn frd_write_data(&self, out: &mut [u8], size: u16, earlier: u64, record: &[u8]) -> Written {
+        let (start, len) = (out.as_mut_ptr(), out.len());
+        unsafe { hg_frd_write_data(start, len, size, earlier, record.as_ptr(), record.len()) }
+    }
+
+    fn frd_write_time(&self, out: &mut [u8], earlier: u64, time: u32) -> Written {
+        unsafe { hg_frd_write_time(out.as_mut_ptr(), out.len(), earlier, time) }
+    }
+
+    /// Runs the listing program on the file.
+    fn listing(&self, file: &[u8]) -> Option<Vec<u8>> {
+        let program = self.loglist.as_ref()?;
+        let mut child = Command::new(program)
+            .stdin(Stdio::piped())
+            .stdout(Stdio::piped())
+            .spawn()
+            .unwrap_or_else(|error| panic!("{program}: {error}"));
+        let mut input = child.stdin.take().unwrap();
+        let bytes = file.to_vec();
+        // the program may stop reading early, so a failing write is no fault here
+        let writer = std::thread::spawn(move || drop(input.write_all(&bytes)));
+        let output = child.wait_with_output().expect("output of the listing program");
+        writer.join().unwrap();
+        Some(output.stdout)
+    }
+}

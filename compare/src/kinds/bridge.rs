@@ -1,0 +1,369 @@
+//! Lists of up to 400 bridge calls: all calls, wrong buffers, unsound states, tickets near
+//! their end, replies right, late, foreign and damaged. State, buffer and answer are
+//! compared after every call; turn, frame and close also in place.
+
+use super::Outcome;
+use crate::abi::*;
+use crate::judge::{Judge, Lent};
+use crate::model::bridge::{chunk, fresh, place};
+use crate::model::{identifier, request, CMD, REQ, RSP};
+use crate::rng::Rng;
+use crate::side::{Model, Side};
+
+#[derive(Clone, Debug)]
+enum Call {
+    OpenRead { device: u8, table: u8, offset: u16, count: usize },
+    OpenWrite { device: u8, table: u8, offset: u16, bytes: Vec<u8> },
+    Turn,
+    Frame(Frame),
+    Status(u32),
+    Bytes(u32),
+    Close(u32),
+    Reset(u8),
+}
+
+/// One call; with another state or buffer than the list's own, the list's stay as they are.
+#[derive(Clone, Debug)]
+struct Step {
+    call: Call,
+    state: Option<Bridge>,
+    buffer: Option<Lent>,
+}
+
+/// How likely things are in a list.
+struct Manner {
+    turns: usize,
+    replies: usize,
+    openings: usize,
+    closings: usize,
+    spoiled: usize,
+    /// Of a hundred frames, how many are made wrong in some way.
+    wrong_frames: usize,
+}
+
+/// What the generator remembers of a list.
+#[derive(Default)]
+struct Past {
+    requests: Vec<Frame>,
+    tickets: Vec<u32>,
+}
+
+pub fn run(rng: &mut Rng, judge: &mut Judge) -> Outcome {
+    let first_state = if rng.percent(50) { fresh(rng.below(16) as u8) } else { random_sound(rng) };
+    let first_buffer = Lent::new(&rng.bytes(512));
+    let manner = Manner {
+        turns: rng.pick(&[20, 45, 70, 90]),
+        replies: rng.pick(&[0, 3, 15, 40]),
+        openings: rng.pick(&[2, 8, 20]),
+        closings: rng.pick(&[0, 2, 6]),
+        spoiled: rng.pick(&[0, 3, 15]),
+        wrong_frames: rng.pick(&[2, 20, 60]),
+    };
+    let mut state = first_state;
+    let mut buffer = first_buffer.clone();
+    let mut past = Past::default();
+    let mut steps = Vec::new();
+    let longest = rng.pick(&[1, 10, 80, 400]);
+    for _ in 0..rng.within(1, longest) {
+        let call = random_call(rng, &manner, &state, &past);
+        let spoil = rng.percent(manner.spoiled);
+        let step = Step {
+            call,
+            state: (spoil && rng.percent(60)).then(|| damaged(rng, &state)),
+            buffer: (spoil && rng.percent(50)).then(|| wrong_buffer(rng)),
+        };
+        steps.push(step.clone());
+        let input = || {
+            let calls: Vec<String> = steps.iter().map(|step| format!("{step:?}")).collect();
+            format!(
+                "first state {first_state:?}\nfirst buffer {first_buffer:?}\ncalls, the last one differs:\n{}\n\
+                 state before the last call {state:?}",
+                calls.join("\n")
+            )
+        };
+        let own = step.state.is_none() && step.buffer.is_none();
+        let given = step.state.unwrap_or(state);
+        let lent = step.buffer.unwrap_or_else(|| buffer.clone());
+        let (after, filled) = compare(judge, &step.call, given, lent, &mut past, &input)?;
+        if own {
+            (state, buffer) = (after, filled);
+        }
+    }
+    Ok(())
+}
+
+/// Runs one call on both sides; hands back the state and buffer afterwards.
+fn compare(
+    judge: &mut Judge, call: &Call, state: Bridge, lent: Lent, past: &mut Past, input: &dyn Fn() -> String,
+) -> Result<(Bridge, Lent), crate::judge::Difference> {
+    let side = judge.library;
+    let mut model = lent.clone();
+    let mut library = lent.clone();
+    let after = match call {
+        Call::OpenRead { device, table, offset, count } => {
+            let one = Model.open_read(state, model.get(), *device, *table, *offset, *count);
+            let other = side.open_read(state, library.get(), *device, *table, *offset, *count);
+            let opened = judge.answer("open_read", one, other, input)?;
+            past.tickets.push(opened.ticket);
+            opened.bridge
+        }
+        Call::OpenWrite { device, table, offset, bytes } => {
+            let written = Lent::new(bytes);
+            let one = Model.open_write(state, model.get_mut(), *device, *table, *offset, bytes);
+            let other = side.open_write(state, library.get_mut(), *device, *table, *offset, written.get());
+            judge.same("bytes lent to open_write", &Lent::new(bytes), &written, input)?;
+            let opened = judge.answer("open_write", one, other, input)?;
+            past.tickets.push(opened.ticket);
+            opened.bridge
+        }
+        Call::Turn => {
+            let one = Model.turn(state, model.get());
+            let other = side.turn(state, library.get());
+            let stepped = judge.answer("turn", one, other, input)?;
+            let (mut here, mut there) = (state, state);
+            let one = Model.turn_in_place(&mut here, model.get());
+            let other = side.turn_in_place(&mut there, library.get());
+            judge.answer("turn_in_place", one, other, input)?;
+            judge.same("state after turn_in_place", &here, &there, input)?;
+            if stepped.answer.answers == 1 && stepped.answer.frame.len == 3 {
+                past.requests.push(stepped.answer.frame);
+            }
+            stepped.bridge
+        }
+        Call::Frame(frame) => {
+            let one = Model.frame_in(state, model.get_mut(), *frame);
+            let other = side.frame_in(state, library.get_mut(), *frame);
+            let stepped = judge.answer("frame_in", one, other, input)?;
+            let (mut here, mut there) = (state, state);
+            let (mut lent_here, mut lent_there) = (lent.clone(), lent.clone());
+            let one = Model.frame_in_place(&mut here, lent_here.get_mut(), *frame);
+            let other = side.frame_in_place(&mut there, lent_there.get_mut(), *frame);
+            judge.answer("frame_in_place", one, other, input)?;
+            judge.same("state after frame_in_place", &here, &there, input)?;
+            judge.same("buffer after frame_in_place", &lent_here, &lent_there, input)?;
+            stepped.bridge
+        }
+        Call::Status(ticket) => {
+            judge.answer("status", Model.status(state, *ticket), side.status(state, *ticket), input)?;
+            state
+        }
+        Call::Bytes(ticket) => {
+            let one = Model.span(state, model.get(), *ticket);
+            let other = side.span(state, library.get(), *ticket);
+            judge.answer("bytes", one, other, input)?;
+            state
+        }
+        Call::Close(ticket) => {
+            let changed = judge.answer("close", Model.close(state, *ticket), side.close(state, *ticket), input)?;
+            let (mut here, mut there) = (state, state);
+            let one = Model.close_in_place(&mut here, *ticket);
+            let other = side.close_in_place(&mut there, *ticket);
+            judge.answer("close_in_place", one, other, input)?;
+            judge.same("state after close_in_place", &here, &there, input)?;
+            changed.bridge
+        }
+        Call::Reset(own) => judge.answer("reset", Model.reset(state, *own), side.reset(state, *own), input)?.bridge,
+    };
+    judge.same("buffer afterwards", &model, &library, input)?;
+    Ok((after, model))
+}
+
+fn random_call(rng: &mut Rng, manner: &Manner, state: &Bridge, past: &Past) -> Call {
+    let weights = [manner.turns, manner.replies, manner.openings, manner.closings, 4, 4];
+    let mut at = rng.below(weights.iter().sum());
+    let mut choice = 0;
+    while at >= weights[choice] {
+        at -= weights[choice];
+        choice += 1;
+    }
+    match choice {
+        0 => Call::Turn,
+        // without a waiting read, mostly a turn, so that one may come to wait
+        1 if rng.percent(70) && state.slots.iter().all(|slot| slot.phase != WAITING) => Call::Turn,
+        1 => Call::Frame(random_reply(rng, manner, state, past)),
+        2 => random_opening(rng),
+        3 if rng.one_in(12) => Call::Reset(rng.pick(&[0, 1, 7, 15, 15, 16, 255])),
+        3 => Call::Close(random_ticket(rng, state, past)),
+        4 => Call::Status(random_ticket(rng, state, past)),
+        _ => Call::Bytes(random_ticket(rng, state, past)),
+    }
+}
+
+fn random_count(rng: &mut Rng) -> usize {
+    match rng.below(3) {
+        0 => rng.within(1, 128),
+        1 => rng.within(1, 24),
+        _ => rng.pick(&[1, 7, 8, 9, 15, 16, 17, 120, 121, 127, 128]),
+    }
+}
+
+fn random_opening(rng: &mut Rng) -> Call {
+    let mut device = rng.below(16) as u8;
+    let mut table = rng.below(32) as u8;
+    let mut count = random_count(rng);
+    let mut offset = if rng.percent(50) { rng.below(2049 - count) } else { rng.pick(&[0, 2048 - count]) } as u16;
+    for _ in 0..rng.pick(&[0, 0, 0, 0, 1, 1, 2]) {
+        match rng.below(4) {
+            0 => device = rng.pick(&[15, 16, 255]),
+            1 => table = rng.pick(&[31, 32, 255]),
+            2 => count = rng.pick(&[0, 129, 130, 256, 257, 300]),
+            _ => offset = rng.pick(&[2047, 2048, 2049 - count.min(2049), 65_535, 65_408]) as u16,
+        }
+    }
+    if rng.percent(50) {
+        let huge = rng.pick(&[256 + count, 1 << 32, (1 << 32) + count, usize::MAX, usize::MAX - 100]);
+        Call::OpenRead { device, table, offset, count: if rng.one_in(40) { huge } else { count } }
+    } else {
+        Call::OpenWrite { device, table, offset, bytes: rng.bytes(count) }
+    }
+}
+
+fn random_ticket(rng: &mut Rng, state: &Bridge, past: &Past) -> u32 {
+    match rng.below(12) {
+        0 => 0,
+        1 => state.tickets,
+        2 => state.tickets.wrapping_add(1),
+        3 => rng.u32(),
+        4 | 5 if !past.tickets.is_empty() => rng.pick(&past.tickets),
+        _ => {
+            let held: Vec<u32> = state.slots.iter().map(|slot| slot.ticket).filter(|ticket| *ticket != 0).collect();
+            if held.is_empty() {
+                1
+            } else {
+                rng.pick(&held)
+            }
+        }
+    }
+}
+
+/// A frame for the bridge: the awaited reply of a waiting read, or something near it.
+fn random_reply(rng: &mut Rng, manner: &Manner, state: &Bridge, past: &Past) -> Frame {
+    let waiting: Vec<usize> = (0..4).filter(|index| state.slots[*index].phase == WAITING).collect();
+    let index = if waiting.is_empty() { rng.below(4) } else { rng.pick(&waiting) };
+    let slot = state.slots[index];
+    let mut parts = Parts { offset: place(&slot, index) as u16, kind: RSP, from: slot.device, to: state.own, table: 6 };
+    let mut len = chunk(&slot) as u8;
+    if rng.percent(manner.wrong_frames / 2) && !past.requests.is_empty() {
+        // the device's reply to a request sent earlier, perhaps late or given already
+        let sent = rng.pick(&past.requests);
+        let asked = request::read(sent.bytes[0], sent.bytes[1], sent.bytes[2]).unwrap_or_default();
+        let to = identifier::unpack(sent.id).unwrap();
+        if asked.count <= 8 {
+            parts = Parts { offset: asked.offset, kind: RSP, from: to.to, to: to.from, table: asked.table };
+            len = asked.count;
+        }
+    }
+    if rng.percent(manner.wrong_frames) {
+        match rng.below(9) {
+            0 => parts.from = rng.below(16) as u8,
+            1 => parts.to = rng.below(16) as u8,
+            2 => parts.table = rng.pick(&[5, 6, 7, 22, 0]),
+            3 => parts.kind = rng.pick(&[CMD, REQ, 3, 4, 5, 6, 7]),
+            4 => parts.offset = (parts.offset + rng.pick(&[1, 8, 128, 2040, 512])) % 2048,
+            5 => parts.offset ^= 1 << rng.below(11),
+            6 => len = rng.below(9) as u8,
+            7 => len = rng.pick(&[8, 9, 16, 255]),
+            _ => parts.offset = rng.below(512) as u16,
+        }
+    }
+    let mut frame = Frame { id: identifier::pack(parts).unwrap_or(0), len, bytes: [0; 8] };
+    frame.bytes.copy_from_slice(&rng.bytes(8));
+    match rng.below(60) {
+        0 => frame.id |= rng.within(1, 3) as u32,
+        1 => frame.id |= 1 << rng.within(29, 31),
+        2 => frame.id = rng.u32(),
+        3 => frame.id ^= 1 << rng.below(32),
+        _ => {}
+    }
+    frame
+}
+
+fn wrong_buffer(rng: &mut Rng) -> Lent {
+    let length = rng.pick(&[0, 1, 128, 511, 513, 1024]);
+    Lent::new(&rng.bytes(length))
+}
+
+/// A sound state, in no way reached by calls.
+fn random_sound(rng: &mut Rng) -> Bridge {
+    let tickets = match rng.below(4) {
+        0 => rng.within(4, 20) as u32,
+        1 => rng.u32().max(4),
+        2 => u32::MAX,
+        _ => u32::MAX - rng.below(5) as u32,
+    };
+    let mut state = Bridge { slots: [Slot::default(); 4], tickets, own: rng.below(16) as u8, last: rng.below(4) as u8 };
+    // four different tickets: the last given, less four different steps back
+    let mut steps: Vec<u32> = (0..4).collect();
+    for index in 0..4 {
+        steps.swap(index, rng.below(4));
+    }
+    for index in 0..4 {
+        if rng.percent(70) {
+            state.slots[index] = random_slot(rng, tickets - steps[index]);
+        }
+    }
+    state
+}
+
+fn random_slot(rng: &mut Rng, ticket: u32) -> Slot {
+    let count = random_count(rng);
+    let started = count.div_ceil(8);
+    let progress = 8 * rng.below(started);
+    let mut slot = Slot {
+        ticket,
+        offset: rng.below(2049 - count) as u16,
+        phase: READY,
+        kind: rng.pick(&[READ, READ, WRITE]),
+        device: rng.below(16) as u8,
+        table: rng.below(32) as u8,
+        count: count as u8,
+        progress: progress as u8,
+        sends: 0,
+        left: 0,
+    };
+    let phases = if slot.kind == READ { vec![READY, WAITING, WAITING, DONE, GAVE_UP] } else { vec![READY, DONE] };
+    slot.phase = rng.pick(&phases);
+    match slot.phase {
+        READY if slot.kind == READ => slot.sends = rng.below(3) as u8,
+        WAITING => {
+            slot.sends = rng.within(1, 3) as u8;
+            slot.left = rng.within(1, 20) as u8;
+        }
+        GAVE_UP => slot.sends = 3,
+        DONE => slot.progress = slot.count,
+        _ => {}
+    }
+    slot
+}
+
+/// The state with one thing changed: mostly unsound, sometimes still sound.
+fn damaged(rng: &mut Rng, state: &Bridge) -> Bridge {
+    let mut state = *state;
+    let index = rng.below(4);
+    let other = state.slots[(index + rng.within(1, 3)) % 4].ticket;
+    let tickets = state.tickets;
+    let (byte, word, long) = (rng.byte(), rng.u16(), rng.u32());
+    let choice = rng.below(13);
+    if choice == 0 {
+        state.own = rng.pick(&[16, 17, 255, byte]);
+    } else if choice == 1 {
+        state.last = rng.pick(&[4, 5, 255, byte]);
+    } else if choice == 2 {
+        state.tickets = rng.pick(&[0, tickets.wrapping_sub(1), tickets / 2, long]);
+    }
+    let slot = &mut state.slots[index];
+    match choice {
+        3 => slot.phase = rng.pick(&[0, 1, 2, 3, 4, 5, 255]),
+        4 => slot.kind = rng.pick(&[0, 1, 2, 255]),
+        5 => slot.ticket = rng.pick(&[0, other, tickets, tickets.wrapping_add(1), long]),
+        6 => slot.offset = rng.pick(&[2048, 2049 - slot.count.min(200) as u16, 2048 - slot.count as u16, word]),
+        7 => slot.device = rng.pick(&[15, 16, 255, byte]),
+        8 => slot.table = rng.pick(&[31, 32, 255, byte]),
+        9 => slot.count = rng.pick(&[0, 128, 129, 255, slot.progress, byte]),
+        10 => slot.progress = rng.pick(&[0, 8, 1, slot.count, slot.count.wrapping_add(8), byte]),
+        11 => slot.sends = rng.pick(&[0, 1, 2, 3, 4, 255]),
+        12 => slot.left = rng.pick(&[0, 1, 20, 21, 255]),
+        _ => {}
+    }
+    state
+}

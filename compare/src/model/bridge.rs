@@ -1,0 +1,247 @@
+//! 01 "Bridge": the state, its soundness and the seven calls.
+
+use super::holder::{addressed, frame};
+use super::{request, Number, CMD, REQ, RSP};
+use crate::abi::{Bridge, Frame, Parts, Request, Slot, DONE, FREE, GAVE_UP, READ, READY, WAITING, WRITE};
+
+pub const BUFFER: usize = 512;
+pub const PART: usize = 128;
+
+/// The fresh bridge: the search starts at slot 0, so slot 3 counts as last served.
+pub fn fresh(own: u8) -> Bridge {
+    Bridge { slots: [Slot::default(); 4], tickets: 0, own, last: 3 }
+}
+
+pub fn sound(bridge: &Bridge) -> bool {
+    let held: Vec<&Slot> = bridge.slots.iter().filter(|slot| slot.phase != FREE).collect();
+    bridge.own <= 15
+        && bridge.last <= 3
+        && bridge.slots.iter().all(|slot| sound_slot(slot, bridge.tickets))
+        && (0..held.len()).all(|i| (0..i).all(|j| held[i].ticket != held[j].ticket))
+}
+
+fn sound_slot(slot: &Slot, tickets: u32) -> bool {
+    if slot.phase == FREE {
+        return *slot == Slot::default(); // numbers that a slot doesn't use are 0
+    }
+    let lawful = 1 <= slot.ticket
+        && slot.ticket <= tickets
+        && slot.kind <= WRITE
+        && opening(slot.device, slot.table, slot.offset, slot.count as usize).is_ok();
+    let progress = if slot.phase == DONE {
+        slot.progress == slot.count
+    } else {
+        slot.progress % 8 == 0 && slot.progress < slot.count
+    };
+    let (sends, left) = (slot.sends, slot.left);
+    let phase = match (slot.phase, slot.kind) {
+        (READY, READ) => sends <= 2 && left == 0,
+        (WAITING, READ) => 1 <= sends && sends <= 3 && 1 <= left && left <= 20,
+        (GAVE_UP, READ) => sends == 3 && left == 0,
+        (DONE, READ) | (READY, WRITE) | (DONE, WRITE) => sends == 0 && left == 0,
+        _ => false, // a write never waits or gives up; no other phases
+    };
+    lawful && progress && phase
+}
+
+/// Device 0..15 and table 0..31 (else 7), 1..128 bytes (else 9), offset plus count at
+/// most 2,048 (else 8).
+fn opening(device: u8, table: u8, offset: u16, count: usize) -> Result<(), Number> {
+    if device > 15 || table > 31 {
+        return Err(7);
+    }
+    if count < 1 || count > 128 {
+        return Err(9);
+    }
+    if offset as usize + count > 2048 {
+        return Err(8);
+    }
+    Ok(())
+}
+
+fn judge(bridge: &Bridge) -> Result<(), Number> {
+    if sound(bridge) {
+        Ok(())
+    } else {
+        Err(11)
+    }
+}
+
+fn judge_with(bridge: &Bridge, buffer: &[u8]) -> Result<(), Number> {
+    judge(bridge)?;
+    if buffer.len() == BUFFER {
+        Ok(())
+    } else {
+        Err(10)
+    }
+}
+
+/// Order: 11, 10, 7, 9, 8, 12, 13. Hands back the bridge and the slot taken.
+fn open(
+    bridge: &Bridge, buffer: &[u8], kind: u8, device: u8, table: u8, offset: u16, count: usize,
+) -> Result<(Bridge, usize), Number> {
+    judge_with(bridge, buffer)?;
+    opening(device, table, offset, count)?;
+    let lowest_free = bridge.slots.iter().position(|slot| slot.phase == FREE).ok_or(12)?;
+    let ticket = bridge.tickets.checked_add(1).ok_or(13)?;
+    let mut after = *bridge;
+    after.tickets = ticket;
+    after.slots[lowest_free] =
+        Slot { ticket, offset, phase: READY, kind, device, table, count: count as u8, progress: 0, sends: 0, left: 0 };
+    Ok((after, lowest_free))
+}
+
+pub fn open_read(
+    bridge: &Bridge, buffer: &[u8], device: u8, table: u8, offset: u16, count: usize,
+) -> Result<(Bridge, u32), Number> {
+    let (after, _) = open(bridge, buffer, READ, device, table, offset, count)?;
+    Ok((after, after.tickets))
+}
+
+/// A write's bytes are copied into its slot, and their number is the count.
+pub fn open_write(
+    bridge: &Bridge, buffer: &[u8], device: u8, table: u8, offset: u16, bytes: &[u8],
+) -> Result<(Bridge, Vec<u8>, u32), Number> {
+    let (after, slot) = open(bridge, buffer, WRITE, device, table, offset, bytes.len())?;
+    let mut filled = buffer.to_vec();
+    filled[slot * PART..slot * PART + bytes.len()].copy_from_slice(bytes);
+    Ok((after, filled, after.tickets))
+}
+
+/// Eight bytes a frame, the last shorter.
+pub fn chunk(slot: &Slot) -> usize {
+    (slot.count - slot.progress).min(8) as usize
+}
+
+/// The place in the buffer of the next bytes of slot `index`.
+pub fn place(slot: &Slot, index: usize) -> usize {
+    index * PART + slot.progress as usize
+}
+
+/// Ages a waiting read: 20 turns after a send it is ready again, or after its third
+/// send has given up.
+fn aged(slot: Slot) -> Slot {
+    if slot.phase != WAITING {
+        return slot;
+    }
+    let left = slot.left - 1;
+    let phase = match (left, slot.sends) {
+        (0, 3) => GAVE_UP,
+        (0, _) => READY,
+        _ => WAITING,
+    };
+    Slot { left, phase, ..slot }
+}
+
+/// A turn (refusals 11, 10): ages, then sends for one ready slot; the search starts at
+/// the slot after the one last served.
+pub fn turn(bridge: &Bridge, buffer: &[u8]) -> Result<(Bridge, Option<Frame>), Number> {
+    judge_with(bridge, buffer)?;
+    let mut after = *bridge;
+    for slot in after.slots.iter_mut() {
+        *slot = aged(*slot);
+    }
+    let order = (1..=4).map(|step| (bridge.last as usize + step) % 4);
+    let ready = order.into_iter().find(|index| after.slots[*index].phase == READY);
+    let Some(index) = ready else {
+        return Ok((after, None));
+    };
+    after.last = index as u8;
+    let slot = after.slots[index];
+    let frame = sent(bridge.own, &slot, index, buffer);
+    after.slots[index] = if slot.kind == READ {
+        Slot { phase: WAITING, sends: slot.sends + 1, left: 20, ..slot }
+    } else {
+        advanced(&slot)
+    };
+    Ok((after, Some(frame)))
+}
+
+/// A read sends REQ with reply table 6 and reply offset its place in the buffer; a write
+/// sends CMD.
+fn sent(own: u8, slot: &Slot, index: usize, buffer: &[u8]) -> Frame {
+    let offset = slot.offset + slot.progress as u16;
+    let place = place(slot, index);
+    let parts = |kind| Parts { offset, kind, from: own, to: slot.device, table: slot.table };
+    if slot.kind == READ {
+        let asked = Request { table: 6, count: chunk(slot) as u8, offset: place as u16 };
+        frame(parts(REQ), &request::bytes_of(asked).unwrap())
+    } else {
+        frame(parts(CMD), &buffer[place..place + chunk(slot)])
+    }
+}
+
+/// Past its next bytes: done if those were the last, otherwise ready with no sends counted.
+fn advanced(slot: &Slot) -> Slot {
+    let progress = slot.progress + chunk(slot) as u8;
+    let phase = if progress == slot.count { DONE } else { READY };
+    Slot { phase, progress, sends: 0, left: 0, ..*slot }
+}
+
+/// An incoming frame: 11, 10, 1, 2, 3, 4, 5 (only RSP served), 17.
+pub fn frame_in(bridge: &Bridge, buffer: &[u8], frame: &Frame) -> Result<(Bridge, Vec<u8>), Number> {
+    judge_with(bridge, buffer)?;
+    let parts = addressed(bridge.own, frame)?;
+    if parts.kind != RSP {
+        return Err(5);
+    }
+    let matches = |index: &usize| {
+        let slot = &bridge.slots[*index];
+        slot.phase == WAITING
+            && parts.table == 6
+            && parts.from == slot.device
+            && parts.offset as usize == place(slot, *index)
+            && frame.len as usize == chunk(slot)
+    };
+    let index = (0..4).find(matches).ok_or(17)?;
+    let slot = bridge.slots[index];
+    let place = place(&slot, index);
+    let mut filled = buffer.to_vec();
+    filled[place..place + chunk(&slot)].copy_from_slice(&frame.bytes[..chunk(&slot)]);
+    let mut after = *bridge;
+    after.slots[index] = advanced(&slot);
+    Ok((after, filled))
+}
+
+/// The slot that holds a ticket.
+fn holder_of(bridge: &Bridge, ticket: u32) -> Result<usize, Number> {
+    bridge.slots.iter().position(|slot| slot.phase != FREE && slot.ticket == ticket).ok_or(14)
+}
+
+/// Status answers 11, then 0, 14, 15 or 16. `Ok` carries the slot.
+pub fn status(bridge: &Bridge, ticket: u32) -> Result<usize, Number> {
+    judge(bridge)?;
+    let index = holder_of(bridge, ticket)?;
+    match bridge.slots[index].phase {
+        DONE => Ok(index),
+        GAVE_UP => Err(16),
+        _ => Err(15),
+    }
+}
+
+/// The bytes call (11, 10, then status's number): start and count in the buffer for a
+/// done read, an empty part otherwise.
+pub fn bytes(bridge: &Bridge, buffer: &[u8], ticket: u32) -> Result<(usize, usize), Number> {
+    judge_with(bridge, buffer)?;
+    let index = status(bridge, ticket)?;
+    let slot = bridge.slots[index];
+    Ok(if slot.kind == READ { (index * PART, slot.count as usize) } else { (0, 0) })
+}
+
+/// Closing (11, 14) frees the slot in any state.
+pub fn close(bridge: &Bridge, ticket: u32) -> Result<Bridge, Number> {
+    judge(bridge)?;
+    let index = holder_of(bridge, ticket)?;
+    let mut after = *bridge;
+    after.slots[index] = Slot::default();
+    Ok(after)
+}
+
+/// Reset turns any state into the fresh bridge of a given own number (11 if over 15).
+pub fn reset(own: u8) -> Result<Bridge, Number> {
+    if own > 15 {
+        Err(11)
+    } else {
+        Ok(fresh(own))
+    }
+}

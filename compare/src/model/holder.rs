@@ -1,0 +1,125 @@
+//! 01 "Table holder".
+
+use super::{identifier, request, Number, CMD, REQ, RSP, XTND};
+use crate::abi::{Directory, Frame, Parts, Request};
+
+/// Size 0..2,056, total at most 32,768, right 0..2, own number 0..15.
+pub fn sound(directory: &Directory) -> bool {
+    directory.sizes.iter().all(|size| *size <= 2056)
+        && total(directory) <= 32_768
+        && directory.rights.iter().all(|right| *right <= 2)
+        && directory.own <= 15
+}
+
+pub fn total(directory: &Directory) -> usize {
+    directory.sizes.iter().map(|size| *size as usize).sum()
+}
+
+/// Table k starts at the sum of the sizes before it.
+pub fn start(directory: &Directory, table: u8) -> usize {
+    directory.sizes[..table as usize].iter().map(|size| *size as usize).sum()
+}
+
+/// A frame with zeros past its length.
+pub fn frame(parts: Parts, bytes: &[u8]) -> Frame {
+    let mut frame = Frame { id: identifier::pack(parts).unwrap(), len: bytes.len() as u8, bytes: [0; 8] };
+    frame.bytes[..bytes.len()].copy_from_slice(bytes);
+    frame
+}
+
+/// 1, 2, 3, 4: what every receiver of frames judges first.
+pub fn addressed(own: u8, frame: &Frame) -> Result<Parts, Number> {
+    let parts = identifier::unpack(frame.id)?;
+    if frame.len > 8 {
+        return Err(3);
+    }
+    if parts.to != own {
+        return Err(4);
+    }
+    Ok(parts)
+}
+
+/// Order: 11, 10, 1, 2, 3, 4, 5, 6, 7, 9, 8; XTND of length 0 is 6.
+/// Hands back the memory afterwards and the answering frame, if any.
+pub fn serve(directory: &Directory, memory: &[u8], frame: &Frame) -> Result<(Vec<u8>, Option<Frame>), Number> {
+    if !sound(directory) {
+        return Err(11);
+    }
+    if memory.len() != total(directory) {
+        return Err(10);
+    }
+    let parts = addressed(directory.own, frame)?;
+    let bytes = &frame.bytes[..frame.len as usize];
+    match parts.kind {
+        CMD => Ok((command(directory, memory, parts, bytes)?, None)),
+        REQ => Ok((memory.to_vec(), Some(answer_request(directory, memory, parts, bytes)?))),
+        XTND => Ok((memory.to_vec(), Some(protocol_query(directory, parts, bytes)?))),
+        _ => Err(5),
+    }
+}
+
+/// CMD, length 1..8: stores the bytes at the offset. Needs right 2.
+fn command(directory: &Directory, memory: &[u8], parts: Parts, bytes: &[u8]) -> Result<Vec<u8>, Number> {
+    if bytes.is_empty() {
+        return Err(6);
+    }
+    let size = directory.sizes[parts.table as usize] as usize;
+    if size == 0 || directory.rights[parts.table as usize] != 2 {
+        return Err(7);
+    }
+    if parts.offset as usize + bytes.len() > size {
+        return Err(8);
+    }
+    let place = start(directory, parts.table) + parts.offset as usize;
+    let mut after = memory.to_vec();
+    after[place..place + bytes.len()].copy_from_slice(bytes);
+    Ok(after)
+}
+
+/// REQ, length 3, count 1..8, needs a right: answers RSP to the sender, with the
+/// reply table and offset asked for.
+fn answer_request(directory: &Directory, memory: &[u8], parts: Parts, bytes: &[u8]) -> Result<Frame, Number> {
+    if bytes.len() != 3 {
+        return Err(6);
+    }
+    let asked = request::read(bytes[0], bytes[1], bytes[2])?;
+    let size = directory.sizes[parts.table as usize] as usize;
+    if size == 0 || directory.rights[parts.table as usize] == 0 {
+        return Err(7);
+    }
+    if asked.count < 1 || asked.count > 8 {
+        return Err(9);
+    }
+    if parts.offset as usize + asked.count as usize > size {
+        return Err(8);
+    }
+    let place = start(directory, parts.table) + parts.offset as usize;
+    Ok(reply(directory, parts, asked, &memory[place..place + asked.count as usize]))
+}
+
+/// XTND, first byte 0x80, length 4, request bytes after it, count 1 or 5: the byte 2,
+/// or 2 then the table and write blocking factors. Other first bytes: 5.
+fn protocol_query(directory: &Directory, parts: Parts, bytes: &[u8]) -> Result<Frame, Number> {
+    if bytes.is_empty() {
+        return Err(6);
+    }
+    if bytes[0] != 0x80 {
+        return Err(5);
+    }
+    if bytes.len() != 4 {
+        return Err(6);
+    }
+    let asked = request::read(bytes[1], bytes[2], bytes[3])?;
+    let [table_high, table_low] = directory.table_blocking.to_be_bytes();
+    let [write_high, write_low] = directory.write_blocking.to_be_bytes();
+    match asked.count {
+        1 => Ok(reply(directory, parts, asked, &[2])),
+        5 => Ok(reply(directory, parts, asked, &[2, table_high, table_low, write_high, write_low])),
+        _ => Err(9),
+    }
+}
+
+fn reply(directory: &Directory, parts: Parts, asked: Request, bytes: &[u8]) -> Frame {
+    let id = Parts { offset: asked.offset, kind: RSP, from: directory.own, to: parts.from, table: asked.table };
+    frame(id, bytes)
+}

@@ -1,0 +1,242 @@
+//! The reckonings of 01, run on a side. Each is a name, what came out and what 01 says.
+
+use crate::abi::*;
+use crate::model::bridge::fresh;
+use crate::model::{CMD, REQ};
+use crate::side::Side;
+use std::fmt::Debug;
+
+pub struct Reckoning {
+    pub name: String,
+    pub got: String,
+    pub wanted: String,
+}
+
+/// The reckonings that don't come out.
+pub fn failures(side: &dyn Side) -> Vec<String> {
+    let wrong = all(side).into_iter().filter(|one| one.got != one.wanted);
+    wrong.map(|one| format!("{}: {} instead of {}", one.name, one.got, one.wanted)).collect()
+}
+
+pub fn all(side: &dyn Side) -> Vec<Reckoning> {
+    let mut list = List(Vec::new());
+    identifiers(side, &mut list);
+    requests(side, &mut list);
+    wire_examples(side, &mut list);
+    ranges(side, &mut list);
+    bridge_read(side, &mut list);
+    silent_device(side, &mut list);
+    values(side, &mut list);
+    listing(side, &mut list);
+    list.0
+}
+
+struct List(Vec<Reckoning>);
+
+impl List {
+    fn add<T: Debug>(&mut self, name: &str, got: T, wanted: T) {
+        self.0.push(Reckoning { name: name.to_string(), got: format!("{got:?}"), wanted: format!("{wanted:?}") });
+    }
+}
+
+fn frame(id: u32, bytes: &[u8]) -> Frame {
+    let mut frame = Frame { id, len: bytes.len() as u8, bytes: [0; 8] };
+    frame.bytes[..bytes.len()].copy_from_slice(bytes);
+    frame
+}
+
+fn identifiers(side: &dyn Side, list: &mut List) {
+    let parts = Parts { offset: 6, kind: REQ, from: 5, to: 0, table: 7 };
+    list.add("offset 6, REQ, from 5 to 0, table 7", side.pack(parts), Packed { id: 0x18A838, number: 0 });
+    let table_20 = Parts { table: 20, ..Parts::default() };
+    list.add("table 20 alone", side.pack(table_20), Packed { id: 0x24, number: 0 });
+    let all_ones = Parts { offset: 2047, kind: 7, from: 15, to: 15, table: 31 };
+    list.add("0x1FFFFFFC unpacks", side.unpack(0x1FFF_FFFC), Unpacked { parts: all_ones, number: 0 });
+    let refused = |number| Unpacked { parts: Parts::default(), number };
+    list.add("0x1FFFFFFD", side.unpack(0x1FFF_FFFD), refused(2));
+    list.add("0x20000000", side.unpack(0x2000_0000), refused(1));
+}
+
+fn requests(side: &dyn Side, list: &mut List) {
+    let asked = |table, offset, count| Asked { request: Request { table, count, offset }, number: 0 };
+    list.add("06 10 02", side.read_request(0x06, 0x10, 0x02), asked(6, 128, 2));
+    list.add("06 10 12", side.read_request(0x06, 0x10, 0x12), Asked { number: 6, ..Asked::default() });
+    list.add("1F FF E8", side.read_request(0x1F, 0xFF, 0xE8), asked(31, 2047, 8));
+
+    // table 7 with 0B B8 at offset 6, asked by device 5 with `06 10 02`
+    let mut directory = Directory::default();
+    directory.sizes[7] = 16;
+    directory.rights[7] = 1;
+    let mut memory = [0; 16];
+    memory[6..8].copy_from_slice(&[0x0B, 0xB8]);
+    let answer = side.serve(directory, &mut memory, frame(0x18A838, &[0x06, 0x10, 0x02]));
+    let reply = frame(0x20102B0, &[0x0B, 0xB8]);
+    list.add("0B B8 come back under 0x20102B0", answer, Served { number: 0, answers: 1, frame: reply });
+}
+
+/// Document 002's own examples (4.1, 4.2), whose identifiers are those on the wire: device 7
+/// fetches the signature (table 15) and the RPM (table 7, offset 6) from device 0. For the
+/// third 002 prints DLC 8 beside four bytes; four were asked.
+fn wire_examples(side: &dyn Side, list: &mut List) {
+    let mut directory = Directory::default();
+    (directory.sizes[7], directory.rights[7]) = (8, 1);
+    (directory.sizes[15], directory.rights[15]) = (20, 1);
+    let mut memory = [0, 0, 0, 0, 0, 0, 0x14, 0xFE].to_vec();
+    memory.extend(b"MS3 Format 0435.14 \0");
+    let examples: [(&str, u32, [u8; 3], u32, &[u8]); 4] = [
+        ("signature, first", 0xB878, [0x06, 0x00, 0x08], 0x103B0, b"MS3 Form"),
+        ("signature, second", 0x20B878, [0x06, 0x00, 0x08], 0x103B0, b"at 0435."),
+        ("signature, third", 0x40B878, [0x06, 0x00, 0x04], 0x103B0, b"14 \0"),
+        ("RPM", 0x18B838, [0x07, 0x00, 0x42], 0x903B8, &[0x14, 0xFE]),
+    ];
+    for (name, id, bytes, reply, data) in examples {
+        let answer = side.serve(directory, &mut memory, frame(id, &bytes));
+        list.add(&format!("002: {name}"), answer, Served { number: 0, answers: 1, frame: frame(reply, data) });
+    }
+}
+
+fn ranges(side: &dyn Side, list: &mut List) {
+    for (size, offset, number) in [(2056, 2047, 0), (1024, 1016, 0), (1024, 1017, 8)] {
+        let mut directory = Directory::default();
+        directory.sizes[1] = size;
+        directory.rights[1] = 2;
+        let id = side.pack(Parts { offset, kind: CMD, from: 3, to: 0, table: 1 }).id;
+        let mut memory = vec![0; size as usize];
+        let answer = side.serve(directory, &mut memory, frame(id, &[1, 2, 3, 4, 5, 6, 7, 8]));
+        list.add(&format!("size {size} offset {offset} with 8 bytes"), answer.number, number);
+        let mut wanted = vec![0; size as usize];
+        if number == 0 {
+            wanted[offset as usize..offset as usize + 8].copy_from_slice(&[1, 2, 3, 4, 5, 6, 7, 8]);
+        }
+        list.add(&format!("size {size} offset {offset} memory"), memory, wanted);
+        let id = side.pack(Parts { offset, kind: REQ, from: 3, to: 0, table: 1 }).id;
+        let mut memory = vec![0; size as usize];
+        let answer = side.serve(directory, &mut memory, frame(id, &[6, 0, 8]));
+        list.add(&format!("size {size} offset {offset} asking 8"), answer.number, number);
+    }
+}
+
+fn bridge_read(side: &dyn Side, list: &mut List) {
+    let mut buffer = [0; 512];
+    let opened = side.open_read(fresh(0), &buffer, 5, 7, 6, 10);
+    list.add("opening a read of 10 bytes", (opened.number, opened.ticket), (0, 1));
+    let first = side.turn(opened.bridge, &buffer);
+    list.add("its first request", first.answer.frame, frame(0x1882B8, &[0x06, 0x00, 0x08]));
+    let reply = frame(0x12830, &[1, 2, 3, 4, 5, 6, 7, 8]);
+    let taken = side.frame_in(first.bridge, &mut buffer, reply);
+    list.add("its reply", taken.answer.number, 0);
+    let second = side.turn(taken.bridge, &buffer);
+    list.add("its second request", second.answer.frame, frame(0x3882B8, &[0x06, 0x01, 0x02]));
+
+    for (wrong, id) in [("device", 0x13030), ("table", 0x12838), ("offset", 0x212830 | 1 << 18)] {
+        let before = buffer;
+        let taken = side.frame_in(first.bridge, &mut buffer, Frame { id, ..reply });
+        list.add(&format!("a reply of the wrong {wrong}"), (taken.answer.number, buffer), (17, before));
+    }
+    let short = side.frame_in(first.bridge, &mut buffer, Frame { len: 7, ..reply });
+    list.add("a reply of the wrong length", short.answer.number, 17);
+
+    let last = frame(side.pack(Parts { offset: 8, kind: 2, from: 5, to: 0, table: 6 }).id, &[9, 10]);
+    let done = side.frame_in(second.bridge, &mut buffer, last);
+    list.add("status after both replies", side.status(done.bridge, 1), 0);
+    let span = side.span(done.bridge, &buffer, 1);
+    list.add("its part of the buffer", span, Span { number: 0, start: 0, count: 10 });
+    list.add("its bytes", buffer[..10].to_vec(), (1..=10).collect());
+}
+
+fn silent_device(side: &dyn Side, list: &mut List) {
+    let buffer = [0; 512];
+    let mut bridge = side.open_read(fresh(0), &buffer, 5, 7, 6, 128).bridge;
+    let (mut sends, mut gave_up) = (Vec::new(), Vec::new());
+    for turn in 1..=70 {
+        let before = side.status(bridge, 1);
+        let stepped = side.turn(bridge, &buffer);
+        bridge = stepped.bridge;
+        if stepped.answer.answers == 1 {
+            sends.push(turn);
+        }
+        if before != 16 && side.status(bridge, 1) == 16 {
+            gave_up.push(turn);
+        }
+    }
+    list.add("silent device, turns that send", sends, vec![1, 21, 41]);
+    list.add("silent device, turn that gives up", gave_up, vec![61]);
+    for (count, number) in [(128, 0), (129, 9), (0, 9)] {
+        let read = side.open_read(fresh(0), &buffer, 5, 7, 6, count).number;
+        list.add(&format!("reading {count} bytes"), read, number);
+        let write = side.open_write(fresh(0), &mut buffer.clone(), 5, 7, 6, &vec![1; count]).number;
+        list.add(&format!("writing {count} bytes"), write, number);
+    }
+}
+
+/// A scalar field with all else 0.
+fn field(kind: u8, scale: f32, transform: f32) -> Vec<u8> {
+    let mut field = vec![0; 89];
+    field[0] = kind;
+    field[46..50].copy_from_slice(&scale.to_be_bytes());
+    field[50..54].copy_from_slice(&transform.to_be_bytes());
+    field
+}
+
+fn values(side: &dyn Side, list: &mut List) {
+    let mut out = [0; 7];
+    let written = side.mlg_write_data(&mut out, 2, 0, 0, &[0xFF, 0x02]);
+    list.add("record FF 02 has sum 1", (written, out), (Written { len: 7, number: 0 }, [0, 0, 0, 0, 0xFF, 2, 1]));
+    let raw = |value| Raw { value, number: 0 };
+    let shown = |value| Shown { value, number: 0 };
+    list.add("0x80 in an S08 field", side.raw_value(&field(1, 1.0, 0.0), &[0x80]), raw(-128));
+    let s16 = field(3, 0.5, 0.0);
+    list.add("S16 FF38", side.raw_value(&s16, &[0xFF, 0x38]), raw(-200));
+    list.add("S16 FF38, scale 0.5, transform 0", side.shown_value(&s16, &[0xFF, 0x38]), shown(-100.0));
+    let u08 = field(0, 2.0, 5.0);
+    list.add("U08 10, transform 5, scale 2", side.shown_value(&u08, &[10]), shown(30.0));
+}
+
+/// The listing's example: its file, and what is printed.
+pub fn example() -> (Vec<u8>, &'static str) {
+    let mut file = vec![0x4D, 0x4C, 0x56, 0x4C, 0x47, 0, 0, 2, 0, 0, 0, 0, 0, 0, 0, 0, 0, 0, 0, 113, 0, 1, 0, 1];
+    let mut field = vec![0; 89];
+    field[1] = b't';
+    file.extend(field);
+    file.extend([0x00, 0x00, 0x00, 0x0A, 0x07, 0x07]);
+    (file, "fields 1 record 1\nfield 0 0 t\n0 data 0 10 7\nend 1\n")
+}
+
+fn listing(side: &dyn Side, list: &mut List) {
+    let (mut file, text) = example();
+    let mut add = |name: &str, file: &[u8], wanted: &str| {
+        if let Some(bytes) = side.listing(file) {
+            list.add(name, String::from_utf8_lossy(&bytes).into_owned(), wanted.to_string());
+        }
+    };
+    add("listing example", &file, text);
+    file[118] = 8;
+    add("listing with a wrong sum", &file, "fields 1 record 1\nfield 0 0 t\nrefused 26 at 113\n");
+    file[118] = 7;
+    file[114] = 3;
+    add("listing with a wrong counter", &file, "fields 1 record 1\nfield 0 0 t\n0 data 3 10 7 !\nend 1\n");
+    add("listing of an input too long", &vec![0; 65_537], "too long\n");
+    add("listing of no bytes", &[], "refused 20 at 0\n");
+}
+
+#[cfg(test)]
+mod tests {
+    use super::*;
+    use crate::side::Model;
+
+    #[test]
+    fn reckonings_of_the_paper() {
+        assert_eq!(failures(&Model), Vec::<String>::new());
+    }
+
+    /// Byte 2,055 of a table of 2,056 is out of reach of eight bytes, as the offset ends at 2,047.
+    #[test]
+    fn last_byte_out_of_reach() {
+        assert_eq!(side_pack_offset(2048), 8);
+        assert_eq!(side_pack_offset(2047), 0);
+    }
+
+    fn side_pack_offset(offset: u16) -> u8 {
+        Model.pack(Parts { offset, ..Parts::default() }).number
+    }
+}

@@ -1,0 +1,280 @@
+//! The calls of the C ABI as a trait, and the model's side of it.
+
+use crate::abi::*;
+use crate::model::{bridge, frd, holder, identifier, listing, mlg, request, value, Number};
+
+/// One of the two sides that are compared.
+#[allow(clippy::too_many_arguments)]
+pub trait Side {
+    fn pack(&self, parts: Parts) -> Packed;
+    fn unpack(&self, id: u32) -> Unpacked;
+    fn read_request(&self, first: u8, second: u8, third: u8) -> Asked;
+    fn request_bytes(&self, request: Request) -> RequestBytes;
+    fn serve(&self, directory: Directory, memory: &mut [u8], frame: Frame) -> Served;
+
+    fn open_read(&self, b: Bridge, buffer: &[u8], device: u8, table: u8, offset: u16, count: usize) -> Opened;
+    fn open_write(&self, b: Bridge, buffer: &mut [u8], device: u8, table: u8, offset: u16, bytes: &[u8]) -> Opened;
+    fn turn(&self, b: Bridge, buffer: &[u8]) -> Stepped;
+    fn frame_in(&self, b: Bridge, buffer: &mut [u8], frame: Frame) -> Stepped;
+    fn status(&self, b: Bridge, ticket: u32) -> u8;
+    fn span(&self, b: Bridge, buffer: &[u8], ticket: u32) -> Span;
+    fn close(&self, b: Bridge, ticket: u32) -> Changed;
+    fn reset(&self, b: Bridge, own: u8) -> Changed;
+    fn turn_in_place(&self, b: &mut Bridge, buffer: &[u8]) -> Served;
+    fn frame_in_place(&self, b: &mut Bridge, buffer: &mut [u8], frame: Frame) -> Served;
+    fn close_in_place(&self, b: &mut Bridge, ticket: u32) -> u8;
+
+    fn mlg_read_header(&self, file: &[u8]) -> MlgHeader;
+    fn mlg_read_block(&self, file: &[u8], size: u16, earlier: u64, place: usize) -> MlgBlock;
+    fn mlg_write_header(&self, out: &mut [u8], time: u32, fields: &[u8], names: &[u8], info: &[u8]) -> Written;
+    fn mlg_write_data(&self, out: &mut [u8], size: u16, earlier: u64, time: u16, record: &[u8]) -> Written;
+    fn mlg_write_mark(&self, out: &mut [u8], earlier: u64, time: u16, text: &[u8]) -> Written;
+    fn raw_value(&self, field: &[u8], raw: &[u8]) -> Raw;
+    fn shown_value(&self, field: &[u8], raw: &[u8]) -> Shown;
+
+    fn frd_read_header(&self, file: &[u8]) -> FrdHeader;
+    fn frd_read_block(&self, file: &[u8], size: u16, earlier: u64, place: usize) -> FrdBlock;
+    fn frd_write_header(&self, out: &mut [u8], time: u32, signature: &[u8], size: u16) -> Written;
+    fn frd_write_data(&self, out: &mut [u8], size: u16, earlier: u64, record: &[u8]) -> Written;
+    fn frd_write_time(&self, out: &mut [u8], earlier: u64, time: u32) -> Written;
+
+    /// What `loglist` prints, or nothing if this side has no listing.
+    fn listing(&self, file: &[u8]) -> Option<Vec<u8>>;
+}
+
+pub struct Model;
+
+fn served(answer: Result<Option<Frame>, Number>) -> Served {
+    match answer {
+        Ok(Some(frame)) => Served { number: 0, answers: 1, frame },
+        Ok(None) => Served::default(),
+        Err(number) => Served { number, ..Served::default() },
+    }
+}
+
+/// A writer hands back the length written and leaves the rest of its output as found.
+fn written(out: &mut [u8], bytes: Result<Vec<u8>, Number>) -> Written {
+    match bytes {
+        Ok(bytes) => {
+            out[..bytes.len()].copy_from_slice(&bytes);
+            Written { len: bytes.len(), number: 0 }
+        }
+        Err(number) => Written { len: 0, number },
+    }
+}
+
+impl Side for Model {
+    fn pack(&self, parts: Parts) -> Packed {
+        match identifier::pack(parts) {
+            Ok(id) => Packed { id, number: 0 },
+            Err(number) => Packed { id: 0, number },
+        }
+    }
+
+    fn unpack(&self, id: u32) -> Unpacked {
+        match identifier::unpack(id) {
+            Ok(parts) => Unpacked { parts, number: 0 },
+            Err(number) => Unpacked { parts: Parts::default(), number },
+        }
+    }
+
+    fn read_request(&self, first: u8, second: u8, third: u8) -> Asked {
+        match request::read(first, second, third) {
+            Ok(request) => Asked { request, number: 0 },
+            Err(number) => Asked { request: Request::default(), number },
+        }
+    }
+
+    fn request_bytes(&self, request: Request) -> RequestBytes {
+        match request::bytes_of(request) {
+            Ok(bytes) => RequestBytes { number: 0, bytes },
+            Err(number) => RequestBytes { number, bytes: [0; 3] },
+        }
+    }
+
+    fn serve(&self, directory: Directory, memory: &mut [u8], frame: Frame) -> Served {
+        served(holder::serve(&directory, memory, &frame).map(|(after, frame)| {
+            memory.copy_from_slice(&after);
+            frame
+        }))
+    }
+
+    fn open_read(&self, b: Bridge, buffer: &[u8], device: u8, table: u8, offset: u16, count: usize) -> Opened {
+        match bridge::open_read(&b, buffer, device, table, offset, count) {
+            Ok((bridge, ticket)) => Opened { bridge, ticket, number: 0 },
+            Err(number) => Opened { bridge: b, ticket: 0, number },
+        }
+    }
+
+    fn open_write(&self, b: Bridge, buffer: &mut [u8], device: u8, table: u8, offset: u16, bytes: &[u8]) -> Opened {
+        match bridge::open_write(&b, buffer, device, table, offset, bytes) {
+            Ok((bridge, after, ticket)) => {
+                buffer.copy_from_slice(&after);
+                Opened { bridge, ticket, number: 0 }
+            }
+            Err(number) => Opened { bridge: b, ticket: 0, number },
+        }
+    }
+
+    fn turn(&self, b: Bridge, buffer: &[u8]) -> Stepped {
+        match bridge::turn(&b, buffer) {
+            Ok((bridge, frame)) => Stepped { bridge, answer: served(Ok(frame)) },
+            Err(number) => Stepped { bridge: b, answer: served(Err(number)) },
+        }
+    }
+
+    fn frame_in(&self, b: Bridge, buffer: &mut [u8], frame: Frame) -> Stepped {
+        match bridge::frame_in(&b, buffer, &frame) {
+            Ok((bridge, after)) => {
+                buffer.copy_from_slice(&after);
+                Stepped { bridge, answer: served(Ok(None)) }
+            }
+            Err(number) => Stepped { bridge: b, answer: served(Err(number)) },
+        }
+    }
+
+    fn status(&self, b: Bridge, ticket: u32) -> u8 {
+        bridge::status(&b, ticket).err().unwrap_or(0)
+    }
+
+    fn span(&self, b: Bridge, buffer: &[u8], ticket: u32) -> Span {
+        match bridge::bytes(&b, buffer, ticket) {
+            Ok((start, count)) => Span { number: 0, start, count },
+            Err(number) => Span { number, start: 0, count: 0 },
+        }
+    }
+
+    fn close(&self, b: Bridge, ticket: u32) -> Changed {
+        match bridge::close(&b, ticket) {
+            Ok(bridge) => Changed { bridge, number: 0 },
+            Err(number) => Changed { bridge: b, number },
+        }
+    }
+
+    fn reset(&self, b: Bridge, own: u8) -> Changed {
+        match bridge::reset(own) {
+            Ok(bridge) => Changed { bridge, number: 0 },
+            Err(number) => Changed { bridge: b, number },
+        }
+    }
+
+    /// Thin calls, made after the calls by value.
+    fn turn_in_place(&self, b: &mut Bridge, buffer: &[u8]) -> Served {
+        let stepped = self.turn(*b, buffer);
+        *b = stepped.bridge;
+        stepped.answer
+    }
+
+    fn frame_in_place(&self, b: &mut Bridge, buffer: &mut [u8], frame: Frame) -> Served {
+        let stepped = self.frame_in(*b, buffer, frame);
+        *b = stepped.bridge;
+        stepped.answer
+    }
+
+    fn close_in_place(&self, b: &mut Bridge, ticket: u32) -> u8 {
+        let changed = self.close(*b, ticket);
+        *b = changed.bridge;
+        changed.number
+    }
+
+    fn mlg_read_header(&self, file: &[u8]) -> MlgHeader {
+        match mlg::read_header(file) {
+            Ok(mlg::Header { time, info, begin, size, count, version }) => {
+                MlgHeader { time, info, begin, size, count, version, number: 0 }
+            }
+            Err(number) => MlgHeader { number, ..MlgHeader::default() },
+        }
+    }
+
+    fn mlg_read_block(&self, file: &[u8], size: u16, earlier: u64, place: usize) -> MlgBlock {
+        let block = |kind, counter, right, time, start, count| MlgBlock {
+            place: 0,
+            start,
+            count,
+            time,
+            number: 0,
+            kind,
+            counter,
+            right: right as u8,
+        };
+        match mlg::read_block(file, size, earlier, place) {
+            Ok(mlg::Block::Data { counter, right, time, start, count }) => {
+                block(BLOCK_DATA, counter, right, time, start, count)
+            }
+            Ok(mlg::Block::Mark { counter, right, time, start, count }) => {
+                block(BLOCK_MARK, counter, right, time, start, count)
+            }
+            Ok(mlg::Block::End) => MlgBlock { kind: BLOCK_END, ..MlgBlock::default() },
+            Err(number) => MlgBlock { place, number, kind: BLOCK_REFUSED, ..MlgBlock::default() },
+        }
+    }
+
+    fn mlg_write_header(&self, out: &mut [u8], time: u32, fields: &[u8], names: &[u8], info: &[u8]) -> Written {
+        let bytes = mlg::write_header(out.len(), time, fields, names, info);
+        written(out, bytes)
+    }
+
+    fn mlg_write_data(&self, out: &mut [u8], size: u16, earlier: u64, time: u16, record: &[u8]) -> Written {
+        let bytes = mlg::write_data(out.len(), size, earlier, time, record);
+        written(out, bytes)
+    }
+
+    fn mlg_write_mark(&self, out: &mut [u8], earlier: u64, time: u16, text: &[u8]) -> Written {
+        let bytes = mlg::write_mark(out.len(), earlier, time, text);
+        written(out, bytes)
+    }
+
+    fn raw_value(&self, field: &[u8], raw: &[u8]) -> Raw {
+        match value::raw_value(field, raw) {
+            Ok(value) => Raw { value, number: 0 },
+            Err(number) => Raw { value: 0, number },
+        }
+    }
+
+    fn shown_value(&self, field: &[u8], raw: &[u8]) -> Shown {
+        match value::shown_value(field, raw) {
+            Ok(value) => Shown { value, number: 0 },
+            Err(number) => Shown { value: 0.0, number },
+        }
+    }
+
+    fn frd_read_header(&self, file: &[u8]) -> FrdHeader {
+        match frd::read_header(file) {
+            Ok(frd::Header { time, size }) => FrdHeader { time, size, number: 0 },
+            Err(number) => FrdHeader { number, ..FrdHeader::default() },
+        }
+    }
+
+    fn frd_read_block(&self, file: &[u8], size: u16, earlier: u64, place: usize) -> FrdBlock {
+        let none = FrdBlock::default();
+        match frd::read_block(file, size, earlier, place) {
+            Ok(frd::Block::Data { counter, right, start, count }) => {
+                FrdBlock { kind: BLOCK_DATA, counter, right: right as u8, start, count, ..none }
+            }
+            Ok(frd::Block::Time { counter, right, time }) => {
+                FrdBlock { kind: BLOCK_TIME, counter, right: right as u8, time, ..none }
+            }
+            Ok(frd::Block::End) => FrdBlock { kind: BLOCK_END, ..none },
+            Err(number) => FrdBlock { place, number, kind: BLOCK_REFUSED, ..none },
+        }
+    }
+
+    fn frd_write_header(&self, out: &mut [u8], time: u32, signature: &[u8], size: u16) -> Written {
+        let bytes = frd::write_header(out.len(), time, signature, size);
+        written(out, bytes)
+    }
+
+    fn frd_write_data(&self, out: &mut [u8], size: u16, earlier: u64, record: &[u8]) -> Written {
+        let bytes = frd::write_data(out.len(), size, earlier, record);
+        written(out, bytes)
+    }
+
+    fn frd_write_time(&self, out: &mut [u8], earlier: u64, time: u32) -> Written {
+        let bytes = frd::write_time(out.len(), earlier, time);
+        written(out, bytes)
+    }
+
+    fn listing(&self, file: &[u8]) -> Option<Vec<u8>> {
+        Some(listing::listing(file).into_bytes())
+    }
+}

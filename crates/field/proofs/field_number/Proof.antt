@@ -1,0 +1,23 @@
+use borrow.Author.Needs.{needs}
+use Rattle.field.proofs.field_number.Statement.{statement}
+use Rattle.field.proofs.field_number.Tie as tie
+use Rattle.wire.proofs.Orders.{order}
+use Rattle.field.proofs.Layouts.{field-of}
+use Rattle.field.specs.Raw.{valueFieldNumber}
+
+layout-of-requires : tie.Need-layout-of-requires
+layout-of-requires c κs = search needs
+
+returns : tie.Need-returns
+unfolding valueFieldNumber
+returns c = rw (← field-of _ _ (c .before .before .layout-of .ensures)) (search order depth 12)
+
+type-number-requires : tie.Need-type-number-requires
+type-number-requires c κs = search needs
+
+returns-2 : tie.Need-returns-2
+unfolding valueFieldNumber
+returns-2 c = rw (← field-of _ _ (c .before .before .before .layout-of .ensures)) (search order depth 12)
+
+pub field-number-spec : {M : Type 1} → statement M
+field-number-spec = tie.close (tie.spec layout-of-requires returns type-number-requires returns-2)
