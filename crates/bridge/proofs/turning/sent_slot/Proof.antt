@@ -1,11 +1,6 @@
 use borrow.Author.Needs.{needs}
 use Rattle.bridge.proofs.turning.sent_slot.Statement.{statement}
 use Rattle.bridge.proofs.turning.sent_slot.Tie as tie
-use Rattle.bridge.proofs.turning.sent_slot.Reads as reads
-use Rattle.bridge.proofs.turning.sent_slot.Lts as lts
-use Rattle.bridge.proofs.state.advance.Reads as advance-reads
-use Rattle.bridge.proofs.state.asks.Reads as asks-reads
-use Rattle.bridge.proofs.state.moved.Reads as moved-reads
 use mathlib.Core.Path.{sym, _∙_}
 use Rattle.bridge.proofs.CodeFrames.{sent-asks, sent-goes-on}
 
