@@ -1,14 +1,12 @@
 -- Laws of the calls by which the code's functions are proved: what each is when it is refused, and when it is not.
-use Prim.Native.Nat.{ℕ, suc, _+_, _*_, _≤_, _<_}
-use mathlib.Core.Path.{_≡_, refl, sym, _∙_, ap}
+use Prim.Native.Nat.{ℕ, _+_, _*_, _≤_, _<_}
+use mathlib.Core.Path.{_≡_, refl, _∙_, ap}
 use mathlib.Core.Bool.{Bool, true, false, cond}
-use mathlib.Core.List.{List, []}
-use mathlib.Core.Option.{none, some}
+use mathlib.Core.List.{List}
 use native.Mathlib.Omega.{arith}
 use native.Mathlib.Numerals.{add-one}
 use lib.ListN.{length, set}
 use lib.Dec.{eqb}
-use lib.Seq.{sets}
 use borrow.Author.Tests.{eq-eqb, ne-eqb, eqb-true, not-false}
 use Rattle.wire.specs.Put.{putOf}
 use Rattle.wire.proofs.Puts.{put-sets}
@@ -20,7 +18,7 @@ use Rattle.bridge.specs.Answers.{Opened, openedOf}
 use Rattle.bridge.specs.Model.{sound, asks, partOf, bytes′}
 use Rattle.bridge.proofs.CodeSlots.{free-from, holder-from, holder-small, from-four}
 use Rattle.bridge.proofs.Sound.{SlotOk, okFree, okReady, okWaiting, okDone, okGaveUp, true-sound}
-use Rattle.bridge.proofs.Refusals.{OpenFacts, open-facts, lent-ok}
+use Rattle.bridge.proofs.Refusals.{open-facts, lent-ok}
 
 -- ── Opening ────────────────────────────────────────────────────────────────────────────────────────────────────────
 

@@ -1,13 +1,13 @@
 -- Laws of frames by which the code's functions are proved: what a ready slot sends, and what a waiting one takes.
 use Prim.Native.Nat.{ℕ, zero, suc, _+_, _*_, _-_, _≤_, _<_}
 use mathlib.Core.Path.{_≡_, refl, sym, _∙_, ap}
-use mathlib.Core.Bool.{Bool, true, false, not, true≢false}
+use mathlib.Core.Bool.{true, false, not, true≢false}
 use mathlib.Core.Logic.{_⊎_, inl, inr}
-use mathlib.Core.List.{List, []}
+use mathlib.Core.List.{List}
 use mathlib.Core.Option.{none, some}
 use native.Mathlib.Omega.{arith}
 use native.Mathlib.Numerals.{add-one}
-use lib.ListN.{length, set, take, drop}
+use lib.ListN.{length, set}
 use lib.Seq.{sets}
 use lib.Dec.{eqb}
 use borrow.Author.Tests.{le-ltb, eq-eqb, ne-eqb}
@@ -21,18 +21,17 @@ use Rattle.bus.specs.Holder.{noAnswer}
 use Rattle.bus.specs.declared.Parts.{Parts}
 use Rattle.bus.specs.declared.Packed.{Packed}
 use Rattle.bus.specs.declared.Packed.the-variants as P
-use Rattle.bus.specs.declared.Unpacked.{Unpacked}
 use Rattle.bus.specs.declared.Unpacked.the-variants as U
 use Rattle.bus.specs.declared.Request.{Request}
-use Rattle.bus.specs.declared.RequestBytes.{RequestBytes}
 use Rattle.bus.proofs.IdentLaws.{unpacked-is}
-use Rattle.bus.proofs.FrameLaws.{part-length, content-length, head-short}
+use Rattle.bus.proofs.FrameLaws.{part-length, head-short}
 use Rattle.bridge.specs.Model.{Frame, Bridge, Slot, slot, sound, isReady, isNone, from, orFour, nextReady, agedBridge, lentRefusal, turn′}
 use Rattle.bridge.specs.Model.{sendFor, chunkLen, outgoing, awaits, awaiting, contentRefusal, replyRefusal, frame′, advanced, withSlots}
+use Rattle.bridge.specs.Model.{waiting, asks, moved, requested, sentSlot}
 use Rattle.bridge.specs.Answers.{Stepped, steppedOf}
-use Rattle.bridge.proofs.Search.{search-some, Lowest, lowest-some, option-cases}
-use Rattle.bridge.proofs.Sound.{Sound, ReadyOk, ready-ok, true-sound, sound-true}
-use Rattle.bridge.proofs.CallKinds.{aged-sound, AwaitsOk, awaits-ok, WaitOk, wait-ok}
+use Rattle.bridge.proofs.Search.{search-some, lowest-some, option-cases}
+use Rattle.bridge.proofs.Sound.{ReadyOk, ready-ok, true-sound, sound-true}
+use Rattle.bridge.proofs.CallKinds.{aged-sound, AwaitsOk, awaits-ok, wait-ok}
 use Rattle.bridge.proofs.FrameLaws.{len-eight, len-inside}
 use Rattle.bridge.proofs.Refusals.{lent-ok}
 use Rattle.bridge.proofs.CodeSlots.{awaiting-from}
@@ -69,6 +68,15 @@ module _ (k : ℕ) (x : Slot) (b : List ℕ) (hk : k < 4) (hp : x .progress < x 
 
   pub goes-eight : length (outgoing k x b) ≤ 8
   goes-eight = omega (arith, goes-length, len-eight (x .count) (x .progress))
+
+-- a slot that sent
+pub sent-asks : (x : Slot) → asks (x .kind) ≡ true → moved x waiting (x .progress) (x .sends + 1) 20 ≡ sentSlot x
+unfolding sentSlot requested
+sent-asks x e = rw (e, add-one (x .sends))
+
+pub sent-goes-on : (x : Slot) → asks (x .kind) ≡ false → advanced x ≡ sentSlot x
+unfolding sentSlot
+sent-goes-on x e = rw e
 
 -- what is known of a ready slot of a sound bridge
 pub readies : (s : Bridge) (k : ℕ) → sound s ≡ true → k < 4 → isReady (slot s k .phase) ≡ true → ReadyOk (s .tickets) (slot s k)

@@ -1,10 +1,9 @@
+use Rattle.wire.specs.Order.{_if_else_}
 use borrow.Author.Needs.{needs}
 use Rattle.bridge.proofs.ending.reset.Statement.{statement}
 use Rattle.bridge.proofs.ending.reset.Tie as tie
-use mathlib.Core.Path.{_≡_}
 use Rattle.bridge.specs.Model.{reset′, resetRefusal}
 use borrow.Author.Tests.{lt-ltb, le-ltb}
-use Rattle.wire.specs.Order.{_if_else_}
 use Rattle.bridge.proofs.Theorem.{demand3, calls}
 use Rattle.bridge.proofs.Corollary.{corollaries}
 use Rattle.bridge.proofs.ExampleRuns.{examples}

@@ -1,7 +1,7 @@
 use borrow.Author.Needs.{needs}
 use Rattle.bridge.proofs.incoming.awaiting.Statement.{statement}
 use Rattle.bridge.proofs.incoming.awaiting.Tie as tie
-use mathlib.Core.Path.{sym, _∙_, ap}
+use mathlib.Core.Path.{sym, _∙_}
 use Rattle.bus.specs.Ident.{partsOf}
 use Rattle.bridge.specs.Model.{awaiting, awaits, slot, firstSlot}
 use Rattle.bridge.proofs.CodeFrames.{content-parts, head-is}

@@ -1,7 +1,7 @@
 use borrow.Author.Needs.{needs}
 use Rattle.bridge.proofs.incoming.frame.Statement.{statement}
 use Rattle.bridge.proofs.incoming.frame.Tie as tie
-use mathlib.Core.Path.{sym, _∙_, ap}
+use mathlib.Core.Path.{sym, _∙_}
 use native.Mathlib.Omega.{arith}
 use Rattle.bus.specs.Frames.{content}
 use Rattle.bridge.specs.Model.{slot}

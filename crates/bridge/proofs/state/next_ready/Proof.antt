@@ -1,6 +1,6 @@
 use Rattle.bridge.proofs.state.next_ready.Statement.{statement}
 use Rattle.bridge.proofs.state.next_ready.Tie as tie
-use Prim.Native.Nat.{_+_, _-_, _≤_}
+use Prim.Native.Nat.{ℕ, _+_, _-_, _≤_}
 use mathlib.Core.Path.{_≡_, sym, _∙_, ap}
 use native.Mathlib.Omega.{arith}
 use Rattle.bridge.specs.Model.{firstSlot, orFour}
@@ -20,7 +20,7 @@ add-start : tie.Need-add-start Inv-loop μ-loop
 add-start c = search needs
 
 loop-holds : tie.Need-loop-holds Inv-loop μ-loop
-loop-holds c = (omega arith, let z : c .before .before .args .b .last + 1 + 0 ≡ c .before .before .args .b .last + 1 = omega arith in rw z)
+loop-holds c = (omega arith, ap (λ (n : ℕ). firstSlot (readyIn (c .before .before .args .b .slots)) n 4) (omega arith))
 
 add-k : tie.Need-add-k Inv-loop μ-loop
 add-k c = search needs

@@ -1,7 +1,6 @@
 use borrow.Author.Needs.{needs}
 use Rattle.bridge.proofs.state.sound_phase.Statement.{statement}
 use Rattle.bridge.proofs.state.sound_phase.Tie as tie
-use mathlib.Core.Path.{_≡_}
 use borrow.Author.Tests.{eq-eqb, ne-eqb}
 use Rattle.bridge.specs.Model.{soundPhase}
 

@@ -1,9 +1,9 @@
+use Rattle.wire.specs.Order.{_if_else_}
 use borrow.Author.Needs.{needs}
 use Rattle.bridge.proofs.tickets.ticket_number.Statement.{statement}
 use Rattle.bridge.proofs.tickets.ticket_number.Tie as tie
 use mathlib.Core.Path.{_∙_}
 use Rattle.bridge.specs.Model.{ticketNumber, slot}
-use Rattle.wire.specs.Order.{_if_else_}
 use native.Mathlib.Omega.{arith}
 use Rattle.bridge.proofs.CodeSlots.{holder-none, holder-some}
 

@@ -1,7 +1,6 @@
 use borrow.Author.Needs.{needs}
 use Rattle.bridge.proofs.turning.command_frame.Statement.{statement}
 use Rattle.bridge.proofs.turning.command_frame.Tie as tie
-use mathlib.Core.Path.{sym, _∙_, ap}
 use native.Mathlib.Omega.{arith}
 use Rattle.bus.specs.Frames.{frameOf}
 use Rattle.bus.proofs.FrameLaws.{part-is}

@@ -1,8 +1,7 @@
 use borrow.Author.Needs.{needs}
 use Rattle.bridge.proofs.turning.identifier.Statement.{statement}
 use Rattle.bridge.proofs.turning.identifier.Tie as tie
-use mathlib.Core.Path.{sym, _∙_}
-use native.Mathlib.Omega.{arith}
+use mathlib.Core.Path.{_∙_}
 use Rattle.bridge.proofs.CodeFrames.{packs, not-refused, is-id}
 
 cast-t6 : tie.Need-cast-t6

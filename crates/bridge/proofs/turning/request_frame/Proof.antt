@@ -1,7 +1,7 @@
 use borrow.Author.Needs.{needs}
 use Rattle.bridge.proofs.turning.request_frame.Statement.{statement}
 use Rattle.bridge.proofs.turning.request_frame.Tie as tie
-use mathlib.Core.Path.{sym, _∙_, ap}
+use mathlib.Core.Path.{_∙_}
 use native.Mathlib.Omega.{arith}
 use Rattle.bus.specs.Frames.{frameOf, padded}
 use Rattle.bus.specs.Request.{request}

@@ -1,9 +1,7 @@
 use borrow.Author.Needs.{needs}
 use Rattle.bridge.proofs.turning.send.Statement.{statement}
 use Rattle.bridge.proofs.turning.send.Tie as tie
-use mathlib.Core.Path.{sym, _∙_, ap}
-use native.Mathlib.Omega.{arith}
-use Rattle.bridge.specs.Model.{sendFor, slot, sound}
+use Rattle.bridge.specs.Model.{sendFor, slot}
 use Rattle.bridge.specs.Answers.{steppedOf}
 use Rattle.bridge.proofs.Sound.{true-sound}
 use Rattle.bridge.proofs.CodeFrames.{readies}

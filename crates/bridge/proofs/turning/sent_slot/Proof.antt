@@ -2,8 +2,7 @@ use borrow.Author.Needs.{needs}
 use Rattle.bridge.proofs.turning.sent_slot.Statement.{statement}
 use Rattle.bridge.proofs.turning.sent_slot.Tie as tie
 use mathlib.Core.Path.{sym, _∙_}
-use native.Mathlib.Numerals.{add-one}
-use Rattle.bridge.specs.Model.{sentSlot, requested}
+use Rattle.bridge.proofs.CodeFrames.{sent-asks, sent-goes-on}
 
 asks-requires : tie.Need-asks-requires
 asks-requires c κs = search needs
@@ -15,15 +14,13 @@ moved-requires : tie.Need-moved-requires
 moved-requires c κs = search needs
 
 returns : tie.Need-returns
-unfolding sentSlot requested
-returns c = c .moved .ensures ∙ rw (sym (c .before .before .before .asks .ensures) ∙ c .before .before .if1 .taken, add-one (c .before .before .before .before .args .x .sends))
+returns c = c .moved .ensures ∙ sent-asks _ (sym (c .before .before .before .asks .ensures) ∙ c .before .before .if1 .taken)
 
 advance-requires : tie.Need-advance-requires
 advance-requires c κs = search needs
 
 returns-2 : tie.Need-returns-2
-unfolding sentSlot
-returns-2 c = c .advance .ensures ∙ rw (sym (c .before .before .asks .ensures) ∙ c .before .if1 .left)
+returns-2 c = c .advance .ensures ∙ sent-goes-on _ (sym (c .before .before .asks .ensures) ∙ c .before .if1 .left)
 
 pub sent-slot-spec : {M : Type 1} → statement M
 sent-slot-spec =
