@@ -341,10 +341,10 @@ pub record AwaitsOk (s : Bridge) (f : Frame) (k : ℕ) : Type 0 where
 pub awaits-ok : (s : Bridge) (f : Frame) (k : ℕ) → awaits s f k ≡ true → AwaitsOk s f k
 unfolding awaits
 awaits-ok s f k e =
-    let p1 = and-true _ (eqb (f .len) (chunkLen (slot s k .count) (slot s k .progress))) e in
-    let p2 = and-true _ (eqb (idOffset (f .id)) (128 * k + slot s k .progress)) (p1 .0) in
-    let p3 = and-true _ (eqb (idFrom (f .id)) (slot s k .device)) (p2 .0) in
-    let p4 = and-true (isWaiting (slot s k .phase)) (eqb (idTable (f .id)) 6) (p3 .0) in
+    let p1 = and-true _ _ e in
+    let p2 = and-true _ _ (p1 .0) in
+    let p3 = and-true _ _ (p2 .0) in
+    let p4 = and-true _ _ (p3 .0) in
     record {
       waits = p4 .0;
       table = eqb-true _ 6 (p4 .1);

@@ -12,7 +12,7 @@ use Rattle.bridge.specs.Corollaries.{Corollaries}
 use Rattle.bridge.proofs.Search.{cases}
 use Rattle.bridge.proofs.Storages.{turns-mono}
 use Rattle.bridge.proofs.Past.{past-read}
-use Rattle.bridge.proofs.TableBytes.{table-since}
+use Rattle.bridge.proofs.TableBytes.{table-since, taken-answers}
 use Rattle.bridge.proofs.Theorem.{claims}
 
 failed-stays : (r : Run) (x : Transfer r) (c j n n′ : ℕ) → n ≤ n′ → Failed r x c j n → Failed r x c j n′
@@ -84,4 +84,5 @@ corollaries = record {
     shown = shown-stays r w x n n′ l s s′;
   };
   narrowMeanwhile = λ r w x n s rd e t a un. table-since r w x n t a un s (past-read r w x rd n s) e;
+  takenAnswers = λ r w x n t a. taken-answers r w x n t a;
 }

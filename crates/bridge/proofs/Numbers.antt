@@ -240,7 +240,7 @@ opens-exactly s b a = (there, back)
           table = o .law .table;
           nonempty = omega (arith, o .law .some);
           few = o .law .few;
-          inside = o .law .inside;
+          inside = omega (arith, o .law .inside);
           room = free-slot (option-cases (lowestFree s)) (o .slotted);
           ticket = o .ticketed;
         }

@@ -13,7 +13,7 @@ use Rattle.bus.specs.Holder.{startOf, requestAt, placeOf, answerWith, serveOf}
 use Rattle.bus.specs.Ident.{idOf, idOffset, idKind, idFrom, idTable}
 use Rattle.bus.specs.Request.{request}
 use Rattle.bus.specs.declared.Directory.{Directory}
-use Rattle.bridge.specs.Model.{Frame, Slot, done, opening, aged, sentFrame, chunkLen, contentRefusal, askTable, askOffset, askCount, asks}
+use Rattle.bridge.specs.Model.{Frame, Slot, done, opening, aged, sentFrame, chunkLen, contentRefusal, askDevice, askTable, askOffset, askCount, asks}
 use Rattle.bridge.specs.Model.{carries}
 use Rattle.bridge.specs.Statement.{Arrives, Sent, Run, state, buffer, Lawful, Transfer, slotOf, Stands, lenOf, Replied, brought}
 use Rattle.bridge.specs.Statement.{showing, shownAt, Done, Device, Timeline, range, Own, NotAfter, Meanwhile, Arrivals, Unwritten}
@@ -136,10 +136,13 @@ module _ (r : Run) (w : Lawful r) (x : Transfer r) (n : ℕ) (t : Timeline) (pre
         device = f .1 .device;
       }
 
-  -- and holds the bytes of its chunk in the device's memory when it answered
-  reply-bytes : (c m : ℕ) → m < n → Replied r x c m → brought (r .calls m)
-      ≡ take (lenOf r x c) (drop (8 * c) (range r x (t .device (t .answered m))))
-  reply-bytes c m l p = kinds (k .common .told)
+  -- it answers a request of this read, and holds the bytes of its chunk in the device's memory when it answered
+  record Answers (c m : ℕ) : Type 0 where
+    sent : Sent r x c (t .asked m)
+    bytes : brought (r .calls m) ≡ take (lenOf r x c) (drop (8 * c) (range r x (t .device (t .answered m))))
+
+  answers : (c m : ℕ) → m < n → Replied r x c m → Answers c m
+  answers c m l p = kinds (k .common .told)
     where
       sm : (8 * c < askCount (x .ask)) × (c < 16)
       sm = chunk-small r w x c (p .awaits .sent .chunk)
@@ -181,13 +184,24 @@ module _ (r : Run) (w : Lawful r) (x : Transfer r) (n : ℕ) (t : Timeline) (pre
       sa = aged-same (view r y j)
 
       kinds : (carries (aged (view r y j) .kind) ≡ true) ⊎ (asks (aged (view r y j) .kind) ≡ true)
-          → brought (r .calls m) ≡ take (lenOf r x c) (drop (8 * c) (range r x (t .device (t .answered m))))
+          → Answers c m
       kinds (inl u) = absurd (command-unanswered d mem (sentFrame (state r j .own) (slotOf r y) (aged (view r y j)) (buffer r j)) (ow .reply)
           sv (ap (λ (f : Frame). idKind (f .id)) (write-is (state r j .own) (slotOf r y) (aged (view r y j)) (buffer r j) u)
           ∙ ap idKind (id-of _ _)
           ∙ kind-of-id _ cmd _ _ _ (omega (arith, k .mid .below, k .common .inside)) (omega arith) (omega (arith, ownS))
           (omega (arith, k .common .device)) (omega (arith, k .common .table))))
-      kinds (inr u) = ap brought (fo .1 .is) ∙ ow .sameBytes ∙ an .bytes ∙ same-range
+      kinds (inr u) = record {
+        sent = record {
+          stands = (omega (arith, at, sd .stands .0), λ i a b. p .awaits .stands .1 i a (omega (arith, ow .earlier)));
+          isRead = p .awaits .sent .isRead;
+          chunk = p .awaits .sent .chunk;
+          turned = ow .turned;
+          yields = ow .yields
+              ∙ ap some (sd .is ∙ ap (λ (i : ℕ). sentFrame (state r j .own) i (aged (view r y j)) (buffer r j)) (sp .0)
+              ∙ sends-request r w x c j (aged (view r y j)) u progress (sa .device ∙ h .device ∙ ap askDevice ask) tab off cnt);
+        };
+        bytes = ap brought (fo .1 .is) ∙ ow .sameBytes ∙ an .bytes ∙ same-range;
+      }
         where
           an : Answered d mem (state r j .own) (slotOf r y) (aged (view r y j)) (ow .reply)
           an = answered d mem (state r j .own) (slotOf r y) (state r j .tickets) (aged (view r y j)) (buffer r j) (ow .reply)
@@ -252,7 +266,7 @@ module _ (r : Run) (w : Lawful r) (x : Transfer r) (n : ℕ) (t : Timeline) (pre
           let ow : Own r t (gt .m) _ = pre .own (gt .m) _ (arrives c (gt .m) (gt .before) (gt .replied)) in
           ap (λ (l : List ℕ). take (lenOf r x c) (drop (8 * c) l))
           (un .unchanged τ (t .answered (gt .m)) mw (covers c (gt .m) (gt .before) (gt .replied) (ow .untilArrived)))
-          ∙ sym (reply-bytes c (gt .m) (gt .before) (gt .replied))
+          ∙ sym (answers c (gt .m) (gt .before) (gt .replied) .bytes)
 
   -- an answer that was taken is meanwhile
   taken-meanwhile : (τ₀ : ℕ) → NotAfter r x n t τ₀ → (c m : ℕ) → m < n → Replied r x c m → t .answered m ≤ t .when m
@@ -286,3 +300,6 @@ module _ (r : Run) (w : Lawful r) (x : Transfer r) (n : ℕ) (t : Timeline) (pre
     last = p;
     until = omega arith;
   })
+
+  pub taken-answers : (c m : ℕ) → m < n → Replied r x c m → Sent r x c (t .asked m)
+  taken-answers c m l p = answers c m l p .sent

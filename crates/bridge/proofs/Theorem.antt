@@ -95,7 +95,7 @@ module _ (r : Run) (w : Lawful r) (x : Transfer r) (n : ℕ) (s : Stands r x n) 
   claims = record {
     places = places r w x;
     alone = λ y t. alone r w x y n s t;
-    ends = ends;
+    ends = λ e. ends (omega arith);
     otherwise = unfinished-is r w x n s;
     gaveUp = (λ e. gaveUp→ (gave-up-is r w x n s .0 e), λ t. gave-up-is r w x n s .1 (failed-thrice r w x n s t));
     read = reading;

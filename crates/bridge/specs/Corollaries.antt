@@ -1,10 +1,10 @@
--- Beside demand 3: what has ended stays so, and a premise on writes that asks for less.
+-- Beside demand 3: what has ended stays so; a premise on writes that asks for less; which answers a read takes.
 use Prim.Native.Nat.{ℕ, _≤_, _<_}
 use mathlib.Core.Path.{_≡_}
 use mathlib.Core.Bool.{false}
 use Rattle.bridge.specs.Model.{isWrite}
 use Rattle.bridge.specs.Statement.{Run, Lawful, Transfer, Stands, Done, GivenUp, shownAt, showing, Replied, Timeline, range, Arrivals}
-use Rattle.bridge.specs.Statement.{Unwritten}
+use Rattle.bridge.specs.Statement.{Unwritten, Sent}
 
 -- ── What has ended stays so while it stands ────────────────────────────────────────────────────────────────────────
 
@@ -40,7 +40,15 @@ NarrowMeanwhile =
     (t : Timeline) → Arrivals r x n t → Unwritten r x t (SinceTaken r x n t) →
     (τ : ℕ) → SinceTaken r x n t τ → shownAt r x n ≡ showing (range r x (t .device τ))
 
+-- ── What the read took are answers to this read ────────────────────────────────────────────────────────────────────
+
+abbrev pub TakenAnswers : Type 0
+TakenAnswers =
+    (r : Run) → Lawful r → (x : Transfer r) (n : ℕ) (t : Timeline) → Arrivals r x n t →
+    (c m : ℕ) → m < n → Replied r x c m → Sent r x c (t .asked m)
+
 -- all of it
 pub record Corollaries : Type 0 where
   pub endedStays : EndedStays
   pub narrowMeanwhile : NarrowMeanwhile
+  pub takenAnswers : TakenAnswers

@@ -312,7 +312,7 @@ pub record Arrives (r : Run) (x : Transfer r) (n m : ℕ) (f : Frame) : Type 0 w
   pub device : idFrom (f .id) ≡ askDevice (x .ask)
 
 -- it is THE DEVICE'S OWN, unaltered, to a request that these calls sent: the holder's rules (demand 2) give it for that request.
--- (The paper asks for `earlier`, `sinceAsked` and `sameLen`; the proof does without them.)
+-- (The paper asks for `earlier`, `sinceAsked` and `sameLen`; the proof of demand 3 does without them.)
 pub record Own (r : Run) (t : Timeline) (m : ℕ) (f : Frame) : Type 0 where
   pub request : Frame
   pub reply : Frame
@@ -330,6 +330,7 @@ pub record Own (r : Run) (t : Timeline) (m : ℕ) (f : Frame) : Type 0 where
 -- table's bytes are the range's then." ───────────────────────────────────────────────────────────────────────────────
 
 -- moment τ₀ is not after any answer that the read took; the device's first answer to this read, taken or lost, is such a moment
+-- (`TakenAnswers` of Corollaries: what it took are answers to this read)
 abbrev pub NotAfter : (r : Run) → Transfer r → ℕ → Timeline → ℕ → Type 0
 NotAfter r x n t τ₀ = (c m : ℕ) → m < n → Replied r x c m → τ₀ ≤ t .answered m
 
