@@ -51,6 +51,7 @@ fn awaiting(b: Bridge, f: bus::Frame) -> usize
     requires { ⌜ (b .own ≤ 15) × (contentRefusal (b .own) f ≡ 0) ⌝ }
     ensures { λ r. ⌜ r ≡ orFour (awaiting b f) ⌝ }
 {
+    // The frame was judged, so it has parts.
     let bus::Unpacked::Is(p) = bus::ident::read_head(b.own, f) else {
         return 4;
     };

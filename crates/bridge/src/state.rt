@@ -1,4 +1,5 @@
 // Slots: which are sound, how they age, and which one is searched for.
+ghost use Prim.Native.Nat.{_<_};
 ghost use mathlib.Core.Path.{_≡_};
 ghost use mathlib.Core.Bool.{false, cond, not, _&&_, _||_};
 ghost use mathlib.Core.List.{[], _∷_};
@@ -323,15 +324,23 @@ pub(crate) fn age_all(b: Bridge) -> Bridge
     }
 }
 
-// How many bytes go with the next frame: eight, the last fewer.
+// How many bytes the next frame of an unfinished transfer asks for or carries: eight, the last fewer.
+pub(crate) fn next_len(count: u8, progress: u8) -> u8
+    requires { ⌜ progress < count ⌝ }
+    ensures { λ r. ⌜ r ≡ chunkLen count progress ⌝ }
+{
+    let n = count - progress;
+    if n < 8 { n } else { 8 }
+}
+
+// The same of any slot: 0 where nothing is left.
 pub(crate) fn chunk_len(count: u8, progress: u8) -> u8
     ensures { λ r. ⌜ r ≡ chunkLen count progress ⌝ }
 {
     if count <= progress {
         return 0;
     }
-    let n = count - progress;
-    if n < 8 { n } else { 8 }
+    next_len(count, progress)
 }
 
 // A slot past the current eight bytes: ready for the next, or done.

@@ -97,7 +97,7 @@ fn span_of(b: Bridge, n: usize, ticket: u32) -> Span
 
 // Where a done read's bytes lie in the buffer, with the number of the bytes call; an empty span otherwise.
 pub fn span(b: Bridge, buffer: &[u8], ticket: u32) -> Span
-    ensures { λ r. ⌜ r ≡ span′ b (length (now (buffer .entry))) ticket ⌝ }
+    ensures { λ r. ⌜ (r ≡ span′ b (length (now (buffer .entry))) ticket) × (r .start + r .count ≤ length (now (buffer .entry))) ⌝ }
 {
     span_of(b, buffer.len(), ticket)
 }

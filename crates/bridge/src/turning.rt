@@ -7,9 +7,9 @@ use crate::state::advance;
 use crate::state::age_all;
 use crate::state::asks;
 use crate::state::carries;
-use crate::state::chunk_len;
 use crate::state::lent_number;
 use crate::state::moved;
+use crate::state::next_len;
 use crate::state::next_ready;
 use crate::state::plain;
 ghost use mathlib.Core.Path.{_≡_};
@@ -34,6 +34,7 @@ fn identifier(own: u8, kind: u8, x: Slot) -> u32
         to: x.device,
         table: x.table,
     };
+    // The parts are in range, so they pack.
     let bus::Packed::Is(id) = bus::ident::pack(parts) else {
         return 0;
     };
@@ -45,8 +46,8 @@ fn request_frame(own: u8, k: usize, x: Slot) -> bus::Frame
     requires { ⌜ (own ≤ 15) × (k < 4) × (x .device ≤ 15) × (x .table ≤ 31) × (x .progress < x .count) × (x .count ≤ 128) × (x .offset + x .count ≤ 2048) ⌝ }
     ensures { λ r. ⌜ r ≡ readFrame own k x ⌝ }
 {
-    let id = identifier(own, 1, x);
-    let n = chunk_len(x.count, x.progress);
+    let id = identifier(own, bus::REQ, x);
+    let n = next_len(x.count, x.progress);
     let request = bus::Request {
         table: 6,
         count: n,
@@ -77,8 +78,8 @@ fn command_frame(own: u8, k: usize, x: Slot, buffer: &[u8]) -> bus::Frame
     requires { ⌜ (own ≤ 15) × (k < 4) × (x .device ≤ 15) × (x .table ≤ 31) × (x .progress < x .count) × (x .count ≤ 128) × (x .offset + x .count ≤ 2048) × (length (now buffer) ≡ 512) ⌝ }
     ensures { λ r. ⌜ r ≡ writeFrame own k x (now (buffer .entry)) ⌝ }
 {
-    let id = identifier(own, 0, x);
-    let n = chunk_len(x.count, x.progress);
+    let id = identifier(own, bus::CMD, x);
+    let n = next_len(x.count, x.progress);
     let start = 128 * k + x.progress as usize;
     let end = start + n as usize;
     let bytes = eight(&buffer[start..end]);

@@ -8,16 +8,11 @@ returns : tie.Need-returns
 unfolding chunkLen
 returns c = omega arith
 
-sub-n : tie.Need-sub-n
-sub-n c = search needs
+next-len-requires : tie.Need-next-len-requires
+next-len-requires c κs = search needs
 
 returns-2 : tie.Need-returns-2
-unfolding chunkLen
-returns-2 c = omega arith
-
-returns-3 : tie.Need-returns-3
-unfolding chunkLen
-returns-3 c = omega arith
+returns-2 c = c .next-len .ensures
 
 pub chunk-len-spec : {M : Type 1} → statement M
-chunk-len-spec = tie.close (tie.spec returns sub-n returns-2 returns-3)
+chunk-len-spec = tie.close (tie.spec returns next-len-requires returns-2)

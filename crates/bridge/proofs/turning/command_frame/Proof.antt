@@ -10,8 +10,8 @@ use Rattle.bridge.proofs.CodeFrames.{goes-inside, goes-length, goes-eig
 identifier-requires : tie.Need-identifier-requires
 identifier-requires c κs = search needs
 
-chunk-len-requires : tie.Need-chunk-len-requires
-chunk-len-requires c κs = search needs
+next-len-requires : tie.Need-next-len-requires
+next-len-requires c κs = search needs
 
 mul-start : tie.Need-mul-start
 mul-start c = search needs
@@ -35,22 +35,22 @@ part-eight-start : tie.Need-part-eight-start
 part-eight-start c = search needs
 
 part-eight-end : tie.Need-part-eight-end
-part-eight-end c = omega (arith, c .before .chunk-len .ensures, goes-inside (c .before .before .before .before .args .k) (c .before .before .before .before .args .x) (c .before .before .before .before .args .buffer .now) (c .before .before .before .before .pre .1) (c .before .before .before .before .pre .4) (c .before .before .before .before .pre .5) (c .before .before .before .before .pre .7))
+part-eight-end c = omega (arith, c .before .next-len .ensures, goes-inside (c .before .before .before .before .args .k) (c .before .before .before .before .args .x) (c .before .before .before .before .args .buffer .now) (c .before .before .before .before .pre .1) (c .before .before .before .before .pre .4) (c .before .before .before .before .pre .5) (c .before .before .before .before .pre .7))
 
 eight-requires : tie.Need-eight-requires
 unfolding outgoing
-eight-requires c κs = rw (part-is (c .before .before .before .before .before .args .buffer .now) _ _, c .before .before .chunk-len .ensures) (goes-eight (c .before .before .before .before .before .args .k) (c .before .before .before .before .before .args .x) (c .before .before .before .before .before .args .buffer .now) (c .before .before .before .before .before .pre .1) (c .before .before .before .before .before .pre .4) (c .before .before .before .before .before .pre .5) (c .before .before .before .before .before .pre .7))
+eight-requires c κs = rw (part-is (c .before .before .before .before .before .args .buffer .now) _ _, c .before .before .next-len .ensures) (goes-eight (c .before .before .before .before .before .args .k) (c .before .before .before .before .before .args .x) (c .before .before .before .before .before .args .buffer .now) (c .before .before .before .before .before .pre .1) (c .before .before .before .before .before .pre .4) (c .before .before .before .before .before .pre .5) (c .before .before .before .before .before .pre .7))
 
 returns : tie.Need-returns
 unfolding writeFrame frameOf outgoing
-returns c = rw (goes-length (c .before .before .before .before .before .before .args .k) (c .before .before .before .before .before .before .args .x) (c .before .before .before .before .before .before .args .buffer .now) (c .before .before .before .before .before .before .pre .1) (c .before .before .before .before .before .before .pre .4) (c .before .before .before .before .before .before .pre .5) (c .before .before .before .before .before .before .pre .7), c .before .before .before .before .identifier .ensures, c .eight .ensures, part-is (c .before .before .before .before .before .before .args .buffer .now) _ _, c .before .before .before .chunk-len .ensures)
+returns c = rw (goes-length (c .before .before .before .before .before .before .args .k) (c .before .before .before .before .before .before .args .x) (c .before .before .before .before .before .before .args .buffer .now) (c .before .before .before .before .before .before .pre .1) (c .before .before .before .before .before .before .pre .4) (c .before .before .before .before .before .before .pre .5) (c .before .before .before .before .before .before .pre .7), c .before .before .before .before .identifier .ensures, c .eight .ensures, part-is (c .before .before .before .before .before .before .args .buffer .now) _ _, c .before .before .before .next-len .ensures)
 
 pub command-frame-spec : {M : Type 1} → statement M
 command-frame-spec =
     tie.close
     (tie.spec
     identifier-requires
-    chunk-len-requires
+    next-len-requires
     mul-start
     cast-start
     add-start

@@ -12,8 +12,8 @@ use Rattle.bridge.proofs.FrameLaws.{len-eight}
 identifier-requires : tie.Need-identifier-requires
 identifier-requires c κs = search needs
 
-chunk-len-requires : tie.Need-chunk-len-requires
-chunk-len-requires c κs = search needs
+next-len-requires : tie.Need-next-len-requires
+next-len-requires c κs = search needs
 
 mul-t10 : tie.Need-mul-t10
 mul-t10 c = search needs
@@ -41,14 +41,14 @@ array-read-t22 c = search needs
 
 returns : tie.Need-returns
 unfolding readFrame frameOf padded request
-returns c = rw (c .before .before .before .before .identifier .ensures, c .before .request-bytes .ensures .0 ∙ requests _ (omega arith) (omega (arith, c .before .before .before .chunk-len .ensures, len-eight (c .before .before .before .before .before .args .x .count) (c .before .before .before .before .before .args .x .progress))) (omega arith), c .before .before .before .chunk-len .ensures)
+returns c = rw (c .before .before .before .before .identifier .ensures, c .before .request-bytes .ensures .0 ∙ requests _ (omega arith) (omega (arith, c .before .before .before .next-len .ensures, len-eight (c .before .before .before .before .before .args .x .count) (c .before .before .before .before .before .args .x .progress))) (omega arith), c .before .before .before .next-len .ensures)
 
 pub request-frame-spec : {M : Type 1} → statement M
 request-frame-spec =
     tie.close
     (tie.spec
     identifier-requires
-    chunk-len-requires
+    next-len-requires
     mul-t10
     cast-t11
     cast-t12
