@@ -10,7 +10,7 @@ use lib.ListN.{length, drop}
 use Rattle.wire.specs.Sum.{sumOf}
 use Rattle.wire.specs.Text.{textLen}
 use Rattle.wire.proofs.Orders.{if-yes, if-no, if-zero, not-no, not-false}
-use Rattle.mlg.specs.Block.{counterOf, blockLen, kindIn, counterIn, timeIn, recordIn, sumIn, textIn, lastOf, blockNumber, partsOf, blockJudged, blockOf, placeNumber, blockAt, BlockAnswer, noBlock, blockAnswer, partValues, restResult, blockResult}
+use Rattle.mlg.specs.Block.{counterOf, blockLen, kindIn, counterIn, timeIn, recordIn, sumIn, textIn, lastOf, blockNumber, partsOf, blockJudged, blockOf, placeNumber, blockAt, BlockAnswer, refusedKind, noBlock, blockAnswer, partValues, restResult, blockResult}
 use Rattle.mlg.specs.declared.Block.{Block}
 use Rattle.mlg.specs.declared.Block.the-variants.{Data, Mark, End, Refused}
 
@@ -70,7 +70,7 @@ unfolding blockAt placeNumber
 at-within l n f at h = judged-yes _ at _ (sym (if-no 23 _ 0 0 (le-ltb _ _ h) refl))
 
 -- what a block's answer says
-judged-values : (l n at : ℕ) (b : Block) (v : BlockAnswer) → blockAnswer l b ≡ v → blockAnswer l (blockJudged Refused n at b) ≡ blockJudged noBlock n at v
+judged-values : (l n at : ℕ) (b : Block) (v : BlockAnswer) → blockAnswer l b ≡ v → blockAnswer l (blockJudged Refused n at b) ≡ blockJudged (noBlock refusedKind) n at v
 unfolding blockJudged blockAnswer
 judged-values l zero at b v e = e
 judged-values l (suc n) at b v e = refl

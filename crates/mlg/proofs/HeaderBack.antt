@@ -52,7 +52,7 @@ name-in t i b s n r =
     (if-no 21 _ _ 0 (not-no _ refl) (if-no 22 _ _ 0 (not-no _ refl) refl))
 
 -- what follows the fields does not matter to their checks
-body-alone : (h : Header) (t r a : List ℕ) → fieldLen (h .version) * h .count ≤ length t → bodyNumber h (t ++ r) a ≡ bodyNumber h t a
+pub body-alone : (h : Header) (t r a : List ℕ) → fieldLen (h .version) * h .count ≤ length t → bodyNumber h (t ++ r) a ≡ bodyNumber h t a
 unfolding bodyNumber lastNumber
 body-alone h t r a k = rw (fields-alone (h .version) (fieldsEnd h) a (h .count) t r k, sizes-alone (h .version) (h .count) t r k)
 

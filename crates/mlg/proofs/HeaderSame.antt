@@ -1,31 +1,34 @@
 -- A file in the writer's layout, rewritten from what was read.
-use Prim.Native.Nat.{ℕ, zero, suc, _+_, _*_, _-_, _/_, _≤_, _<_}
+use Prim.Native.Nat.{ℕ, zero, suc, _+_, _*_, _-_, _/_, _%_, _≤_, _<_}
 use mathlib.Core.Path.{_≡_, refl, sym, ap, _∙_}
 use mathlib.Core.Logic.{_⊎_, inl, inr}
 use mathlib.Core.List.{List, [], _∷_, _++_, append-nil}
 use native.Mathlib.Omega.{arith}
-use borrow.Author.Tests.{eq-eqb, ne-eqb, eqb-true, ltb-false}
+use borrow.Author.Tests.{eq-eqb, ne-eqb, eqb-true, ltb-false, le-ltb}
+use lib.Dec.{eqb}
 use lib.ListN.{length, take, drop, length-drop, take-append-drop}
 use lib.Seq.{length-take-le, take-suc}
 use Rattle.wire.specs.BigEndian.{beOf, beAt, bytesOf}
 use Rattle.wire.specs.Text.{textLen}
 use Rattle.wire.proofs.Answers.{answered}
-use Rattle.wire.proofs.Numbers.{Bytes, part-back}
-use Rattle.wire.proofs.Orders.{if-zero, else-zero, not-false}
+use Rattle.wire.proofs.Numbers.{Bytes, bytes-drop, part-back}
+use Rattle.wire.proofs.Orders.{if-zero, if-no, else-zero, else-none, not-false, not-no}
 use Rattle.wire.proofs.Parts.{part-in-two}
 use Rattle.wire.proofs.Texts.{text-zero}
-use Rattle.field.specs.Layout.{served, layoutOf}
+use Rattle.field.specs.Layout.{served, layoutOf, headerLen, infoLen, fieldLen}
 use Rattle.mlg.specs.Area.{ended, areaOf, infoStart}
 use Rattle.mlg.specs.Fields.{sizes}
-use Rattle.mlg.specs.Header.{logName, versionIn, numbersOf, fieldsEnd, fieldsFrom, nameNumber, lastNumber, bodyNumber, headNumber, headerOf}
-use Rattle.mlg.specs.Writing.{numberBytes, headerFor, headerBytes}
+use Rattle.mlg.specs.Header.{logName, versionIn, numbersOf, fieldsEnd, fieldsFrom, areaIn, nameNumber, lastNumber, bodyNumber, headNumber, headerOf}
+use Rattle.mlg.specs.Writing.{numberBytes, headerFor, headerBytes, lengthsNumber, headerNumber}
 use Rattle.mlg.specs.Parts.{fieldsIn, namesEnd, namesIn, infoLength, infoIn}
 use Rattle.mlg.specs.Log.{logOf}
 use Rattle.mlg.specs.RoundTrip.{InLayout, LogSame, logBytes}
 use Rattle.mlg.specs.declared.Header.{Header}
 use Rattle.mlg.specs.declared.Head.the-variants.{Is, Refused}
+use Rattle.mlg.proofs.Accepted.{two-below, four-below, text-whole}
 use Rattle.mlg.proofs.Areas.{ended-some}
 use Rattle.mlg.proofs.EachField.{sizes-alone}
+use Rattle.mlg.proofs.HeaderBack.{body-alone}
 use Rattle.mlg.proofs.HeaderBytes.{start-some}
 use Rattle.mlg.proofs.LogSame.{same-from}
 use Rattle.mlg.proofs.Places.{Placed, placed}
@@ -42,6 +45,7 @@ record Sound (f : List ℕ) (h : Header) : Type 0 where
   version : h .version ≡ 2
   places : Placed (length f) h
   size : sizes (h .version) (h .count) (fieldsFrom f h) ≡ h .size
+  body : bodyNumber h (fieldsFrom f h) (areaIn f h) ≡ 0
 
 version-is : (f : List ℕ) → numbersOf f .version ≡ versionIn f
 unfolding numbersOf
@@ -73,6 +77,7 @@ sound f h e =
       version = sym (ap (λ (g : Header). g .version) (j .1)) ∙ version-is f ∙ n .2;
       places = rw (j .1) at (placed (length f) (numbersOf f) (b .0));
       size = rw (j .1) at (sized (numbersOf f) _ _ (b .1));
+      body = rw (j .1) at (b .1);
     }
 
 glue : {a b r s : List ℕ} → a ≡ b → r ≡ s → a ++ r ≡ b ++ s
@@ -92,6 +97,16 @@ numbers-same f b h e =
     ∙ ap (λ (r : List ℕ). take 4 (drop 8 f) ++ r) (part-in-two 12 4 8 f
     ∙ ap (λ (r : List ℕ). take 4 (drop 12 f) ++ r) (part-in-two 16 4 4 f
     ∙ ap (λ (r : List ℕ). take 4 (drop 16 f) ++ r) (part-in-two 20 2 2 f)))))))
+
+-- and their widths
+numbers-below : (f : List ℕ) → Bytes f → (numbersOf f .size < 65536) × (numbersOf f .count < 65536) × (numbersOf f .begin < 4294967296)
+unfolding numbersOf
+numbers-below f b =
+    let w = infoLen (versionIn f) in (
+      two-below (drop (16 + w) f) (bytes-drop (16 + w) f b),
+      two-below (drop (18 + w) f) (bytes-drop (18 + w) f b),
+      four-below (drop (12 + w) f) (bytes-drop (12 + w) f b),
+    )
 
 -- the parts, back to back
 module _ (f : List ℕ) (h : Header) (ok : Sound f h) where
@@ -232,9 +247,49 @@ module _ (f : List ℕ) (h : Header) (bytes : Bytes f) (ok : Sound f h) (lay : I
       (glue (ap numberBytes (header-is ∙ sym (ok .numbers)) ∙ n) (rest-is f h ok lay)
       ∙ sym (rw a at (part-in-two 0 24 (h .begin - 24) f)))
 
+  -- no writer refuses it
+  body-accepted : bodyNumber h (fields f h ok) (areaOf (namesIn f h) (infoIn f h)) ≡ 0
+  unfolding areaIn layoutOf
+  body-accepted =
+      let area = take (h .begin - fieldsEnd h) (drop (fieldsEnd h) f) in
+      let rest = drop (fieldsEnd h - 24) (drop 24 f) in
+      let split : fields f h ok ++ rest ≡ drop 24 f = take-append-drop (fieldsEnd h - 24) (drop 24 f) in
+      let each : fieldLen (h .version) ≡ 89 = ap fieldLen (ok .version) in
+      let start : 24 ≡ headerLen (h .version) = sym (ap headerLen (ok .version)) in
+      let k : fieldLen (h .version) * h .count ≤ length (fields f h ok) = rw each (omega (arith, fields-length f h ok)) in
+      rw (area-is f h ok lay)
+      (sym (body-alone h (fields f h ok) rest area k) ∙ ap (λ (t : List ℕ). bodyNumber h t area) split ∙ ap (λ (n : ℕ). bodyNumber h (drop n f) area) start ∙ ok .body)
+
+  info-whole : length (infoIn f h) ≤ textLen (infoIn f h)
+  unfolding infoIn infoLength
+  info-whole = text-whole (eqb (h .info) 0) (drop (h .info) f)
+
+  lengths-accepted : lengthsNumber 2 (fields f h ok) (namesIn f h) (infoIn f h) ≡ 0
+  unfolding lengthsNumber layoutOf
+  lengths-accepted =
+      let n = rw (ok .numbers) at (numbers-below f bytes) in
+      let c = count-is f h ok lay in
+      let s = size-is f h ok lay in
+      let b = begin-is f h ok lay in
+      let l = fields-length f h ok in
+      sym (if-no 23 _ _ 0 (not-no _ (eq-eqb (length (fields f h ok) % 89) 0 (omega arith)))
+      (if-no 23 _ _ 0 (le-ltb 65535 (length (fields f h ok) / 89) (omega (arith, n .1)))
+      (if-no 23 _ _ 0 (le-ltb 65535 (sizes 2 (length (fields f h ok) / 89) (fields f h ok)) (omega (arith, n .0)))
+      (if-no 23 _ _ 0 (le-ltb 4294967295 (24 + length (fields f h ok) + length (areaOf (namesIn f h) (infoIn f h))) (omega (arith, n .2)))
+      (if-no 28 _ _ 0 (le-ltb (textLen (infoIn f h)) (length (infoIn f h)) info-whole) refl)))))
+
+  header-accepted : headerNumber 2 (h .time) (fieldsIn f h) (namesIn f h) (infoIn f h) (length f) ≡ 0
+  unfolding headerNumber
+  header-accepted =
+      let room : length (headerBytes 2 (h .time) (fieldsIn f h) (namesIn f h) (infoIn f h)) ≤ length f = rw header-same (rw (length-take-le (h .begin) f (ok .places .data-begins)) (ok .places .data-begins)) in
+      let body = ap (λ (g : Header). bodyNumber g (fields f h ok) (areaOf (namesIn f h) (infoIn f h))) header-is ∙ body-accepted in
+      let a : lengthsNumber 2 (fieldsIn f h) (namesIn f h) (infoIn f h) ≡ 0 = rw (fields-are f h ok) lengths-accepted in
+      let b : bodyNumber (headerFor 2 (h .time) (fieldsIn f h) (namesIn f h) (infoIn f h)) (fieldsIn f h) (areaOf (namesIn f h) (infoIn f h)) ≡ 0 = rw (fields-are f h ok) body in
+      sym (else-none _ _ 0 0 (sym a) refl (else-none _ _ 0 0 (sym b) refl (if-no 27 _ _ 0 (le-ltb (length f) (length (headerBytes 2 (h .time) (fieldsIn f h) (namesIn f h) (infoIn f h))) room) refl)))
+
 pub log-same : LogSame
 unfolding LogSame logBytes logOf
 log-same f h bytes e lay z r p =
     let ok = sound f h e in
     let s = same-from (h .size) f bytes (suc (length f)) 0 (h .begin) (ok .places .data-begins) (omega arith) z r p in
-    glue (header-same f h bytes ok lay) s ∙ take-append-drop (h .begin) f
+    (header-accepted f h bytes ok lay, s .0, glue (header-same f h bytes ok lay) (s .1) ∙ take-append-drop (h .begin) f)

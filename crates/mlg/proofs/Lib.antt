@@ -12,6 +12,7 @@ pub mod Rewrite
 pub mod HeaderBack
 pub mod Logs
 pub mod LogBack
+pub mod Accepted
 pub mod LogSame
 pub mod HeaderSame
 pub mod Tallies

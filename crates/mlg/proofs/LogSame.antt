@@ -1,22 +1,24 @@
 -- A log's blocks, rewritten from what was read.
-use Prim.Native.Nat.{ℕ, zero, suc, _+_, _-_, _≤_, _<_}
-use mathlib.Core.Path.{_≡_, sym, ap, _∙_}
+use Prim.Native.Nat.{ℕ, zero, suc, _+_, _-_, _^_, _≤_, _<_}
+use mathlib.Core.Path.{_≡_, refl, sym, ap, _∙_}
 use mathlib.Core.List.{List, [], _++_}
 use native.Mathlib.Omega.{arith}
 use borrow.Author.Tests.{eqb-true}
-use lib.ListN.{length, getD, take, drop, take-append-drop, drop-of-length-le}
-use lib.Seq.{drop-drop, take-take, getD-drop}
+use lib.ListN.{length, getD, take, drop, length-drop, take-append-drop, drop-of-length-le}
+use lib.Seq.{length-take-le, drop-drop, take-take, getD-drop}
 use Rattle.wire.specs.Text.{textLen}
+use Rattle.wire.proofs.Numbers.{bytes-drop}
 use Rattle.wire.proofs.Parts.{take-length-le}
 use Rattle.wire.proofs.Texts.{text-most}
-use Rattle.mlg.specs.Block.{counterOf, blockLen, kindIn, counterIn, timeIn, blockNumber, partsOf, blockAt}
-use Rattle.mlg.specs.Writing.{dataBytes, padded, markBytes}
+use Rattle.mlg.specs.Block.{counterOf, blockLen, kindIn, counterIn, timeIn, textIn, blockNumber, partsOf, blockAt}
+use Rattle.mlg.specs.Writing.{dataBytes, padded, markBytes, markNumber}
 use Rattle.mlg.specs.Log.{Log, lengthOf, logFrom}
-use Rattle.mlg.specs.Entries.{Entry, entriesBytes, entryIn, entriesIn, Right, Padded, AllRight, AllPadded, rewritten, PaddedHere}
+use Rattle.mlg.specs.Entries.{Entry, Writable, entriesBytes, entryIn, entriesIn, Right, Padded, AllRight, AllPadded, rewritten, PaddedHere}
 use Rattle.mlg.specs.RoundTrip.{BlockSame}
 use Rattle.mlg.specs.declared.Block.{Block}
 use Rattle.mlg.specs.declared.Block.the-variants.{End, Refused}
-use Rattle.mlg.proofs.Cases.{whole}
+use Rattle.mlg.proofs.Accepted.{two-below, text-taken, text-length, data-accepted, mark-accepted}
+use Rattle.mlg.proofs.Cases.{whole, data-whole, text-ends}
 use Rattle.mlg.proofs.Logs.{Next, Stands, a-block, the-end, refused, stands-at, step, parts-go, parts-length, log-end, log-refused, log-go}
 use Rattle.mlg.proofs.Rewrite.{block-same}
 
@@ -47,11 +49,31 @@ bytes-from : (at : ℕ) (f : List ℕ) → ((i : ℕ) → getD f i 0 < 256) → 
 bytes-from at f b i = rw (getD-drop at f i 0) (b (at + i))
 
 module _ (l : ℕ) (f : List ℕ) (bytes : (i : ℕ) → getD f i 0 < 256) where
+  -- what a block says, a writer accepts
+  record-length : (at : ℕ) → l + 5 ≤ length (drop at f) → length (take l (drop (at + 4) f)) ≡ l
+  record-length at h = length-take-le l (drop (at + 4) f) (rw (length-drop (at + 4) f) (omega (arith, length-drop at f)))
+
+  text-accepted : (at : ℕ) → textLen (textIn (drop at f)) < 50 → markNumber (take (textLen (textIn (drop at f))) (drop (at + 4) f)) 54 ≡ 0
+  text-accepted at h =
+      let t = textIn (drop at f) in
+      rw (← text-part at f) (mark-accepted (take (textLen t) t) (omega (arith, text-length t)) (omega (arith, text-length t, text-taken t)))
+
+  time-below : (at : ℕ) → timeIn (drop at f) < 2 ^ 16
+  time-below at = two-below (drop 2 (drop at f)) (bytes-drop 2 (drop at f) (bytes-from at f bytes))
+
+  accepted : (k c at : ℕ) (es : List Entry) → kindIn (drop at f) ≡ k → blockNumber l (drop at f) ≡ 0
+      → Writable l es → Writable l (entryIn l f (partsOf k c at (drop at f)) ++ es)
+  unfolding partsOf
+  accepted zero c at es e num ws = (data-accepted l _ (record-length at (data-whole l (drop at f) num e)), time-below at, ws)
+  accepted (suc k) c at es e num ws =
+      (text-accepted at (text-ends (kindIn (drop at f)) l (drop at f) (λ z. omega arith) (whole l (drop at f) num .2)), time-below at, ws)
+
   abbrev Same : Log → ℕ → ℕ → Type 0
-  Same log n at = log .ending ≡ End → AllRight (log .blocks) → AllPadded f (log .blocks) → entriesBytes n (entriesIn l f (log .blocks)) ≡ drop at f
+  Same log n at = log .ending ≡ End → AllRight (log .blocks) → AllPadded f (log .blocks)
+      → Writable l (entriesIn l f (log .blocks)) × (entriesBytes n (entriesIn l f (log .blocks)) ≡ drop at f)
 
   same-end : (log : Log) (n at : ℕ) → log ≡ record { blocks = []; ending = End; place = at } → at ≡ length f → Same log n at
-  same-end log n at e h = λ z r p. rw e (sym (drop-of-length-le f {i = at} (omega arith)))
+  same-end log n at e h = λ z r p. rw e (tt, sym (drop-of-length-le f {i = at} (omega arith)))
 
   same-refused : (log : Log) (n at m : ℕ) → log ≡ record { blocks = []; ending = Refused (suc m) at; place = at } → Same log n at
   same-refused log n at m e = λ z r p.
@@ -76,10 +98,12 @@ module _ (l : ℕ) (f : List ℕ) (bytes : (i : ℕ) → getD f i 0 < 256) where
     same-go log next g ih = λ z r p.
         let r′ = rw (g .0) at r in
         let p′ = rw (g .0) at p in
-        let rest = ih (sym (g .1) ∙ z) (r′ .1) (p′ .1) in
-        ap (λ (bs : List (ℕ × Block)). entriesBytes n (entriesIn l f bs)) (g .0)
-        ∙ said (kindIn (drop at f)) l n at f (entriesIn l f (next .blocks))
-        ∙ rw (rest, here (r′ .0) (p′ .0), len, ← drop-drop (blockLen l (kindIn (drop at f))) at f) (take-append-drop (blockLen l (kindIn (drop at f))) (drop at f))
+        let rest = ih (sym (g .1) ∙ z) (r′ .1) (p′ .1) in (
+          rw (g .0) (accepted (kindIn (drop at f)) (counterOf n) at (entriesIn l f (next .blocks)) refl num (rest .0)),
+          ap (λ (bs : List (ℕ × Block)). entriesBytes n (entriesIn l f bs)) (g .0)
+              ∙ said (kindIn (drop at f)) l n at f (entriesIn l f (next .blocks))
+              ∙ rw (rest .1, here (r′ .0) (p′ .0), len, ← drop-drop (blockLen l (kindIn (drop at f))) at f) (take-append-drop (blockLen l (kindIn (drop at f))) (drop at f)),
+        )
 
   same-by : (k n at : ℕ) → Stands l n f at (blockAt l n f at) → length f - at < suc k
       → ((m to : ℕ) → to ≤ length f → length f - to < k → Same (logFrom k l m f to) m to) → Same (logFrom (suc k) l n f at) n at

@@ -9,7 +9,7 @@ use lib.Dec.{ltb}
 use lib.ListN.{length, drop, length-drop}
 use Rattle.mlg.specs.Block.{counterOf, blockLen, kindIn, blockNumber, partsOf, blockAt}
 use Rattle.mlg.specs.Log.{Log, lengthOf, ahead, logFrom, logOf}
-use Rattle.mlg.specs.RoundTrip.{AllAt, LogPlaced}
+use Rattle.mlg.specs.RoundTrip.{AllAt, Ends, LogPlaced}
 use Rattle.mlg.specs.declared.Block.{Block}
 use Rattle.mlg.specs.declared.Block.the-variants.{Data, Mark, End, Refused}
 use Rattle.mlg.proofs.Cases.{at-past, at-within, block-end, block-here, judged-no, judged-yes, whole}
@@ -101,20 +101,29 @@ pub log-go : (k l n : ℕ) (f : List ℕ) (at : ℕ) (b : Block) → blockAt l n
     → Next (logFrom (suc k) l n f at) at b (logFrom k l (n + 1) f (at + lengthOf l b))
 log-go k l n f at b e g = rw e (go at b (logFrom k l (n + 1) f (at + lengthOf l b)) g)
 
--- each block is what stands at its place
-placed-by : (k l n : ℕ) (f : List ℕ) (at : ℕ) → Stands l n f at (blockAt l n f at)
-    → ((m to : ℕ) → AllAt l m f (logFrom k l m f to .blocks)) → AllAt l n f (logFrom (suc k) l n f at .blocks)
-placed-by k l n f at (the-end h e) ih = rw (log-end k l n f at e) tt
-placed-by k l n f at (refused m e) ih = rw (log-refused k l n f at (suc m) at e) tt
-placed-by k l n f at (a-block h some num e) ih =
-    let b : Block = partsOf (kindIn (drop at f)) (counterOf n) at (drop at f) in
-    let g = log-go k l n f at b e (parts-go (kindIn (drop at f)) (counterOf n) at (drop at f)) in
-    rw (g .0) (e, ih (n + 1) (at + lengthOf l b))
+-- the blocks follow each other to the ending
+abbrev Follow : ℕ → ℕ → List ℕ → ℕ → Log → Type 0
+Follow l n f at log = AllAt l n f at (log .blocks) (log .ending) (log .place) × Ends (length f) (log .ending) (log .place)
 
-placed-from : (k l n : ℕ) (f : List ℕ) (at : ℕ) → AllAt l n f (logFrom k l n f at .blocks)
-placed-from zero l n f at = tt
-placed-from (suc k) l n f at = placed-by k l n f at (stands-at l n f at) (λ m to. placed-from k l m f to)
+follow-go : (l n : ℕ) (f : List ℕ) (at : ℕ) (b : Block) (log next : Log) → Next log at b next → blockAt l n f at ≡ b → 0 < lengthOf l b
+    → Follow l (n + 1) f (at + lengthOf l b) next → Follow l n f at log
+follow-go l n f at b log next g e some r = rw (g .0, g .1, g .2) ((refl, e, some, r .0), r .1)
+
+placed-by : (k l n : ℕ) (f : List ℕ) (at : ℕ) → Stands l n f at (blockAt l n f at) → length f - at < suc k
+    → ((m to : ℕ) → length f - to < k → Follow l m f to (logFrom k l m f to)) → Follow l n f at (logFrom (suc k) l n f at)
+placed-by k l n f at (the-end h e) fuel ih = rw (log-end k l n f at e) ((refl, e), h)
+placed-by k l n f at (refused m e) fuel ih = rw (log-refused k l n f at (suc m) at e) ((refl, e), refl)
+placed-by k l n f at (a-block h some num e) fuel ih =
+    let b : Block = partsOf (kindIn (drop at f)) (counterOf n) at (drop at f) in
+    let s = step l n f at h num in
+    let len : lengthOf l b ≡ blockLen l (kindIn (drop at f)) = parts-length (kindIn (drop at f)) l (counterOf n) at (drop at f) (whole l (drop at f) num .0) in
+    follow-go l n f at b _ _ (log-go k l n f at b e (parts-go (kindIn (drop at f)) (counterOf n) at (drop at f))) e (omega arith)
+    (ih (n + 1) (at + lengthOf l b) (omega arith))
+
+placed-from : (k l n : ℕ) (f : List ℕ) (at : ℕ) → length f - at < k → Follow l n f at (logFrom k l n f at)
+placed-from zero l n f at fuel = absurd (omega arith)
+placed-from (suc k) l n f at fuel = placed-by k l n f at (stands-at l n f at) fuel (λ m to fuel′. placed-from k l m f to fuel′)
 
 pub log-placed : LogPlaced
 unfolding LogPlaced logOf
-log-placed l f at = placed-from (suc (length f)) l 0 f at
+log-placed l f at = placed-from (suc (length f)) l 0 f at (omega arith)

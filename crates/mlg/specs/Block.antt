@@ -78,8 +78,22 @@ placeNumber n at = 23 if ltb n at else 0
 unfoldable pub blockAt : ℕ → ℕ → List ℕ → ℕ → Block
 blockAt l n f at = blockJudged Refused (placeNumber (length f) at) at (blockOf l (counterOf n) at (drop at f))
 
--- the paper's number and values of each case, where records have l bytes
+-- "A block is either data, a mark, the end, or a refusal": the kind of an answer
+abbrev pub dataKind : ℕ
+dataKind = 0
+
+abbrev pub markKind : ℕ
+markKind = 1
+
+abbrev pub endKind : ℕ
+endKind = 2
+
+abbrev pub refusedKind : ℕ
+refusedKind = 3
+
+-- the kind, and the paper's number and values of each case, where records have l bytes
 pub record BlockAnswer : Type 0 where
+  pub kind : ℕ
   pub number : ℕ
   pub counter : ℕ
   pub time : ℕ
@@ -90,27 +104,27 @@ pub record BlockAnswer : Type 0 where
 
 -- no block: the end, whose number and place are 0, or a refusal, in which "every other number .. is 0, save that a block reader's refusal names
 -- the block's place"
-abbrev pub noBlock : ℕ → ℕ → BlockAnswer
-noBlock n p = record { number = n; counter = 0; time = 0; start = 0; len = 0; right = false; place = p }
+abbrev pub noBlock : ℕ → ℕ → ℕ → BlockAnswer
+noBlock kind n p = record { kind = kind; number = n; counter = 0; time = 0; start = 0; len = 0; right = false; place = p }
 
 unfoldable pub blockAnswer : ℕ → Block → BlockAnswer
-blockAnswer l (Data c m s r) = record { number = 0; counter = c; time = m; start = s; len = l; right = r; place = 0 }
-blockAnswer l (Mark c m s k r) = record { number = 0; counter = c; time = m; start = s; len = k; right = r; place = 0 }
-blockAnswer l End = noBlock 0 0
-blockAnswer l (Refused n p) = noBlock n p
+blockAnswer l (Data c m s r) = record { kind = dataKind; number = 0; counter = c; time = m; start = s; len = l; right = r; place = 0 }
+blockAnswer l (Mark c m s k r) = record { kind = markKind; number = 0; counter = c; time = m; start = s; len = k; right = r; place = 0 }
+blockAnswer l End = noBlock endKind 0 0
+blockAnswer l (Refused n p) = noBlock refusedKind n p
 
 -- the same of a place of a file, by its bytes
-abbrev pub foundValues : ℕ → ℕ → ℕ → List ℕ → BlockAnswer
-foundValues len c at t =
-    record { number = 0; counter = counterIn t; time = timeIn t; start = at + 4; len = len; right = eqb (counterIn t) c; place = 0 }
+abbrev pub foundValues : ℕ → ℕ → ℕ → ℕ → List ℕ → BlockAnswer
+foundValues kind len c at t =
+    record { kind = kind; number = 0; counter = counterIn t; time = timeIn t; start = at + 4; len = len; right = eqb (counterIn t) c; place = 0 }
 
 unfoldable pub partValues : ℕ → ℕ → ℕ → ℕ → List ℕ → BlockAnswer
-partValues zero l c at t = foundValues l c at t
-partValues (suc k) l c at t = foundValues (textLen (textIn t)) c at t
+partValues zero l c at t = foundValues dataKind l c at t
+partValues (suc k) l c at t = foundValues markKind (textLen (textIn t)) c at t
 
 unfoldable pub restResult : ℕ → ℕ → ℕ → List ℕ → BlockAnswer
-restResult l c at [] = noBlock 0 0
-restResult l c at (b ∷ t) = blockJudged noBlock (blockNumber l (b ∷ t)) at (partValues b l c at (b ∷ t))
+restResult l c at [] = noBlock endKind 0 0
+restResult l c at (b ∷ t) = blockJudged (noBlock refusedKind) (blockNumber l (b ∷ t)) at (partValues b l c at (b ∷ t))
 
 unfoldable pub blockResult : ℕ → ℕ → List ℕ → ℕ → BlockAnswer
-blockResult l n f at = blockJudged noBlock (placeNumber (length f) at) at (restResult l (counterOf n) at (drop at f))
+blockResult l n f at = blockJudged (noBlock refusedKind) (placeNumber (length f) at) at (restResult l (counterOf n) at (drop at f))

@@ -10,12 +10,12 @@ use Rattle.mlg.specs.Header.{headerOf}
 use Rattle.mlg.specs.Block.{counterOf, blockLen, kindIn, counterIn, blockNumber, blockOf, blockAt}
 use Rattle.mlg.specs.Writing.{headerFor, headerBytes, headerNumber, dataBytes, dataNumber, markBytes, markNumber}
 use Rattle.mlg.specs.Parts.{fieldsIn, namesIn, infoIn}
-use Rattle.mlg.specs.Log.{Log, logOf}
+use Rattle.mlg.specs.Log.{Log, lengthOf, logOf}
 use Rattle.mlg.specs.Entries.{Entry, entriesBytes, Writable, entriesIn, AllRight, AllPadded, rewritten, PaddedHere}
 use Rattle.mlg.specs.declared.Block.{Block}
 use Rattle.mlg.specs.declared.Header.{Header}
 use Rattle.mlg.specs.declared.Head.the-variants.{Is}
-use Rattle.mlg.specs.declared.Block.the-variants.{Data, Mark, End}
+use Rattle.mlg.specs.declared.Block.the-variants.{Data, Mark, End, Refused}
 
 -- A data block that was written reads back as given, wherever it stands and whatever follows.
 unfoldable pub DataBack : Type 0
@@ -35,13 +35,27 @@ MarkBack =
 unfoldable pub BlockAlone : Type 0
 BlockAlone = (l c at : ℕ) (t rest : List ℕ) → 0 < length t → blockLen l (kindIn t) ≤ length t → blockOf l c at (t ++ rest) ≡ blockOf l c at t
 
--- Each block of a log is what stands at its place, after as many blocks as stand before it in the list.
-abbrev pub AllAt : ℕ → ℕ → List ℕ → List (ℕ × Block) → Type 0
-AllAt l n f [] = Unit
-AllAt l n f (b ∷ bs) = (blockAt l n f (b .0) ≡ b .1) × AllAt l (n + 1) f bs
+-- A log's blocks follow each other from the place at on. Each is what stands at its place, after as many blocks as stand before it in the
+-- list, and takes bytes; the ending is what stands after the last.
+abbrev pub AllAt : ℕ → ℕ → List ℕ → ℕ → List (ℕ × Block) → Block → ℕ → Type 0
+AllAt l n f at [] ending place = (place ≡ at) × (blockAt l n f at ≡ ending)
+AllAt l n f at (b ∷ bs) ending place =
+    (b .0 ≡ at)
+    × (blockAt l n f at ≡ b .1)
+    × (0 < lengthOf l (b .1))
+    × AllAt l (n + 1) f (at + lengthOf l (b .1)) bs ending place
+
+-- The ending is the end, at the file's length n, or a refusal, which names its place.
+abbrev pub Ends : ℕ → Block → ℕ → Type 0
+Ends n (Data c m s r) place = ⊥
+Ends n (Mark c m s k r) place = ⊥
+Ends n End place = place ≡ n
+Ends n (Refused m p) place = p ≡ place
 
 unfoldable pub LogPlaced : Type 0
-LogPlaced = (l : ℕ) (f : List ℕ) (at : ℕ) → AllAt l 0 f (logOf l f at .blocks)
+LogPlaced =
+    (l : ℕ) (f : List ℕ) (at : ℕ)
+    → AllAt l 0 f at (logOf l f at .blocks) (logOf l f at .ending) (logOf l f at .place) × Ends (length f) (logOf l f at .ending) (logOf l f at .place)
 
 -- A block rewritten from what was read is the same bytes exactly when its counter is right and, if a mark, it is zero-padded.
 unfoldable pub BlockSame : Type 0
@@ -84,10 +98,13 @@ LogBack =
 unfoldable pub InLayout : List ℕ → Header → Type 0
 InLayout f h = (h .info ≡ 0) ⊎ ((0 < textLen (drop (h .info) f)) × (h .info + textLen (drop (h .info) f) + 1 ≡ h .begin))
 
--- "A file in this layout, with right counters and zero-padded marks, rewritten from what was read gives the same bytes."
+-- "A file in this layout, with right counters and zero-padded marks, rewritten from what was read gives the same bytes": no writer refuses what
+-- was read, where it has the room that the file had, and what they write is the file.
 unfoldable pub LogSame : Type 0
 LogSame =
     (f : List ℕ) (h : Header) → ((i : ℕ) → getD f i 0 < 256) → headerOf f ≡ Is h → InLayout f h
     → logOf (h .size) f (h .begin) .ending ≡ End
     → AllRight (logOf (h .size) f (h .begin) .blocks) → AllPadded f (logOf (h .size) f (h .begin) .blocks)
-    → logBytes (h .time) (fieldsIn f h) (namesIn f h) (infoIn f h) (entriesIn (h .size) f (logOf (h .size) f (h .begin) .blocks)) ≡ f
+    → (headerNumber 2 (h .time) (fieldsIn f h) (namesIn f h) (infoIn f h) (length f) ≡ 0)
+    × Writable (h .size) (entriesIn (h .size) f (logOf (h .size) f (h .begin) .blocks))
+    × (logBytes (h .time) (fieldsIn f h) (namesIn f h) (infoIn f h) (entriesIn (h .size) f (logOf (h .size) f (h .begin) .blocks)) ≡ f)

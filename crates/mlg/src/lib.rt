@@ -55,6 +55,7 @@ pub enum Head {
 }
 
 // What stands at a place of a log. `start` is the place of the record or text, `right` whether the counter is the expected one.
+// `len` is the text's length before its zero; a record has the length that the call was given.
 pub enum Block {
     Data {
         counter: u8,
@@ -147,7 +148,8 @@ pub fn field_span(file: &[u8], index: u16) -> Span
     part(0, header_len(h.version) + len * (index as usize), len)
 }
 
-// Where the names area stands.
+// Where the names area stands: from the fields' end to info start, or to data begin where there is no info. In a file that is not in the
+// writer's layout, names may also stand after it.
 pub fn names_span(file: &[u8]) -> Span
     ensures { λ r. ⌜ (r ≡ namesSpan (now (file .entry))) × (r .start + r .len ≤ length (now (file .entry))) ⌝ }
 {
