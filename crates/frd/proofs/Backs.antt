@@ -10,15 +10,16 @@ use lib.Seq.{take-at, drop-at, drop-append-add, drop-drop}
 use Rattle.wire.specs.BigEndian.{beOf, beAt, bytesOf}
 use Rattle.wire.proofs.Numbers.{be-back}
 use Rattle.wire.proofs.Orders.{if-no, not-no}
+use Rattle.wire.proofs.Answers.{stands}
 use Rattle.frd.specs.Counter.{counterOf}
 use Rattle.frd.specs.Header.{headLen, signatureLen, name, version, numbersOf, signatureIn, headNumber, headerOf}
 use Rattle.frd.specs.Blocks.{blockLen, kindIn, recordPlace, foundOf, blockOf, blockAt}
 use Rattle.frd.specs.Writers.{headerBytes, dataBytes, timeBytes}
 use Rattle.frd.specs.RoundTrip.{headerFor, HeaderBack, DataBack, TimeBack}
-use Rattle.frd.specs.declared.Head.the-variants.{Is}
+use Rattle.frd.specs.declared.Head.the-variants.{Is, Refused}
 use Rattle.frd.specs.declared.Block.{Block}
 use Rattle.frd.specs.declared.Block.the-variants.{Data, Time}
-use Rattle.frd.proofs.Cases.{head-stands, block-stands, rest-whole, data-len, time-len, found-data, found-time, at-within}
+use Rattle.frd.proofs.Cases.{block-stands, rest-whole, data-len, time-len, found-data, found-time, at-within}
 
 -- lengths
 pub data-length : (c : ℕ) (rec : List ℕ) → length (dataBytes c rec) ≡ length rec + 2
@@ -69,10 +70,12 @@ at-place l n before t b e =
     ∙ ap (blockOf l (counterOf n) (length before)) (drop-at before t (length before) refl) ∙ e
 
 pub data-back : (l n : ℕ) (rec : List ℕ) → DataBack l n rec
+unfolding DataBack
 data-back l n rec e before rest =
     (at-place l n before _ _ (data-back-at l (counterOf n) (length before) rec rest e), record-back l (counterOf n) before rec rest e)
 
 pub time-back : (n time : ℕ) → time < 2 ^ 32 → TimeBack n time
+unfolding TimeBack
 time-back n time h l before rest = at-place l n before _ _ (time-back-at l (counterOf n) (length before) time rest h)
 
 -- a header's bytes and what follows them, part by part
@@ -113,7 +116,7 @@ module _ (time : ℕ) (signature : List ℕ) (l : ℕ) (small : time < 2 ^ 32) (
 
   head-is : headerOf file ≡ Is (headerFor time l)
   unfolding headerOf
-  head-is = sym (head-stands _ _ _ none (sym numbers-back))
+  head-is = sym (stands Is Refused _ _ _ (sym none) (sym numbers-back))
 
   signature-is : signatureIn file ≡ signature
   unfolding signatureIn
@@ -123,4 +126,5 @@ module _ (time : ℕ) (signature : List ℕ) (l : ℕ) (small : time < 2 ^ 32) (
   header-read = rw (header-list time signature l rest) (head-is, signature-is)
 
 pub header-back : (time : ℕ) (signature : List ℕ) (l : ℕ) → time < 2 ^ 32 → l < 2 ^ 16 → HeaderBack time signature l
+unfolding HeaderBack
 header-back time signature l t s e rest = header-read time signature l t s e rest

@@ -6,3 +6,4 @@ pub mod Backs
 pub mod Puts
 pub mod Logs
 pub mod Same
+pub mod Places

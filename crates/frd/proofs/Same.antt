@@ -11,7 +11,7 @@ use Rattle.wire.specs.BigEndian.{beOf, beAt, bytesOf}
 use Rattle.wire.proofs.Numbers.{Bytes, bytes-drop, part-back}
 use Rattle.frd.specs.Counter.{counterOf}
 use Rattle.frd.specs.Header.{headLen, name, version, numbersOf, signatureIn}
-use Rattle.frd.specs.Blocks.{kindIn, counterIn, recordPlace, blockOf, lengthOf}
+use Rattle.frd.specs.Blocks.{kindIn, counterIn, recordPlace, blockOf, blockAnswer, lengthOf}
 use Rattle.frd.specs.Log.{Log, walk, fileLog}
 use Rattle.frd.specs.Writers.{headerBytes, dataBytes, timeBytes}
 use Rattle.frd.specs.RoundTrip.{Entry, logBytes, fileBytes, entryThen, entriesIn, rightThen, allRight, LogSame}
@@ -66,6 +66,7 @@ cond-true true b e = (refl, e)
 cond-true false b e = let z : _≡_ {A = Bool} false true = e in (cc, cc)
 
 right-both : (b : Block) (x : Bool) → rightThen b x ≡ true → goes b → (rightThen b true ≡ true) × (x ≡ true)
+unfolding rightThen
 right-both (Data c s r) x e g = let w = cond-true r x e in (rw (w .0), w .1)
 right-both (Time c m r) x e g = let w = cond-true r x e in (rw (w .0), w .1)
 right-both End x e g = absurd g
@@ -75,7 +76,7 @@ right-both (Refused m p) x e g = absurd g
 module _ (l : ℕ) (f : List ℕ) where
   -- a log whose blocks, written again after n blocks, are these bytes
   abbrev Rewrites : ℕ → List ℕ → Log → Type 0
-  Rewrites n t g = g .number ≡ 0 → allRight (g .blocks) ≡ true → logBytes n (entriesIn l f (g .blocks)) ≡ t
+  Rewrites n t g = g .ending ≡ 0 → allRight (g .blocks) ≡ true → logBytes n (entriesIn l f (g .blocks)) ≡ t
 
   -- every walk with this fuel
   abbrev WalkSame : ℕ → Type 0
@@ -89,6 +90,7 @@ module _ (l : ℕ) (f : List ℕ) where
     block-same : (b : Block) → blockOf l (counterOf n) at t ≡ b → goes b
         → ((es : List Entry) → logBytes (n + 1) es ≡ drop (lengthOf l b) t → rightThen b true ≡ true → logBytes n (entryThen l f b es) ≡ t)
         → Rewrites n t (walk (suc k) l n at t)
+    unfolding entriesIn allRight
     block-same b e g one =
         let q : drop (at + lengthOf l b) f ≡ drop (lengthOf l b) t = sym (drop-drop (lengthOf l b) at f) ∙ ap (drop (lengthOf l b)) here in
         let i = block-fits l (counterOf n) at t b e g in
@@ -97,6 +99,7 @@ module _ (l : ℕ) (f : List ℕ) where
         (λ x y. let w = right-both b _ y g in one _ (r x (w .1)) (w .0))
 
     view-same : View l (counterOf n) at t → Rewrites n t (walk (suc k) l n at t)
+    unfolding blockAnswer logBytes entriesIn entryThen rightThen lengthOf
     view-same (at-end z e) = subst (Rewrites n t) (sym (walk-stop k l n at t End e (λ g. g))) (λ x y. nothing t z)
     view-same (of-data z s e) =
         block-same _ e tt
@@ -113,7 +116,7 @@ module _ (l : ℕ) (f : List ℕ) where
   walk-same (suc k) n at t p h i = view-same k (walk-same k) n at t p h i (view l (counterOf n) at t)
 
 pub log-same : LogSame
-unfolding fileBytes
+unfolding fileBytes LogSame
 log-same f y r =
     let k = known f (y .head) in
     let l = numbersOf f .size in
