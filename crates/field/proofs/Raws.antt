@@ -17,8 +17,9 @@ use Rattle.wire.proofs.Numbers.{Bytes, bytes-tail, more-bytes}
 use Rattle.wire.proofs.Signs.{twos-low, twos-high}
 use Rattle.wire.proofs.Orders.{if-zero, else-zero}
 use Rattle.field.specs.Types.{sizeOf, S08, S16, S32, S64}
-use Rattle.field.specs.Field.{fieldSize}
-use Rattle.field.specs.Raw.{valueNumber, rawOf, rawAt, rawResult, rawAnswer, signedType}
+use Rattle.field.specs.Field.{typeOf, fieldSize}
+use Rattle.field.specs.Raw.{valueNumber, rawOf, rawAt, rawAnswer, signedType}
+use Rattle.wire.specs.Answer.{result}
 use Rattle.wire.proofs.Answers.{means}
 use Rattle.field.specs.declared.RawValue.{RawValue}
 use Rattle.field.specs.declared.RawValue.the-variants as R
@@ -48,8 +49,8 @@ pub sized : (v : ℕ) (d b : List ℕ) → valueNumber v d b ≡ 0 → length b 
 unfolding valueNumber
 sized v d b e = eqb-true _ _ (not-false _ (if-zero 22 _ _ (else-zero _ _ e .1) .0))
 
-pub raw-means : (v : ℕ) (d b : List ℕ) (r : RawValue) → r ≡ rawAt v d b → (r ≡ rawAt v d b) × (rawAnswer r ≡ rawResult v d b)
-unfolding rawAt rawAnswer rawResult
+pub raw-means : (v : ℕ) (d b : List ℕ) (r : RawValue) → r ≡ rawAt v d b → (r ≡ rawAt v d b) × (rawAnswer r ≡ result (pos 0) (valueNumber v d b) (rawOf (typeOf d) b))
+unfolding rawAt rawAnswer
 raw-means v d b r = means R.Is R.Refused (pos 0) rawAnswer (λ z. refl) (λ n. refl) r _ _
 
 -- bytes after i bytes keep a number below 2 to the bits that they all have
