@@ -6,3 +6,4 @@ pub mod Cases
 pub mod Numbers
 pub mod Ignored
 pub mod Demands
+pub mod Replies

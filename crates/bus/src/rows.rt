@@ -8,37 +8,37 @@ ghost use Rattle.bus.specs.Ident.{idTable, idTo, idFrom, idKind, idOffse
 ghost use Rattle.bus.specs.Frames.{headNumber};
 ghost use Rattle.bus.specs.Request.{reserved, requestOf};
 
-pub fn table_of(id: u32) -> u8
+pub(crate) fn table_of(id: u32) -> u8
     ensures { λ r. ⌜ r ≡ idTable id ⌝ }
 {
     (id / 4 % 2 * 16 + id / 8 % 16) as u8
 }
 
-pub fn to_of(id: u32) -> u8
+pub(crate) fn to_of(id: u32) -> u8
     ensures { λ r. ⌜ r ≡ idTo id ⌝ }
 {
     (id / 128 % 16) as u8
 }
 
-pub fn from_of(id: u32) -> u8
+pub(crate) fn from_of(id: u32) -> u8
     ensures { λ r. ⌜ r ≡ idFrom id ⌝ }
 {
     (id / 2048 % 16) as u8
 }
 
-pub fn kind_of(id: u32) -> u8
+pub(crate) fn kind_of(id: u32) -> u8
     ensures { λ r. ⌜ r ≡ idKind id ⌝ }
 {
     (id / 32768 % 8) as u8
 }
 
-pub fn offset_of(id: u32) -> u16
+pub(crate) fn offset_of(id: u32) -> u16
     ensures { λ r. ⌜ r ≡ idOffset id ⌝ }
 {
     (id / 262144 % 2048) as u16
 }
 
-pub fn parts_of(id: u32) -> Parts
+pub(crate) fn parts_of(id: u32) -> Parts
     ensures { λ r. ⌜ r ≡ partsOf id ⌝ }
 {
     Parts {
@@ -51,7 +51,7 @@ pub fn parts_of(id: u32) -> Parts
 }
 
 // The sum of the rows.
-pub fn id_of(offset: u16, kind: u8, from: u8, to: u8, table: u8) -> u64
+pub(crate) fn id_of(offset: u16, kind: u8, from: u8, to: u8, table: u8) -> u64
     ensures { λ r. ⌜ r ≡ idOf offset kind from to table ⌝ }
 {
     (table / 16) as u64 * 4
@@ -63,14 +63,14 @@ pub fn id_of(offset: u16, kind: u8, from: u8, to: u8, table: u8) -> u64
 }
 
 // Whether a reserved bit is set: one of the first byte's top three, or bit 4 of the third.
-pub fn is_reserved(a: u8, c: u8) -> bool
+pub(crate) fn is_reserved(a: u8, c: u8) -> bool
     ensures { λ r. ⌜ r ≡ reserved a c ⌝ }
 {
     (a / 32 != 0) | (c / 16 % 2 != 0)
 }
 
 // The request in three bytes, whatever their reserved bits are.
-pub fn request_of(a: u8, b: u8, c: u8) -> Request
+pub(crate) fn request_of(a: u8, b: u8, c: u8) -> Request
     ensures { λ r. ⌜ (r ≡ requestOf a b c) × (r .table ≤ 31) × (r .offset ≤ 2047) ⌝ }
 {
     Request {
@@ -81,7 +81,7 @@ pub fn request_of(a: u8, b: u8, c: u8) -> Request
 }
 
 // 1 or 2 for an identifier that is not lawful, else 0.
-pub fn unpack_number(id: u32) -> u8
+pub(crate) fn unpack_number(id: u32) -> u8
     ensures { λ r. ⌜ r ≡ unpackNumber id ⌝ }
 {
     if 536870912 <= id {
@@ -94,7 +94,7 @@ pub fn unpack_number(id: u32) -> u8
 }
 
 // 1, 2, 3 and 4, by which every receiver of this own number judges a frame; else 0.
-pub fn head_number(own: u8, f: Frame) -> u8
+pub(crate) fn head_number(own: u8, f: Frame) -> u8
     ensures { λ r. ⌜ r ≡ headNumber own f ⌝ }
 {
     let number = unpack_number(f.id);

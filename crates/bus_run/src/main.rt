@@ -75,13 +75,18 @@ fn frame_bytes(l: Line, bytes: [u8; 8], n: u8) -> Line {
     l
 }
 
-fn print(l: Line) {
-    let l = text(l, b"\n");
-    let n = l.len;
-    let bytes = l.bytes;
+// Writes the first n bytes.
+fn write(bytes: [u8; 128], n: usize) {
     if n <= 128 {
         io::write_all(1, &bytes[..n]);
     }
+}
+
+// Writes a line and its end.
+fn print(l: Line) {
+    let l = text(l, b"\n");
+    let bytes = l.bytes;
+    write(bytes, l.len);
 }
 
 fn packs(l: Line, p: Parts) -> Line {
@@ -109,19 +114,21 @@ fn unpacks(id: u32) {
     }
 }
 
-// What an offset packs to, in a CMD from device 5 to table 20 of device 0.
+// From device 5 to table 20 of device 0.
+fn parts_at(kind: u8, offset: u16) -> Parts {
+    Parts {
+        offset,
+        kind,
+        from: 5,
+        to: 0,
+        table: 20,
+    }
+}
+
+// What a CMD to an offset packs to.
 fn packs_offset(offset: u16) {
     let l = labelled(empty(), b"offset ", offset as u64);
-    print(packs(
-        l,
-        Parts {
-            offset,
-            kind: 0,
-            from: 5,
-            to: 0,
-            table: 20,
-        },
-    ));
+    print(packs(l, parts_at(0, offset)));
 }
 
 // What request bytes ask for, and the bytes that ask for that.
@@ -154,12 +161,8 @@ fn answer(l: Line, s: Served) -> Line {
     frame_bytes(text(l, b":"), bytes, f.len)
 }
 
-// Device 0, whose only table is 20, of this size, to be read and written.
-fn one_table(size: u16) -> Directory {
-    let mut sizes = [0u16; 32];
-    let mut rights = [0u8; 32];
-    sizes[20] = size;
-    rights[20] = 2;
+// The directory of device 0, with blocking factors 0.
+fn directory(sizes: [u16; 32], rights: [u8; 32]) -> Directory {
     Directory {
         sizes,
         rights,
@@ -169,16 +172,18 @@ fn one_table(size: u16) -> Directory {
     }
 }
 
-// A frame of device 5 at an offset of that table; else identifier 0.
+// Only table 20, of this size, to be read and written.
+fn one_table(size: u16) -> Directory {
+    let mut sizes = [0u16; 32];
+    let mut rights = [0u8; 32];
+    sizes[20] = size;
+    rights[20] = 2;
+    directory(sizes, rights)
+}
+
+// A frame to an offset; its identifier is 0 where the offset packs into none.
 fn frame_at(kind: u8, offset: u16, len: u8, bytes: [u8; 8]) -> Frame {
-    let p = Parts {
-        offset,
-        kind,
-        from: 5,
-        to: 0,
-        table: 20,
-    };
-    let packed = bus::ident::pack(p);
+    let packed = bus::ident::pack(parts_at(kind, offset));
     match packed {
         Packed::Is(id) => Frame { id, len, bytes },
         Packed::Refused(_) => Frame { id: 0, len, bytes },
@@ -208,7 +213,7 @@ fn request_at(size: u16, memory: &mut [u8], offset: u16) {
     print(answer(l, bus::holder::serve(one_table(size), memory, f)));
 }
 
-// The holder of 002's examples: device 0, which lets read table 7, of 8 bytes, and table 15, of 20 bytes.
+// The tables of 002's examples: table 7, of 8 bytes, and table 15, of 20 bytes, to be read.
 fn two_tables() -> Directory {
     let mut sizes = [0u16; 32];
     let mut rights = [0u8; 32];
@@ -216,16 +221,11 @@ fn two_tables() -> Directory {
     rights[7] = 1;
     sizes[15] = 20;
     rights[15] = 1;
-    Directory {
-        sizes,
-        rights,
-        table_blocking: 0,
-        write_blocking: 0,
-        own: 0,
-    }
+    directory(sizes, rights)
 }
 
-// What that holder answers to a REQ; its table 7 has the two bytes given at offset 6, its table 15 has 002's signature.
+// What the holder of those tables answers to a REQ. Table 7 has the given bytes at offset 6; table 15 has
+// the signature of 002, byte by byte as printed there.
 fn replies(id: u32, a: u8, b: u8, c: u8, high: u8, low: u8) {
     let mut memory = *b"\0\0\0\0\0\0\0\0MS3 Foroat 0435.14 \0";
     memory[6] = high;

@@ -1,16 +1,16 @@
 -- A whole block does not depend on what follows it.
-use Prim.Native.Nat.{ℕ, zero, suc, _+_, _-_, _≤_, _<_}
+use Prim.Native.Nat.{ℕ, zero, suc, _+_, _-_, _≤_}
 use mathlib.Core.Path.{_≡_, refl, sym, ap, _∙_}
-use mathlib.Core.List.{List, [], _∷_, _++_}
+use mathlib.Core.List.{List, _++_}
 use native.Mathlib.Omega.{arith}
 use native.Mathlib.Nat.{le-trans}
 use borrow.Author.Tests.{le-ltb, eq-eqb}
-use lib.ListN.{length, getD, take, drop, length-append, List·getD-append}
-use Rattle.wire.specs.Order.{_if_else_}
+use lib.ListN.{length, length-append, List·getD-append}
 use Rattle.wire.proofs.Orders.{if-yes}
 use Rattle.wire.proofs.Parts.{part-append}
-use Rattle.mlg.specs.Block.{blockLen, kindIn, lastOf, blockNumber, partsOf, blockJudged, blockOf}
+use Rattle.mlg.specs.Block.{blockLen, kindIn, lastOf, blockNumber, partsOf, blockJudged}
 use Rattle.mlg.specs.RoundTrip.{BlockAlone}
+use Rattle.mlg.specs.declared.Block.the-variants.{Refused}
 use Rattle.mlg.proofs.Cases.{block-here}
 
 module _ (l : ℕ) (t r : List ℕ) where
@@ -41,7 +41,7 @@ module _ (l : ℕ) (t r : List ℕ) where
         rw (first, last-alone (kindIn t) e h, le-ltb (length (t ++ r)) (blockLen l (kindIn t)) (le-trans h longer), le-ltb (length t) (blockLen l (kindIn t)) h)
 
     judged-alone : (n c at : ℕ) → blockLen l (kindIn t) ≡ n → blockLen l (kindIn t) ≤ length t
-        → blockJudged (blockNumber l (t ++ r)) at (partsOf (kindIn (t ++ r)) c at (t ++ r)) ≡ blockJudged (blockNumber l t) at (partsOf (kindIn t) c at t)
+        → blockJudged Refused (blockNumber l (t ++ r)) at (partsOf (kindIn (t ++ r)) c at (t ++ r)) ≡ blockJudged Refused (blockNumber l t) at (partsOf (kindIn t) c at t)
     unfolding blockJudged
     judged-alone zero c at e h = rw (unknown (t ++ r) 0 (ap (blockLen l) first ∙ e) refl, unknown t 0 e refl)
     judged-alone (suc n) c at e h =

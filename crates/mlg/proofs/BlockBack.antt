@@ -1,19 +1,17 @@
 -- A block that was written reads back as given.
-use Prim.Native.Nat.{ℕ, zero, suc, _+_, _*_, _/_, _%_, _^_, _≤_, _<_}
+use Prim.Native.Nat.{ℕ, suc, _+_, _*_, _/_, _%_, _^_, _<_}
 use mathlib.Core.Path.{_≡_, refl, sym, ap, _∙_}
-use mathlib.Core.Bool.{Bool, true, false}
+use mathlib.Core.Bool.{true}
 use mathlib.Core.List.{List, [], _∷_, _++_, append-assoc}
 use native.Mathlib.Omega.{arith}
 use borrow.Author.Tests.{eq-eqb}
-use lib.Dec.{eqb}
-use lib.ListN.{length, getD, take, drop, replicate, length-append, getD-replicate}
+use lib.ListN.{length, take, drop, replicate, length-append, getD-replicate}
 use lib.Seq.{take-at, drop-at, drop-cons, getD-append-seam, take-append-seam, drop-drop}
-use Rattle.wire.specs.BigEndian.{beAt, bytesOf}
 use Rattle.wire.specs.Sum.{sumOf}
 use Rattle.wire.specs.Text.{textLen}
 use Rattle.wire.proofs.Texts.{text-back}
-use Rattle.mlg.specs.Block.{counterOf, blockAt, blockOf, recordIn, sumIn, textIn, timeIn, blockNumber, partsOf}
-use Rattle.mlg.specs.Writing.{startBytes, dataBytes, padded, markBytes, dataNumber, markNumber}
+use Rattle.mlg.specs.Block.{counterOf, blockAt, blockOf, recordIn, sumIn, textIn}
+use Rattle.mlg.specs.Writing.{startBytes, dataBytes, padded, markBytes}
 use Rattle.mlg.specs.RoundTrip.{DataBack, MarkBack}
 use Rattle.mlg.specs.declared.Block.the-variants.{Data, Mark}
 use Rattle.mlg.proofs.BlockBytes.{data-fits, mark-fits, padded-length}

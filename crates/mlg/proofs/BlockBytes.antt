@@ -1,22 +1,18 @@
 -- The bytes of a block, as they are put.
-use Prim.Native.Nat.{ℕ, zero, suc, _+_, _-_, _≤_, _<_}
+use Prim.Native.Nat.{ℕ, _+_, _-_, _≤_}
 use mathlib.Core.Path.{_≡_, refl, sym, ap, _∙_}
 use mathlib.Core.List.{List, [], _∷_, _++_}
 use native.Mathlib.Omega.{arith}
-use native.Mathlib.Nat.{zero-add}
 use borrow.Author.Tests.{ltb-false, eqb-true}
 use lib.ListN.{length, drop, replicate, length-append, length-drop}
-use Rattle.wire.specs.Put.{putAt, putOf}
+use Rattle.wire.specs.Put.{putOf}
 use Rattle.wire.specs.Sum.{sumOf}
 use Rattle.wire.specs.Text.{textLen}
 use Rattle.wire.specs.Writer.{leaves}
-use Rattle.wire.proofs.Orders.{if-zero, not-yes}
-use Rattle.wire.proofs.Puts.{put-fits}
+use Rattle.wire.proofs.Orders.{if-zero, not-false}
 use Rattle.wire.proofs.Texts.{text-most}
-use Rattle.wire.proofs.Writes.{put-first, put-more, left, over}
+use Rattle.wire.proofs.Writes.{put-first, put-more, left}
 use Rattle.mlg.specs.Writing.{startBytes, dataBytes, padded, markBytes, dataNumber, markNumber}
-use mathlib.Core.Bool.{Bool, true, false, not}
-use lib.Dec.{eqb}
 
 pub start-length : (k c t : ℕ) → length (startBytes k c t) ≡ 4
 unfolding startBytes
@@ -62,10 +58,6 @@ mark-put c m out t h p eh ep short room a b =
     let d = put-first out h (omega arith) a in
     let e = put-more out h p 4 (sym l) (omega arith) d b in
     rw (← eh, ← ep) (e ∙ sym (left 0 _ out refl))
-
-pub not-false : (b : Bool) → not b ≡ false → b ≡ true
-not-false true e = refl
-not-false false e = let z : _≡_ {A = Bool} true false = e in cc
 
 -- what follows where no number refuses
 pub data-fits : (l : ℕ) (rec : List ℕ) (room : ℕ) → dataNumber l rec room ≡ 0 → (length rec ≡ l) × (length rec + 5 ≤ room)

@@ -1,17 +1,16 @@
 -- Which case of a block's definition holds, by what a reader tested. These laws, and not the definitions, are what proofs cite.
 use Prim.Native.Nat.{ℕ, zero, suc, _+_, _<_, _≤_}
 use mathlib.Core.Path.{_≡_, refl, sym, ap, _∙_}
-use mathlib.Core.Bool.{Bool, true, false, not}
+use mathlib.Core.Bool.{Bool, true, false}
 use mathlib.Core.List.{List, [], _∷_}
 use native.Mathlib.Omega.{arith}
-use borrow.Author.Tests.{le-leb, lt-leb, lt-ltb, le-ltb, eq-eqb, ne-eqb, eqb-true, eqb-false, ltb-true, ltb-false, leb-true, leb-false}
-use lib.Dec.{eqb, ltb, leb}
-use lib.ListN.{length, getD, take, drop}
-use Rattle.wire.specs.Order.{_if_else_}
+use borrow.Author.Tests.{lt-leb, lt-ltb, le-ltb, eq-eqb, ne-eqb, eqb-true, eqb-false, ltb-false, leb-false}
+use lib.Dec.{eqb}
+use lib.ListN.{length, drop}
 use Rattle.wire.specs.Sum.{sumOf}
 use Rattle.wire.specs.Text.{textLen}
-use Rattle.wire.proofs.Orders.{if-yes, if-no, if-zero, not-no}
-use Rattle.mlg.specs.Block.{counterOf, blockLen, kindIn, counterIn, timeIn, recordIn, sumIn, textIn, lastOf, blockNumber, partsOf, blockJudged, blockOf, placeNumber, blockAt, restNumber, atNumber, blockAnswer}
+use Rattle.wire.proofs.Orders.{if-yes, if-no, if-zero, not-no, not-false}
+use Rattle.mlg.specs.Block.{counterOf, blockLen, kindIn, counterIn, timeIn, recordIn, sumIn, textIn, lastOf, blockNumber, partsOf, blockJudged, blockOf, placeNumber, blockAt, BlockAnswer, noBlock, blockAnswer, partValues, restResult, blockResult}
 use Rattle.mlg.specs.declared.Block.{Block}
 use Rattle.mlg.specs.declared.Block.the-variants.{Data, Mark, End, Refused}
 
@@ -41,12 +40,12 @@ known-mark l (suc zero) h e = refl
 known-mark l (suc (suc k)) h e = absurd (h refl)
 
 -- a block refused, and one that stands
-pub judged-no : (n at : ℕ) (b : Block) (x : ℕ) → x ≡ n → (x ≡ 0 → ⊥) → Refused x at ≡ blockJudged n at b
+pub judged-no : (n at : ℕ) (b : Block) (x : ℕ) → x ≡ n → (x ≡ 0 → ⊥) → Refused x at ≡ blockJudged Refused n at b
 unfolding blockJudged
 judged-no zero at b x e k = absurd (k e)
 judged-no (suc n) at b x e k = ap (λ (m : ℕ). Refused m at) e
 
-pub judged-yes : (n at : ℕ) (b : Block) → n ≡ 0 → blockJudged n at b ≡ b
+pub judged-yes : (n at : ℕ) (b : Block) → n ≡ 0 → blockJudged Refused n at b ≡ b
 unfolding blockJudged
 judged-yes zero at b e = refl
 judged-yes (suc n) at b e = absurd (omega arith)
@@ -57,7 +56,7 @@ module _ (l c at : ℕ) where
   block-end [] h = refl
   block-end (b ∷ t) h = absurd (omega arith)
 
-  pub block-here : (t : List ℕ) → (length t ≡ 0 → ⊥) → blockOf l c at t ≡ blockJudged (blockNumber l t) at (partsOf (kindIn t) c at t)
+  pub block-here : (t : List ℕ) → (length t ≡ 0 → ⊥) → blockOf l c at t ≡ blockJudged Refused (blockNumber l t) at (partsOf (kindIn t) c at t)
   unfolding blockOf
   block-here [] h = absurd (h refl)
   block-here (b ∷ t) h = refl
@@ -70,35 +69,25 @@ pub at-within : (l n : ℕ) (f : List ℕ) (at : ℕ) → at ≤ length f → bl
 unfolding blockAt placeNumber
 at-within l n f at h = judged-yes _ at _ (sym (if-no 23 _ 0 0 (le-ltb _ _ h) refl))
 
--- the number of the answer
-parts-number : (l k c at : ℕ) (t : List ℕ) → blockAnswer l (partsOf k c at t) .number ≡ 0
-unfolding blockAnswer partsOf
-parts-number l zero c at t = refl
-parts-number l (suc k) c at t = refl
+-- what a block's answer says
+judged-values : (l n at : ℕ) (b : Block) (v : BlockAnswer) → blockAnswer l b ≡ v → blockAnswer l (blockJudged Refused n at b) ≡ blockJudged noBlock n at v
+unfolding blockJudged blockAnswer
+judged-values l zero at b v e = e
+judged-values l (suc n) at b v e = refl
 
-judged-number : (l n at : ℕ) (b : Block) → blockAnswer l b .number ≡ 0 → blockAnswer l (blockJudged n at b) .number ≡ n
-unfolding blockAnswer blockJudged
-judged-number l zero at b e = e
-judged-number l (suc n) at b e = refl
+part-values : (l k c at : ℕ) (t : List ℕ) → blockAnswer l (partsOf k c at t) ≡ partValues k l c at t
+unfolding blockAnswer partsOf partValues
+part-values l zero c at t = refl
+part-values l (suc k) c at t = refl
 
-rest-number : (l c at : ℕ) (t : List ℕ) → blockAnswer l (blockOf l c at t) .number ≡ restNumber l t
-unfolding blockOf restNumber blockAnswer
-rest-number l c at [] = refl
-rest-number l c at (b ∷ t) = judged-number l _ at _ (parts-number l b c at (b ∷ t))
+rest-values : (l c at : ℕ) (t : List ℕ) → blockAnswer l (blockOf l c at t) ≡ restResult l c at t
+unfolding blockOf restResult blockAnswer
+rest-values l c at [] = refl
+rest-values l c at (b ∷ t) = judged-values l _ at _ _ (part-values l b c at (b ∷ t))
 
-past-number : (l at : ℕ) → blockAnswer l (Refused 23 at) .number ≡ 23
-unfolding blockAnswer
-past-number l at = refl
-
-place-number : (l n : ℕ) (f : List ℕ) (at : ℕ) (b : Bool) → ltb (length f) at ≡ b → blockAnswer l (blockAt l n f at) .number ≡ atNumber l f at
-unfolding atNumber
-place-number l n f at true e = rw (at-past l n f at (ltb-true _ _ e)) (past-number l at ∙ if-yes 23 _ _ e)
-place-number l n f at false e =
-    rw (at-within l n f at (ltb-false _ _ e)) (if-no 23 _ _ _ e (rest-number l (counterOf n) at (drop at f)))
-
--- both parts of the reader's promise
-pub block-said : {r : Block} (l n : ℕ) (f : List ℕ) (at : ℕ) → r ≡ blockAt l n f at → (r ≡ blockAt l n f at) × (blockAnswer l r .number ≡ atNumber l f at)
-block-said l n f at e = (e, ap (λ (b : Block). blockAnswer l b .number) e ∙ place-number l n f at _ refl)
+pub block-means : {r : Block} (l n : ℕ) (f : List ℕ) (at : ℕ) → r ≡ blockAt l n f at → (r ≡ blockAt l n f at) × (blockAnswer l r ≡ blockResult l n f at)
+unfolding blockAt blockResult
+block-means l n f at e = (e, ap (blockAnswer l) e ∙ judged-values l _ at _ _ (rest-values l (counterOf n) at (drop at f)))
 
 -- what a block that no number refuses keeps to
 pub whole : (l : ℕ) (t : List ℕ) → blockNumber l t ≡ 0 → (blockLen l (kindIn t) ≡ 0 → ⊥) × (blockLen l (kindIn t) ≤ length t) × (lastOf (kindIn t) l t ≡ 0)
@@ -159,10 +148,6 @@ pub here-stands : (l c at : ℕ) (t : List ℕ) → (length t ≡ 0 → ⊥) →
 here-stands l c at t h z = block-here l c at t h ∙ judged-yes _ at _ z
 
 -- and what then holds of it
-not-false : (b : Bool) → not b ≡ false → b ≡ true
-not-false true e = refl
-not-false false e = let z : _≡_ {A = Bool} true false = e in cc
-
 pub sum-right : (k l : ℕ) (t : List ℕ) → k ≡ 0 → lastOf k l t ≡ 0 → sumOf (recordIn l t) ≡ sumIn l t
 unfolding lastOf
 sum-right zero l t e z = eqb-true _ _ (not-false _ (if-zero 25 _ _ z .0))

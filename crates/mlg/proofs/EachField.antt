@@ -1,5 +1,5 @@
 -- The fields one by one.
-use Prim.Native.Nat.{ℕ, zero, suc, _+_, _*_, _-_, _≤_, _<_}
+use Prim.Native.Nat.{ℕ, zero, suc, _+_, _*_, _-_, _≤_}
 use mathlib.Core.Path.{_≡_, refl, sym, ap, _∙_}
 use mathlib.Core.List.{List, _++_}
 use native.Mathlib.Nat.{mul-suc}
@@ -12,7 +12,7 @@ use Rattle.field.specs.Types.{sizeOf}
 use Rattle.field.specs.Field.{fieldSize}
 use Rattle.mlg.specs.Fields.{fieldNumber, fieldsNumber, sizes}
 use Rattle.wire.proofs.Orders.{else-none}
-use Rattle.mlg.proofs.Layouts.{field-least}
+use Rattle.field.proofs.Layouts.{field-least}
 
 module _ (v : ℕ) (f : List ℕ) (e : ℕ) (b : List ℕ) where
   pub fields-at : (left at : ℕ) → (left ≡ 0 → ⊥)

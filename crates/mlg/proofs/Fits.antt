@@ -1,24 +1,23 @@
 -- What follows where no length refuses a header that is to be written, and that its body's number is then its fields'.
-use Prim.Native.Nat.{ℕ, zero, suc, _+_, _*_, _-_, _/_, _%_, _≤_, _<_}
+use Prim.Native.Nat.{ℕ, zero, suc, _+_, _-_, _/_, _%_, _≤_, _<_}
 use mathlib.Core.Path.{_≡_, refl, sym, ap, _∙_}
-use mathlib.Core.Bool.{Bool, true, false, not}
-use mathlib.Core.List.{List, [], _∷_, _++_}
+use mathlib.Core.Bool.{true, false, not}
+use mathlib.Core.List.{List, [], _∷_}
 use native.Mathlib.Omega.{arith}
 use borrow.Author.Tests.{ltb-false, eqb-true, eq-eqb, ne-eqb, lt-ltb, le-ltb}
 use lib.Dec.{eqb, ltb}
 use lib.ListN.{length, drop, length-append}
 use lib.Seq.{drop-append-seam}
-use Rattle.wire.specs.Order.{_if_else_, _orElse_}
+use Rattle.wire.specs.Order.{_orElse_}
 use Rattle.wire.specs.Text.{textLen, zeros}
-use Rattle.wire.proofs.Orders.{if-zero, if-yes, if-no, not-no}
+use Rattle.wire.proofs.Orders.{if-zero, if-yes, if-no, not-no, not-false}
 use Rattle.wire.proofs.Texts.{zeros-append}
 use Rattle.field.specs.Layout.{headerLen, fieldLen}
-use Rattle.mlg.specs.Area.{ended, areaOf, infoStart}
+use Rattle.mlg.specs.Area.{ended, areaOf}
 use Rattle.mlg.specs.Fields.{fieldsNumber, sizes}
 use Rattle.mlg.specs.Header.{fieldsEnd, lastNumber, bodyNumber}
 use Rattle.mlg.specs.Writing.{headerFor, lengthsNumber}
 use Rattle.mlg.proofs.Areas.{area-length}
-use Rattle.mlg.proofs.BlockBytes.{not-false}
 use Rattle.mlg.proofs.Layouts.{fields-whole, fields-few, header-most}
 
 pub record Fit (v : ℕ) (fields names info : List ℕ) : Type 0 where

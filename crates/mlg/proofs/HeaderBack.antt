@@ -1,34 +1,33 @@
 -- A header that was written, followed by any bytes, reads back as given.
-use Prim.Native.Nat.{ℕ, zero, suc, _+_, _*_, _-_, _/_, _%_, _^_, _≤_, _<_}
+use Prim.Native.Nat.{ℕ, _+_, _*_, _-_, _/_, _%_, _^_, _≤_, _<_}
 use mathlib.Core.Path.{_≡_, refl, sym, ap, _∙_}
-use mathlib.Core.Bool.{Bool, true, false, not, cond}
+use mathlib.Core.Bool.{Bool, true, false}
 use mathlib.Core.List.{List, [], _∷_, _++_, append-assoc}
 use native.Mathlib.Omega.{arith}
 use borrow.Author.Tests.{le-ltb, lt-leb, eq-eqb, ne-eqb}
-use lib.Dec.{eqb, ltb, leb}
+use lib.Dec.{eqb}
 use lib.ListN.{length, take, drop, length-append}
 use lib.Seq.{take-at, drop-at, drop-drop}
-use Rattle.wire.specs.BigEndian.{beAt, bytesOf}
 use Rattle.wire.specs.Order.{_if_else_}
 use Rattle.wire.specs.Text.{textLen}
 use Rattle.wire.proofs.Numbers.{be-back}
+use Rattle.wire.proofs.Answers.{stands}
 use Rattle.wire.proofs.Orders.{if-yes, if-no, not-no, else-none}
 use Rattle.wire.proofs.Texts.{text-back, text-most}
 use Rattle.field.specs.Layout.{served, layoutOf, headerLen, fieldLen}
 use Rattle.mlg.specs.Area.{ended, areaOf, infoStart}
-use Rattle.mlg.specs.Fields.{sizes, fieldsNumber}
-use Rattle.mlg.specs.Header.{numbersOf, fieldsEnd, nameNumber, placesNumber, lastNumber, bodyNumber, areaIn, headNumber, headJudged, headerOf}
-use Rattle.mlg.specs.Writing.{numberBytes, headerFor, headerBytes, headerNumber, lengthsNumber}
-use Rattle.mlg.specs.Parts.{fieldsIn, namesIn, infoIn}
-use Rattle.mlg.specs.RoundTrip.{HeaderReads, HeaderBack}
+use Rattle.mlg.specs.Fields.{sizes}
+use Rattle.mlg.specs.Header.{numbersOf, fieldsEnd, nameNumber, placesNumber, lastNumber, bodyNumber, areaIn, headNumber, headerOf}
+use Rattle.mlg.specs.Writing.{numberBytes, headerFor, headerBytes}
+use Rattle.mlg.specs.Parts.{fieldsIn, namesEnd, namesIn, infoLength, infoIn}
+use Rattle.mlg.specs.RoundTrip.{HeaderBack}
 use Rattle.mlg.specs.declared.Header.{Header}
-use Rattle.mlg.specs.declared.Head.the-variants.{Is}
+use Rattle.mlg.specs.declared.Head.the-variants.{Is, Refused}
 use Rattle.mlg.proofs.Areas.{area-length, ended-some}
 use Rattle.mlg.proofs.EachField.{fields-alone, sizes-alone}
 use Rattle.mlg.proofs.Fits.{Fit, fit, fields-end}
 use Rattle.mlg.proofs.HeaderBytes.{first-length, number-length, header-length, header-fits, start-most}
-use Rattle.mlg.proofs.Layouts.{header-two, field-two, fields-fit}
-use Rattle.mlg.proofs.Places.{stands}
+use Rattle.mlg.proofs.Layouts.{header-two, fields-fit}
 
 -- the numbers
 numbers-in : (t i b s n : ℕ) (r : List ℕ) → t < 256 ^ 4 → i < 256 ^ 4 → b < 256 ^ 4 → s < 256 ^ 2 → n < 256 ^ 2
@@ -84,8 +83,8 @@ module _ (v time : ℕ) (fields names : List ℕ) (n : ℕ) (h : length fields %
 
 -- the names stop where info starts, or at data begin
 stop-at : (time : ℕ) (fields names info : List ℕ)
-    → cond (eqb (headerFor 2 time fields names info .info) 0) (headerFor 2 time fields names info .begin) (headerFor 2 time fields names info .info) ≡ headerLen 2 + length fields + length names
-unfolding headerFor
+    → namesEnd (headerFor 2 time fields names info) ≡ headerLen 2 + length fields + length names
+unfolding headerFor namesEnd
 stop-at time fields names [] = omega (arith, area-length names [])
 stop-at time fields names (b ∷ bs) =
     let z : eqb (headerLen 2 + length fields + length names) 0 ≡ false = ne-eqb (headerLen 2 + length fields + length names) 0 (λ w. omega (arith, header-two)) in
@@ -156,7 +155,7 @@ module _ (time : ℕ) (fields names info rest : List ℕ) where
   -- the reader answers exactly the numbers written
   header-back′ : time < 256 ^ 4 → Fit 2 fields names info → bodyNumber head fields (areaOf names info) ≡ 0 → headerOf log ≡ Is head
   unfolding headerOf
-  header-back′ t f z = sym (stands (headNumber log) (numbersOf log) head (number-of t f z) (sym (numbers-of t f)))
+  header-back′ t f z = sym (stands Is Refused (headNumber log) (numbersOf log) head (sym (number-of t f z)) (sym (numbers-of t f)))
 
   -- and the parts are as given
   fields-back : Fit 2 fields names info → fieldsIn log head ≡ fields
@@ -188,7 +187,7 @@ text-at l info rest p h t =
     rw (e, text-back info rest t) (take-at info (0 ∷ rest) (length info) refl)
 
 info-back : (time : ℕ) (fields names info rest : List ℕ) → Fit 2 fields names info → infoIn (log time fields names info rest) (headerFor 2 time fields names info) ≡ info
-unfolding infoIn headerFor
+unfolding infoIn infoLength headerFor
 info-back time fields names [] rest f = refl
 info-back time fields names (b ∷ bs) rest f =
     let z : eqb (headerLen 2 + length fields + length names) 0 ≡ false = ne-eqb (headerLen 2 + length fields + length names) 0 (λ w. omega (arith, header-two)) in

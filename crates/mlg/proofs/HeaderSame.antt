@@ -1,43 +1,39 @@
 -- A file in the writer's layout, rewritten from what was read.
-use Prim.Native.Nat.{ℕ, zero, suc, _+_, _*_, _-_, _/_, _%_, _≤_, _<_}
+use Prim.Native.Nat.{ℕ, zero, suc, _+_, _*_, _-_, _/_, _≤_, _<_}
 use mathlib.Core.Path.{_≡_, refl, sym, ap, _∙_}
-use mathlib.Core.Bool.{Bool, true, false, not, cond}
 use mathlib.Core.Logic.{_⊎_, inl, inr}
-use mathlib.Core.List.{List, [], _∷_, _++_, append-assoc, append-nil}
+use mathlib.Core.List.{List, [], _∷_, _++_, append-nil}
 use native.Mathlib.Omega.{arith}
 use borrow.Author.Tests.{eq-eqb, ne-eqb, eqb-true, ltb-false}
-use lib.Dec.{eqb}
-use lib.ListN.{length, getD, take, drop, length-drop, take-append-drop}
-use lib.Seq.{length-take-le, take-suc, drop-drop}
+use lib.ListN.{length, take, drop, length-drop, take-append-drop}
+use lib.Seq.{length-take-le, take-suc}
 use Rattle.wire.specs.BigEndian.{beOf, beAt, bytesOf}
 use Rattle.wire.specs.Text.{textLen}
+use Rattle.wire.proofs.Answers.{answered}
 use Rattle.wire.proofs.Numbers.{Bytes, part-back}
-use Rattle.wire.proofs.Orders.{if-zero, else-zero}
+use Rattle.wire.proofs.Orders.{if-zero, else-zero, not-false}
 use Rattle.wire.proofs.Parts.{part-in-two}
 use Rattle.wire.proofs.Texts.{text-zero}
-use Rattle.field.specs.Layout.{served, layoutOf, headerLen, fieldLen}
+use Rattle.field.specs.Layout.{served, layoutOf}
 use Rattle.mlg.specs.Area.{ended, areaOf, infoStart}
 use Rattle.mlg.specs.Fields.{sizes}
-use Rattle.mlg.specs.Header.{logName, versionIn, numbersOf, fieldsEnd, fieldsFrom, nameNumber, placesNumber, lastNumber, bodyNumber, areaIn, headNumber, headJudged, headerOf}
+use Rattle.mlg.specs.Header.{logName, versionIn, numbersOf, fieldsEnd, fieldsFrom, nameNumber, lastNumber, bodyNumber, headNumber, headerOf}
 use Rattle.mlg.specs.Writing.{numberBytes, headerFor, headerBytes}
-use Rattle.mlg.specs.Parts.{fieldsIn, namesIn, infoIn}
+use Rattle.mlg.specs.Parts.{fieldsIn, namesEnd, namesIn, infoLength, infoIn}
 use Rattle.mlg.specs.Log.{logOf}
-use Rattle.mlg.specs.Entries.{entriesBytes, entriesIn}
 use Rattle.mlg.specs.RoundTrip.{InLayout, LogSame, logBytes}
 use Rattle.mlg.specs.declared.Header.{Header}
 use Rattle.mlg.specs.declared.Head.the-variants.{Is, Refused}
 use Rattle.mlg.proofs.Areas.{ended-some}
-use Rattle.mlg.proofs.BlockBytes.{not-false}
 use Rattle.mlg.proofs.EachField.{sizes-alone}
 use Rattle.mlg.proofs.HeaderBytes.{start-some}
 use Rattle.mlg.proofs.LogSame.{same-from}
 use Rattle.mlg.proofs.Places.{Placed, placed}
 
 -- what is known of a header that was read
-judged-is : (n : ℕ) (g h : Header) → headJudged n g ≡ Is h → (n ≡ 0) × (g ≡ h)
-unfolding headJudged
-judged-is zero g h e = (refl, cc)
-judged-is (suc n) g h e = absurd (let v : _≡_ {A = ℕ} 0 1 = cc in omega arith)
+taken : (f : List ℕ) (h : Header) → headerOf f ≡ Is h → (headNumber f ≡ 0) × (numbersOf f ≡ h)
+unfolding headerOf
+taken f h e = answered Is Refused (λ n y q. let v : _≡_ {A = ℕ} 0 1 = cc in omega arith) (λ x y q. cc) (headNumber f) (numbersOf f) h e
 
 record Sound (f : List ℕ) (h : Header) : Type 0 where
   long : 24 ≤ length f
@@ -64,9 +60,9 @@ unfolding bodyNumber lastNumber
 sized h fields area e = eqb-true _ _ (not-false _ (if-zero 22 _ _ (else-zero _ _ e .1) .0))
 
 sound : (f : List ℕ) (h : Header) → headerOf f ≡ Is h → Sound f h
-unfolding headerOf headNumber
+unfolding headNumber
 sound f h e =
-    let j = judged-is _ _ h e in
+    let j = taken f h e in
     let a = else-zero _ _ (j .0) in
     let b = else-zero _ _ (a .1) in
     let n = named f (a .0) in
@@ -119,20 +115,20 @@ module _ (f : List ℕ) (h : Header) (ok : Sound f h) where
 
   -- the area, where there is no info
   bare : h .info ≡ 0 → namesIn f h ≡ take (h .begin - end) (drop end f)
-  unfolding namesIn
+  unfolding namesIn namesEnd
   bare z = rw (eq-eqb (h .info) 0 z)
 
   no-info : h .info ≡ 0 → infoIn f h ≡ []
-  unfolding infoIn
+  unfolding infoIn infoLength
   no-info z = rw (eq-eqb (h .info) 0 z)
 
   -- and where there is
   some-names : (h .info ≡ 0 → ⊥) → namesIn f h ≡ take (h .info - end) (drop end f)
-  unfolding namesIn
+  unfolding namesIn namesEnd
   some-names z = rw (ne-eqb (h .info) 0 z)
 
   some-info : (h .info ≡ 0 → ⊥) → infoIn f h ≡ take (textLen (drop (h .info) f)) (drop (h .info) f)
-  unfolding infoIn
+  unfolding infoIn infoLength
   some-info z = rw (ne-eqb (h .info) 0 z)
 
   abbrev m : ℕ

@@ -14,3 +14,6 @@ pub mod Logs
 pub mod LogBack
 pub mod LogSame
 pub mod HeaderSame
+pub mod Tallies
+pub mod Spans
+pub mod Example

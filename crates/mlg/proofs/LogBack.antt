@@ -1,16 +1,16 @@
 -- A log that was written reads back as given.
-use Prim.Native.Nat.{ℕ, zero, suc, _+_, _-_, _^_, _≤_, _<_}
-use mathlib.Core.Path.{_≡_, refl, sym, ap, _∙_}
+use Prim.Native.Nat.{ℕ, zero, suc, _+_, _-_, _<_}
+use mathlib.Core.Path.{_≡_, refl, ap, _∙_}
 use mathlib.Core.Bool.{true}
-use mathlib.Core.List.{List, [], _∷_, _++_, append-assoc, append-nil}
+use mathlib.Core.List.{List, [], _∷_, _++_, append-assoc}
 use native.Mathlib.Omega.{arith}
-use lib.ListN.{length, getD, take, drop, length-append}
+use lib.ListN.{length, drop, length-append}
 use lib.Seq.{drop-at}
-use Rattle.mlg.specs.Block.{counterOf, blockLen, blockOf, blockAt}
-use Rattle.mlg.specs.Writing.{headerFor, headerBytes, headerNumber, dataBytes, markBytes}
+use Rattle.mlg.specs.Block.{counterOf, blockLen, blockAt}
+use Rattle.mlg.specs.Writing.{headerFor, headerBytes, dataBytes, markBytes}
 use Rattle.mlg.specs.Log.{Log, lengthOf, logFrom, logOf}
-use Rattle.mlg.specs.Entries.{Entry, aRecord, aMark, entryBytes, entriesBytes, entryIn, entriesIn, Writable, AllRight}
-use Rattle.mlg.specs.RoundTrip.{DataBack, MarkBack, HeaderBack, LogBack, LogReads, logBytes}
+use Rattle.mlg.specs.Entries.{Entry, aRecord, aMark, entriesBytes, entryIn, entriesIn, Writable, AllRight}
+use Rattle.mlg.specs.RoundTrip.{DataBack, MarkBack, HeaderBack, LogBack, logBytes}
 use Rattle.mlg.specs.declared.Block.{Block}
 use Rattle.mlg.specs.declared.Block.the-variants.{Data, Mark, End}
 use Rattle.mlg.proofs.BlockBack.{data-back, mark-back}

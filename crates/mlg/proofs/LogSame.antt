@@ -1,24 +1,23 @@
 -- A log's blocks, rewritten from what was read.
 use Prim.Native.Nat.{ℕ, zero, suc, _+_, _-_, _≤_, _<_}
-use mathlib.Core.Path.{_≡_, refl, sym, ap, _∙_}
-use mathlib.Core.Bool.{Bool, true}
-use mathlib.Core.List.{List, [], _∷_, _++_}
+use mathlib.Core.Path.{_≡_, sym, ap, _∙_}
+use mathlib.Core.List.{List, [], _++_}
 use native.Mathlib.Omega.{arith}
 use borrow.Author.Tests.{eqb-true}
-use lib.ListN.{length, getD, take, drop, length-drop, length-take, take-append-drop, drop-of-length-le}
+use lib.ListN.{length, getD, take, drop, take-append-drop, drop-of-length-le}
 use lib.Seq.{drop-drop, take-take, getD-drop}
 use Rattle.wire.specs.Text.{textLen}
 use Rattle.wire.proofs.Parts.{take-length-le}
 use Rattle.wire.proofs.Texts.{text-most}
-use Rattle.mlg.specs.Block.{counterOf, blockLen, kindIn, counterIn, timeIn, recordIn, textIn, blockNumber, partsOf, blockAt}
+use Rattle.mlg.specs.Block.{counterOf, blockLen, kindIn, counterIn, timeIn, blockNumber, partsOf, blockAt}
 use Rattle.mlg.specs.Writing.{dataBytes, padded, markBytes}
-use Rattle.mlg.specs.Log.{Log, lengthOf, logFrom, logOf}
-use Rattle.mlg.specs.Entries.{Entry, aRecord, aMark, entryBytes, entriesBytes, entryIn, entriesIn, Right, Padded, AllRight, AllPadded, rewritten, PaddedHere}
+use Rattle.mlg.specs.Log.{Log, lengthOf, logFrom}
+use Rattle.mlg.specs.Entries.{Entry, entriesBytes, entryIn, entriesIn, Right, Padded, AllRight, AllPadded, rewritten, PaddedHere}
 use Rattle.mlg.specs.RoundTrip.{BlockSame}
 use Rattle.mlg.specs.declared.Block.{Block}
-use Rattle.mlg.specs.declared.Block.the-variants.{Data, Mark, End, Refused}
+use Rattle.mlg.specs.declared.Block.the-variants.{End, Refused}
 use Rattle.mlg.proofs.Cases.{whole}
-use Rattle.mlg.proofs.Logs.{Goes, Next, Stands, a-block, the-end, refused, stands-at, step, parts-go, parts-length, log-end, log-refused, log-go}
+use Rattle.mlg.proofs.Logs.{Next, Stands, a-block, the-end, refused, stands-at, step, parts-go, parts-length, log-end, log-refused, log-go}
 use Rattle.mlg.proofs.Rewrite.{block-same}
 
 -- the first bytes of a part

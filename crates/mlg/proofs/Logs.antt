@@ -2,16 +2,17 @@
 use Prim.Native.Nat.{ℕ, zero, suc, _+_, _-_, _≤_, _<_}
 use mathlib.Core.Path.{_≡_, refl, sym, ap, _∙_}
 use mathlib.Core.Bool.{Bool, true, false}
-use mathlib.Core.List.{List, [], _∷_, _++_}
+use mathlib.Core.List.{List, [], _∷_}
 use native.Mathlib.Omega.{arith}
 use borrow.Author.Tests.{ltb-true, ltb-false}
 use lib.Dec.{ltb}
-use lib.ListN.{length, getD, take, drop, length-drop}
-use Rattle.mlg.specs.Block.{counterOf, blockLen, kindIn, blockNumber, partsOf, blockJudged, blockOf, blockAt}
+use lib.ListN.{length, drop, length-drop}
+use Rattle.mlg.specs.Block.{counterOf, blockLen, kindIn, blockNumber, partsOf, blockAt}
 use Rattle.mlg.specs.Log.{Log, lengthOf, ahead, logFrom, logOf}
+use Rattle.mlg.specs.RoundTrip.{AllAt, LogPlaced}
 use Rattle.mlg.specs.declared.Block.{Block}
 use Rattle.mlg.specs.declared.Block.the-variants.{Data, Mark, End, Refused}
-use Rattle.mlg.proofs.Cases.{at-past, at-within, block-end, block-here, judged-no, judged-yes, whole, known-mark}
+use Rattle.mlg.proofs.Cases.{at-past, at-within, block-end, block-here, judged-no, judged-yes, whole}
 
 -- data and marks are passed over
 abbrev pub Goes : Block → Type 0
@@ -99,3 +100,21 @@ Next log at b next = (log .blocks ≡ (at, b) ∷ next .blocks) × (log .ending 
 pub log-go : (k l n : ℕ) (f : List ℕ) (at : ℕ) (b : Block) → blockAt l n f at ≡ b → Goes b
     → Next (logFrom (suc k) l n f at) at b (logFrom k l (n + 1) f (at + lengthOf l b))
 log-go k l n f at b e g = rw e (go at b (logFrom k l (n + 1) f (at + lengthOf l b)) g)
+
+-- each block is what stands at its place
+placed-by : (k l n : ℕ) (f : List ℕ) (at : ℕ) → Stands l n f at (blockAt l n f at)
+    → ((m to : ℕ) → AllAt l m f (logFrom k l m f to .blocks)) → AllAt l n f (logFrom (suc k) l n f at .blocks)
+placed-by k l n f at (the-end h e) ih = rw (log-end k l n f at e) tt
+placed-by k l n f at (refused m e) ih = rw (log-refused k l n f at (suc m) at e) tt
+placed-by k l n f at (a-block h some num e) ih =
+    let b : Block = partsOf (kindIn (drop at f)) (counterOf n) at (drop at f) in
+    let g = log-go k l n f at b e (parts-go (kindIn (drop at f)) (counterOf n) at (drop at f)) in
+    rw (g .0) (e, ih (n + 1) (at + lengthOf l b))
+
+placed-from : (k l n : ℕ) (f : List ℕ) (at : ℕ) → AllAt l n f (logFrom k l n f at .blocks)
+placed-from zero l n f at = tt
+placed-from (suc k) l n f at = placed-by k l n f at (stands-at l n f at) (λ m to. placed-from k l m f to)
+
+pub log-placed : LogPlaced
+unfolding LogPlaced logOf
+log-placed l f at = placed-from (suc (length f)) l 0 f at

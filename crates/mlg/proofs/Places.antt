@@ -1,10 +1,13 @@
 -- What a header's places keep to where no number refuses them.
-use Prim.Native.Nat.{ℕ, zero, suc, _+_, _*_, _-_, _≤_, _<_}
-use mathlib.Core.Path.{_≡_, refl, sym, ap, _∙_}
-use native.Mathlib.Omega.{arith}
+use Prim.Native.Nat.{ℕ, _-_, _≤_, _<_}
+use mathlib.Core.Path.{_≡_, refl}
+use mathlib.Core.List.{List}
 use borrow.Author.Tests.{ltb-false, leb-false, ne-eqb}
 use Rattle.mlg.specs.declared.Header.{Header}
-use Rattle.mlg.specs.Header.{placesNumber, fieldsEnd, headJudged, headAnswer}
+use Rattle.mlg.specs.Header.{placesNumber, fieldsEnd, numbersOf, headNumber, headerOf, noHeader, headAnswer}
+use Rattle.wire.specs.Answer.{result}
+use Rattle.wire.proofs.Answers.{means}
+use Rattle.mlg.specs.declared.Head.{Head}
 use Rattle.mlg.specs.declared.Head.the-variants.{Is, Refused}
 use Rattle.wire.proofs.Orders.{if-zero, if-skip}
 
@@ -33,21 +36,7 @@ placed n h e =
           leb-false _ _ (if-zero 22 _ _ (i .1) .0);
     }
 
-pub refused : (n : ℕ) (h : Header) (x : ℕ) → x ≡ n → (x ≡ 0 → ⊥) → Refused x ≡ headJudged n h
-unfolding headJudged
-refused zero h x e k = absurd (k e)
-refused (suc n) h x e k = ap Refused e
-
-pub stands : (n : ℕ) (h g : Header) → 0 ≡ n → g ≡ h → Is g ≡ headJudged n h
-unfolding headJudged
-stands zero h g e k = ap Is k
-stands (suc n) h g e k = absurd (omega arith)
-
--- both parts of the reader's promise
-pub head-refused : (n : ℕ) (h : Header) (x : ℕ) → x ≡ n → (x ≡ 0 → ⊥) → (Refused x ≡ headJudged n h) × (headAnswer (Refused x) .number ≡ n)
-unfolding headAnswer
-head-refused n h x e k = (refused n h x e k, e)
-
-pub head-stands : (n : ℕ) (h g : Header) → 0 ≡ n → g ≡ h → (Is g ≡ headJudged n h) × (headAnswer (Is g) .number ≡ n)
-unfolding headAnswer
-head-stands n h g e k = (stands n h g e k, e)
+-- what a header's answer says
+pub head-means : (f : List ℕ) (r : Head) → r ≡ headerOf f → (r ≡ headerOf f) × (headAnswer r ≡ result noHeader (headNumber f) (numbersOf f))
+unfolding headerOf headAnswer
+head-means f r = means Is Refused noHeader headAnswer (λ h. refl) (λ n. refl) r _ _

@@ -1,5 +1,5 @@
 -- A block rewritten from what was read.
-use Prim.Native.Nat.{ℕ, zero, suc, _+_, _*_, _-_, _/_, _%_, _≤_, _<_}
+use Prim.Native.Nat.{ℕ, zero, suc, _+_, _*_, _-_, _/_, _%_, _<_}
 use mathlib.Core.Path.{_≡_, refl, sym, ap, _∙_}
 use mathlib.Core.List.{List, [], _∷_, _++_}
 use native.Mathlib.Omega.{arith}
@@ -8,7 +8,7 @@ use lib.Seq.{take-suc}
 use Rattle.wire.specs.BigEndian.{bytesOf}
 use Rattle.wire.specs.Sum.{sumOf}
 use Rattle.wire.specs.Text.{textLen}
-use Rattle.mlg.specs.Block.{blockLen, kindIn, counterIn, timeIn, recordIn, sumIn, textIn, lastOf, blockNumber}
+use Rattle.mlg.specs.Block.{blockLen, kindIn, counterIn, sumIn}
 use Rattle.mlg.specs.Writing.{startBytes, dataBytes, padded, markBytes}
 use Rattle.mlg.specs.Entries.{rewritten, PaddedHere}
 use Rattle.mlg.specs.RoundTrip.{BlockSame}

@@ -60,14 +60,15 @@ unfoldable pub partsOf : ℕ → ℕ → ℕ → List ℕ → Block
 partsOf zero c at t = Data (counterIn t) (timeIn t) (at + 4) (eqb (counterIn t) c)
 partsOf (suc k) c at t = Mark (counterIn t) (timeIn t) (at + 4) (textLen (textIn t)) (eqb (counterIn t) c)
 
--- "A block is either data, a mark, the end, or a refusal."
-unfoldable pub blockJudged : ℕ → ℕ → Block → Block
-blockJudged zero at b = b
-blockJudged (suc n) at b = Refused (suc n) at
+-- what is found where the number is 0, else a refusal, which holds the number and the block's place
+unfoldable pub blockJudged : {A : Type 0} → (ℕ → ℕ → A) → ℕ → ℕ → A → A
+blockJudged refused zero at x = x
+blockJudged refused (suc n) at x = refused (suc n) at
 
+-- "A block is either data, a mark, the end, or a refusal."
 unfoldable pub blockOf : ℕ → ℕ → ℕ → List ℕ → Block
 blockOf l c at [] = End
-blockOf l c at (b ∷ t) = blockJudged (blockNumber l (b ∷ t)) at (partsOf b c at (b ∷ t))
+blockOf l c at (b ∷ t) = blockJudged Refused (blockNumber l (b ∷ t)) at (partsOf b c at (b ∷ t))
 
 -- "23 (place past the file)", for a place in a file of n bytes
 unfoldable pub placeNumber : ℕ → ℕ → ℕ
@@ -75,17 +76,9 @@ placeNumber n at = 23 if ltb n at else 0
 
 -- the block at a place of a file, after n earlier blocks
 unfoldable pub blockAt : ℕ → ℕ → List ℕ → ℕ → Block
-blockAt l n f at = blockJudged (placeNumber (length f) at) at (blockOf l (counterOf n) at (drop at f))
+blockAt l n f at = blockJudged Refused (placeNumber (length f) at) at (blockOf l (counterOf n) at (drop at f))
 
--- the whole order; the end of the file is no refusal
-unfoldable pub restNumber : ℕ → List ℕ → ℕ
-restNumber l [] = 0
-restNumber l (b ∷ t) = blockNumber l (b ∷ t)
-
-unfoldable pub atNumber : ℕ → List ℕ → ℕ → ℕ
-atNumber l f at = 23 if ltb (length f) at else restNumber l (drop at f)
-
--- the paper's number and values of each case
+-- the paper's number and values of each case, where records have l bytes
 pub record BlockAnswer : Type 0 where
   pub number : ℕ
   pub counter : ℕ
@@ -95,8 +88,29 @@ pub record BlockAnswer : Type 0 where
   pub right : Bool
   pub place : ℕ
 
+-- no block: the end, whose number and place are 0, or a refusal, in which "every other number .. is 0, save that a block reader's refusal names
+-- the block's place"
+abbrev pub noBlock : ℕ → ℕ → BlockAnswer
+noBlock n p = record { number = n; counter = 0; time = 0; start = 0; len = 0; right = false; place = p }
+
 unfoldable pub blockAnswer : ℕ → Block → BlockAnswer
 blockAnswer l (Data c m s r) = record { number = 0; counter = c; time = m; start = s; len = l; right = r; place = 0 }
 blockAnswer l (Mark c m s k r) = record { number = 0; counter = c; time = m; start = s; len = k; right = r; place = 0 }
-blockAnswer l End = record { number = 0; counter = 0; time = 0; start = 0; len = 0; right = false; place = 0 }
-blockAnswer l (Refused n p) = record { number = n; counter = 0; time = 0; start = 0; len = 0; right = false; place = p }
+blockAnswer l End = noBlock 0 0
+blockAnswer l (Refused n p) = noBlock n p
+
+-- the same of a place of a file, by its bytes
+abbrev pub foundValues : ℕ → ℕ → ℕ → List ℕ → BlockAnswer
+foundValues len c at t =
+    record { number = 0; counter = counterIn t; time = timeIn t; start = at + 4; len = len; right = eqb (counterIn t) c; place = 0 }
+
+unfoldable pub partValues : ℕ → ℕ → ℕ → ℕ → List ℕ → BlockAnswer
+partValues zero l c at t = foundValues l c at t
+partValues (suc k) l c at t = foundValues (textLen (textIn t)) c at t
+
+unfoldable pub restResult : ℕ → ℕ → ℕ → List ℕ → BlockAnswer
+restResult l c at [] = noBlock 0 0
+restResult l c at (b ∷ t) = blockJudged noBlock (blockNumber l (b ∷ t)) at (partValues b l c at (b ∷ t))
+
+unfoldable pub blockResult : ℕ → ℕ → List ℕ → ℕ → BlockAnswer
+blockResult l n f at = blockJudged noBlock (placeNumber (length f) at) at (restResult l (counterOf n) at (drop at f))

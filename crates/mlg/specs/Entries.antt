@@ -5,7 +5,7 @@ use mathlib.Core.Bool.{true}
 use mathlib.Core.List.{List, [], _∷_, _++_}
 use lib.ListN.{take, drop}
 use Rattle.wire.specs.Text.{textLen}
-use Rattle.mlg.specs.Block.{counterOf, kindIn, counterIn, timeIn, recordIn, textIn}
+use Rattle.mlg.specs.Block.{counterOf, timeIn, recordIn, textIn}
 use Rattle.mlg.specs.Writing.{dataBytes, padded, markBytes, dataNumber, markNumber}
 use Rattle.mlg.specs.declared.Block.{Block}
 use Rattle.mlg.specs.declared.Block.the-variants.{Data, Mark, End, Refused}
@@ -18,15 +18,11 @@ abbrev pub timeOf : Entry → ℕ
 timeOf (aRecord m bytes) = m
 timeOf (aMark m text) = m
 
--- its block's bytes, with the counter c
-abbrev pub entryBytes : ℕ → Entry → List ℕ
-entryBytes c (aRecord m bytes) = dataBytes c m bytes
-entryBytes c (aMark m text) = markBytes c m text
-
--- the bytes of their blocks, after n earlier ones
+-- the bytes of their blocks, after n earlier ones "of both kinds"
 abbrev pub entriesBytes : ℕ → List Entry → List ℕ
 entriesBytes n [] = []
-entriesBytes n (e ∷ es) = entryBytes (counterOf n) e ++ entriesBytes (n + 1) es
+entriesBytes n (aRecord m bytes ∷ es) = dataBytes (counterOf n) m bytes ++ entriesBytes (n + 1) es
+entriesBytes n (aMark m text ∷ es) = markBytes (counterOf n) m text ++ entriesBytes (n + 1) es
 
 -- entries that no writer refuses where it has room, with records of l bytes and times of 16 bits
 abbrev pub entryNumber : ℕ → Entry → ℕ

@@ -1,11 +1,12 @@
 -- The header of an MLG, and the number that refuses it. 01: "All numbers big-endian. Header 24 bytes: name `4D 4C 56 4C 47 00`, version 2
 -- (16 bits), time (32), info start (32), data begin (32), record length (16), field count n (16). Fields of 89 bytes follow."
 -- All by the version's layout, which gives the header's 24 bytes, info start's 4 and a field's 89.
-use Prim.Native.Nat.{ℕ, zero, suc, _+_, _*_, _-_}
+use Prim.Native.Nat.{ℕ, _+_, _*_, _-_}
 use mathlib.Core.Bool.{not}
 use mathlib.Core.List.{List, [], _∷_}
 use lib.Dec.{eqb, leb, ltb}
 use lib.ListN.{length, take, drop}
+use Rattle.wire.specs.Answer.{answer}
 use Rattle.wire.specs.Order.{_if_else_, _orElse_}
 use Rattle.wire.specs.BigEndian.{beOf, beAt}
 use Rattle.wire.specs.Text.{zeros}
@@ -82,21 +83,13 @@ headNumber f =
     orElse bodyNumber (numbersOf f) (fieldsFrom f (numbersOf f)) (areaIn f (numbersOf f))
 
 -- what the reader answers
-unfoldable pub headJudged : ℕ → Header → Head
-headJudged zero h = Is h
-headJudged (suc n) h = Refused (suc n)
-
 unfoldable pub headerOf : List ℕ → Head
-headerOf f = headJudged (headNumber f) (numbersOf f)
+headerOf f = answer Is Refused (headNumber f) (numbersOf f)
 
--- the paper's number and values of each case: "every other number in it is 0"
-pub record HeadAnswer : Type 0 where
-  pub number : ℕ
-  pub header : Header
-
+-- the paper's number and values of each case: in a refusal every other number is 0
 abbrev pub noHeader : Header
 noHeader = record { version = 0; time = 0; info = 0; begin = 0; size = 0; count = 0 }
 
-unfoldable pub headAnswer : Head → HeadAnswer
-headAnswer (Is h) = record { number = 0; header = h }
-headAnswer (Refused n) = record { number = n; header = noHeader }
+unfoldable pub headAnswer : Head → ℕ × Header
+headAnswer (Is h) = (0, h)
+headAnswer (Refused n) = (n, noHeader)

@@ -3,7 +3,11 @@ use Prim.Native.Nat.{ℕ, zero, suc, _+_}
 use mathlib.Core.List.{List, [], _∷_}
 use lib.ListN.{length}
 use Rattle.mlg.specs.Header.{headerOf}
-use Rattle.mlg.specs.Block.{blockLen, blockAt}
+use Rattle.mlg.specs.Block.{blockLen, blockAt, blockAnswer}
+use Rattle.mlg.specs.declared.Tally.{Tally}
+use Rattle.mlg.specs.declared.Head.{Head}
+use Rattle.mlg.specs.declared.Head.the-variants.{Is}
+use Rattle.mlg.specs.declared.Head.the-variants as head
 use Rattle.mlg.specs.declared.Block.{Block}
 use Rattle.mlg.specs.declared.Block.the-variants.{Data, Mark, End, Refused}
 
@@ -35,3 +39,15 @@ logFrom (suc k) l n f at = ahead at (blockAt l n f at) (logFrom k l (n + 1) f (a
 -- a file has at most as many blocks as bytes
 unfoldable pub logOf : ℕ → List ℕ → ℕ → Log
 logOf l f at = logFrom (suc (length f)) l 0 f at
+
+-- how many blocks stand in a log, and how they ended: 0 at the file's end, else the number that refuses what stands at the place
+unfoldable pub tallyOf : ℕ → Log → Tally
+tallyOf l log = record { blocks = length (log .blocks); ending = blockAnswer l (log .ending) .number; place = log .place }
+
+-- of a whole file, whose header may be refused
+unfoldable pub tallyHead : List ℕ → Head → Tally
+tallyHead f (Is h) = tallyOf (h .size) (logOf (h .size) f (h .begin))
+tallyHead f (head.Refused n) = record { blocks = 0; ending = n; place = 0 }
+
+unfoldable pub tallyIn : List ℕ → Tally
+tallyIn f = tallyHead f (headerOf f)

@@ -1,5 +1,5 @@
 -- What the writers promise together with the readers. Each statement is a type; the writers' contracts name it, and proofs/ proves it.
-use Prim.Native.Nat.{ℕ, zero, suc, _+_, _-_, _^_, _≤_, _<_}
+use Prim.Native.Nat.{ℕ, _+_, _-_, _^_, _≤_, _<_}
 use mathlib.Core.Path.{_≡_}
 use mathlib.Core.Bool.{true}
 use mathlib.Core.Logic.{_⊎_}
@@ -12,6 +12,7 @@ use Rattle.mlg.specs.Writing.{headerFor, headerBytes, headerNumber, data
 use Rattle.mlg.specs.Parts.{fieldsIn, namesIn, infoIn}
 use Rattle.mlg.specs.Log.{Log, logOf}
 use Rattle.mlg.specs.Entries.{Entry, entriesBytes, Writable, entriesIn, AllRight, AllPadded, rewritten, PaddedHere}
+use Rattle.mlg.specs.declared.Block.{Block}
 use Rattle.mlg.specs.declared.Header.{Header}
 use Rattle.mlg.specs.declared.Head.the-variants.{Is}
 use Rattle.mlg.specs.declared.Block.the-variants.{Data, Mark, End}
@@ -33,6 +34,14 @@ MarkBack =
 -- A whole block does not depend on what follows it.
 unfoldable pub BlockAlone : Type 0
 BlockAlone = (l c at : ℕ) (t rest : List ℕ) → 0 < length t → blockLen l (kindIn t) ≤ length t → blockOf l c at (t ++ rest) ≡ blockOf l c at t
+
+-- Each block of a log is what stands at its place, after as many blocks as stand before it in the list.
+abbrev pub AllAt : ℕ → ℕ → List ℕ → List (ℕ × Block) → Type 0
+AllAt l n f [] = Unit
+AllAt l n f (b ∷ bs) = (blockAt l n f (b .0) ≡ b .1) × AllAt l (n + 1) f bs
+
+unfoldable pub LogPlaced : Type 0
+LogPlaced = (l : ℕ) (f : List ℕ) (at : ℕ) → AllAt l 0 f (logOf l f at .blocks)
 
 -- A block rewritten from what was read is the same bytes exactly when its counter is right and, if a mark, it is zero-padded.
 unfoldable pub BlockSame : Type 0

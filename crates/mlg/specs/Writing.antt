@@ -1,5 +1,5 @@
 -- What the writers write, and the numbers that refuse it.
-use Prim.Native.Nat.{ℕ, zero, suc, _+_, _/_, _%_}
+use Prim.Native.Nat.{ℕ, _+_, _/_, _%_}
 use mathlib.Core.Bool.{not}
 use mathlib.Core.List.{List, [], _∷_, _++_}
 use lib.Dec.{eqb, ltb}
@@ -12,7 +12,6 @@ use Rattle.field.specs.Layout.{headerLen, infoLen, fieldLen}
 use Rattle.mlg.specs.Area.{infoStart, areaOf}
 use Rattle.mlg.specs.Fields.{sizes}
 use Rattle.mlg.specs.Header.{logName, bodyNumber}
-use Rattle.mlg.specs.Block.{counterOf}
 use Rattle.mlg.specs.declared.Header.{Header}
 
 -- "The header writer takes time, fields, a names area and info; lays them back to back, adds info's zero, or for empty info uses info start 0

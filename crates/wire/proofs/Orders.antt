@@ -30,6 +30,10 @@ pub not-no : (b : Bool) → b ≡ true → not b ≡ false
 not-no true e = refl
 not-no false e = let z : _≡_ {A = Bool} false true = e in cc
 
+pub not-false : (b : Bool) → not b ≡ false → b ≡ true
+not-false true e = refl
+not-false false e = let z : _≡_ {A = Bool} true false = e in cc
+
 -- the first of two numbers, as a call gave it and a test found it
 pub else-some : (a b x : ℕ) → x ≡ a → (x ≡ 0 → ⊥) → x ≡ (a orElse b)
 unfolding _orElse_

@@ -1,12 +1,11 @@
 -- Laws of bytes put into lent memory.
-use Prim.Native.Nat.{ℕ, zero, suc, _+_, _-_, _≤_, _<_}
-use mathlib.Core.Path.{_≡_, refl, sym, ap, _∙_}
+use Prim.Native.Nat.{ℕ, _+_, _-_, _≤_, _<_}
+use mathlib.Core.Path.{_≡_, sym, ap, _∙_}
 use mathlib.Core.Logic.{_⊎_, inl, inr}
-use mathlib.Core.List.{List, [], _∷_, _++_, append-assoc}
-use mathlib.Core.Bool.{true, false}
+use mathlib.Core.List.{List, _++_, append-assoc}
 use native.Mathlib.Omega.{arith}
-use lib.ListN.{length, getD, take, drop, length-append, length-take, length-drop, List·getD-append}
-use lib.Seq.{paste, take-length, sets, sets-eq, length-sets, length-take-le, getD-append-add, getD-take, getD-drop}
+use lib.ListN.{length, getD, take, drop, length-append, List·getD-append}
+use lib.Seq.{paste, take-length, sets, sets-eq, length-take-le, getD-append-add, getD-take, getD-drop}
 use borrow.Author.Tests.{le-leb, lt-leb}
 use Rattle.wire.specs.Put.{putAt, putOf}
 

@@ -1,7 +1,8 @@
 use borrow.Author.Needs.{needs}
 use Rattle.mlg.proofs.write_data.Statement.{statement}
 use Rattle.mlg.proofs.write_data.Tie as tie
-use mathlib.Core.Path.{_≡_, refl, sym, _∙_, ap}
+use mathlib.Core.Path.{refl, sym, _∙_, ap}
+use Rattle.mlg.proofs.BlockBack.{data-back}
 use Prim.Native.Nat.{ℕ}
 use lib.ListN.{length}
 use Rattle.wire.proofs.Writes.{refuses, writes, left}
@@ -13,7 +14,7 @@ data-number-requires : tie.Need-data-number-requires
 data-number-requires c κs = search needs
 
 returns : tie.Need-returns
-returns c = refuses _ _ _ _ (c .before .data-number .ensures) (c .if1 .taken)
+returns c = (refuses _ _ _ _ (c .before .data-number .ensures) (c .if1 .taken), data-back)
 
 counter-of-requires : tie.Need-counter-of-requires
 counter-of-requires c κs = search needs
@@ -28,8 +29,11 @@ same-length : tie.Need-same-length
 same-length c = search needs
 
 returns-2 : tie.Need-returns-2
-returns-2 c = writes _ _ _ _ _ (sym (c .before .before .before .before .before .if1 .left) ∙ c .before .before .before .before .before .before .data-number .ensures) (data-length _ (c .before .before .before .before .before .before .before .before .before .args .time) (c .before .before .before .before .before .before .before .before .before .args .bytes .now))
-    (c .before .before .put-data .ensures ∙ ap (λ (k : ℕ). leaves 0 (dataBytes k (c .before .before .before .before .before .before .before .before .before .args .time) (c .before .before .before .before .before .before .before .before .before .args .bytes .now)) (c .before .before .before .before .before .before .before .before .before .args .out .now)) (c .before .before .before .counter-of .ensures) ∙ left 0 _ _ refl)
+returns-2 c = (
+  writes _ _ _ _ _ (sym (c .before .before .before .before .before .if1 .left) ∙ c .before .before .before .before .before .before .data-number .ensures) (data-length _ (c .before .before .before .before .before .before .before .before .before .args .time) (c .before .before .before .before .before .before .before .before .before .args .bytes .now))
+      (c .before .before .put-data .ensures ∙ ap (λ (k : ℕ). leaves 0 (dataBytes k (c .before .before .before .before .before .before .before .before .before .args .time) (c .before .before .before .before .before .before .before .before .before .args .bytes .now)) (c .before .before .before .before .before .before .before .before .before .args .out .now)) (c .before .before .before .counter-of .ensures) ∙ left 0 _ _ refl),
+  data-back,
+)
 
 pub write-data-spec : {M : Type 1} → statement M
 write-data-spec =

@@ -1,7 +1,10 @@
 use borrow.Author.Needs.{needs}
 use Rattle.mlg.proofs.write_header.Statement.{statement}
 use Rattle.mlg.proofs.write_header.Tie as tie
-use mathlib.Core.Path.{_≡_, refl, sym, _∙_, ap}
+use mathlib.Core.Path.{refl, sym, _∙_}
+use Rattle.mlg.proofs.HeaderBack.{header-back}
+use Rattle.mlg.proofs.LogBack.{log-back}
+use Rattle.mlg.proofs.HeaderSame.{log-same}
 use lib.ListN.{length}
 use Rattle.wire.proofs.Writes.{refuses, writes, left}
 use Rattle.mlg.proofs.HeaderBytes.{header-fits, header-length}
@@ -10,7 +13,7 @@ header-number-requires : tie.Need-header-number-requires
 header-number-requires c κs = search needs
 
 returns : tie.Need-returns
-returns c = refuses _ _ _ _ (c .before .header-number .ensures) (c .if1 .taken)
+returns c = (refuses _ _ _ _ (c .before .header-number .ensures) (c .if1 .taken), (header-back, (log-back, log-same)))
 
 put-header-requires : tie.Need-put-header-requires
 put-header-requires c κs = let f = header-fits 2 (c .before .before .before .before .before .before .before .args .time) (c .before .before .before .before .before .before .before .args .fields .now) (c .before .before .before .before .before .before .before .args .names .now) (c .before .before .before .before .before .before .before .args .info .now) (length (c .before .before .before .before .before .before .before .args .out .now)) (sym (c .before .before .header-number .ensures) ∙ c .before .if1 .left) in (f .0, f .2)
@@ -22,7 +25,7 @@ same-length : tie.Need-same-length
 same-length c = search needs
 
 returns-2 : tie.Need-returns-2
-returns-2 c = writes _ _ _ _ _ (sym (c .before .before .before .before .before .if1 .left) ∙ c .before .before .before .before .before .before .header-number .ensures) (c .total-len .ensures .0 ∙ sym (header-length 2 (c .before .before .before .before .before .before .before .before .before .before .before .args .time) (c .before .before .before .before .before .before .before .before .before .before .before .args .fields .now) (c .before .before .before .before .before .before .before .before .before .before .before .args .names .now) (c .before .before .before .before .before .before .before .before .before .before .before .args .info .now))) (c .before .before .before .put-header .ensures ∙ left 0 _ _ refl)
+returns-2 c = (writes _ _ _ _ _ (sym (c .before .before .before .before .before .if1 .left) ∙ c .before .before .before .before .before .before .header-number .ensures) (c .total-len .ensures .0 ∙ sym (header-length 2 (c .before .before .before .before .before .before .before .before .before .before .before .args .time) (c .before .before .before .before .before .before .before .before .before .before .before .args .fields .now) (c .before .before .before .before .before .before .before .before .before .before .before .args .names .now) (c .before .before .before .before .before .before .before .before .before .before .before .args .info .now))) (c .before .before .before .put-header .ensures ∙ left 0 _ _ refl), (header-back, (log-back, log-same)))
 
 pub write-header-spec : {M : Type 1} → statement M
 write-header-spec =

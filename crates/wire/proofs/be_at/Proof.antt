@@ -1,11 +1,11 @@
 use borrow.Author.Needs.{needs}
 use Rattle.wire.proofs.be_at.Statement.{statement}
 use Rattle.wire.proofs.be_at.Tie as tie
-use Prim.Native.Nat.{ℕ, _+_, _*_, _^_, _≤_, _<_, _-_}
-use mathlib.Core.Path.{_≡_, refl, sym, _∙_, ap, subst}
+use Prim.Native.Nat.{ℕ, _*_, _-_}
+use mathlib.Core.Path.{sym, _∙_, ap}
 use native.Mathlib.Omega.{arith}
 use native.Mathlib.Nat.{add-sub-cancel-left}
-use lib.ListN.{length, take, drop}
+use lib.ListN.{take, drop}
 use lib.Pow.{pow-pos}
 use Rattle.wire.specs.BigEndian.{beOf}
 use Rattle.wire.proofs.Parts.{rest-part, nothing-at}

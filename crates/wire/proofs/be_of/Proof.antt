@@ -1,13 +1,12 @@
 use Rattle.wire.proofs.be_of.Statement.{statement}
 use Rattle.wire.proofs.be_of.Tie as tie
-use Prim.Native.Nat.{ℕ, _+_, _*_, _^_, _≤_, _<_, _-_}
+use Prim.Native.Nat.{_+_, _*_, _^_, _≤_, _<_, _-_}
 use native.Mathlib.Omega.{arith}
-use borrow.Author.Needs.{needs}
 use lib.ListN.{length, drop}
 use Rattle.wire.specs.BigEndian.{beFrom}
 use Rattle.wire.proofs.Parts.{rest-of, rest-none}
 use Rattle.wire.proofs.Numbers.{more-bytes, within}
-use mathlib.Core.Path.{_≡_, refl, sym, _∙_, ap}
+use mathlib.Core.Path.{_≡_, sym, _∙_}
 
 abbrev Inv-loop : tie.InvT-loop
 Inv-loop s a₀ i₀ a i = (i ≤ length s) × (a < 2 ^ (8 * i)) × (beFrom a (drop i s) ≡ beFrom 0 s)

@@ -1,9 +1,8 @@
 use Rattle.wire.proofs.zero_count.Statement.{statement}
 use Rattle.wire.proofs.zero_count.Tie as tie
-use Prim.Native.Nat.{ℕ, _+_, _≤_, _-_}
-use mathlib.Core.Path.{_≡_, refl}
+use Prim.Native.Nat.{_+_, _≤_, _-_}
+use mathlib.Core.Path.{_≡_}
 use native.Mathlib.Omega.{arith}
-use borrow.Author.Needs.{needs}
 use lib.ListN.{length, drop}
 use Rattle.wire.specs.Text.{zeros}
 use Rattle.wire.proofs.Parts.{rest-of, rest-none}

@@ -1,0 +1,200 @@
+-- Laws of frames by which the code's functions are proved: what a ready slot sends, and what a waiting one takes.
+use Prim.Native.Nat.{ℕ, zero, suc, _+_, _*_, _-_, _≤_, _<_}
+use mathlib.Core.Path.{_≡_, refl, sym, _∙_, ap}
+use mathlib.Core.Bool.{Bool, true, false, not, true≢false}
+use mathlib.Core.Logic.{_⊎_, inl, inr}
+use mathlib.Core.List.{List, []}
+use mathlib.Core.Option.{none, some}
+use native.Mathlib.Omega.{arith}
+use native.Mathlib.Numerals.{add-one}
+use lib.ListN.{length, set, take, drop}
+use lib.Seq.{sets}
+use lib.Dec.{eqb}
+use borrow.Author.Tests.{le-ltb, eq-eqb, ne-eqb}
+use Rattle.wire.specs.Order.{_if_else_, _orElse_}
+use Rattle.wire.specs.Answer.{answer}
+use Rattle.wire.proofs.Orders.{if-zero, else-zero}
+use Rattle.bus.specs.Ident.{idOf, idKind, packNumber, packOf, partsOf}
+use Rattle.bus.specs.Frames.{rsp, content, headNumber, receiveNumber, headOf}
+use Rattle.bus.specs.Request.{request, requestNumber, wroteRequest, requestBytesOf}
+use Rattle.bus.specs.Holder.{noAnswer}
+use Rattle.bus.specs.declared.Parts.{Parts}
+use Rattle.bus.specs.declared.Packed.{Packed}
+use Rattle.bus.specs.declared.Packed.the-variants as P
+use Rattle.bus.specs.declared.Unpacked.{Unpacked}
+use Rattle.bus.specs.declared.Unpacked.the-variants as U
+use Rattle.bus.specs.declared.Request.{Request}
+use Rattle.bus.specs.declared.RequestBytes.{RequestBytes}
+use Rattle.bus.proofs.IdentLaws.{unpacked-is}
+use Rattle.bus.proofs.FrameLaws.{part-length, content-length, head-short}
+use Rattle.bridge.specs.Model.{Frame, Bridge, Slot, slot, sound, isReady, isNone, from, orFour, nextReady, agedBridge, lentRefusal, turn′}
+use Rattle.bridge.specs.Model.{sendFor, chunkLen, outgoing, awaits, awaiting, contentRefusal, replyRefusal, frame′, advanced, withSlots}
+use Rattle.bridge.specs.Answers.{Stepped, steppedOf}
+use Rattle.bridge.proofs.Search.{search-some, Lowest, lowest-some, option-cases}
+use Rattle.bridge.proofs.Sound.{Sound, ReadyOk, ready-ok, true-sound, sound-true}
+use Rattle.bridge.proofs.CallKinds.{aged-sound, AwaitsOk, awaits-ok, WaitOk, wait-ok}
+use Rattle.bridge.proofs.FrameLaws.{len-eight, len-inside}
+use Rattle.bridge.proofs.Refusals.{lent-ok}
+use Rattle.bridge.proofs.CodeSlots.{awaiting-from}
+
+-- ── What a ready slot sends ────────────────────────────────────────────────────────────────────────────────────────
+
+-- parts that the rows hold
+pub packs : (p : Parts) → p .kind ≤ 7 → p .from ≤ 15 → p .to ≤ 15 → p .table ≤ 31 → p .offset ≤ 2047
+    → packOf p ≡ P.Is (idOf (p .offset) (p .kind) (p .from) (p .to) (p .table))
+unfolding packOf packNumber answer _if_else_
+packs p k f t b o =
+    rw (le-ltb 7 (p .kind) k, le-ltb 15 (p .from) f, le-ltb 15 (p .to) t, le-ltb 31 (p .table) b, le-ltb 2047 (p .offset) o)
+
+-- a request that the bytes hold
+pub requests : (q : Request) → q .table ≤ 31 → q .count ≤ 15 → q .offset ≤ 2047
+    → requestBytesOf q ≡ record { number = 0; bytes = request (q .table) (q .offset) (q .count) }
+unfolding requestBytesOf requestNumber wroteRequest _if_else_
+requests q t n o = rw (le-ltb 31 (q .table) t, le-ltb 15 (q .count) n, le-ltb 2047 (q .offset) o)
+
+pub not-refused : {A : Type 0} {r : Packed} {n id : ℕ} → r ≡ P.Refused n → r ≡ P.Is id → A
+not-refused e f = let z : _≡_ {A = ℕ} 0 1 = cc in absurd (omega arith)
+
+pub is-id : {r : Packed} {m id : ℕ} → r ≡ P.Is m → r ≡ P.Is id → m ≡ id
+is-id e f = cc
+
+-- the bytes that a write sends
+module _ (k : ℕ) (x : Slot) (b : List ℕ) (hk : k < 4) (hp : x .progress < x .count) (hc : x .count ≤ 128) (hb : length b ≡ 512) where
+  pub goes-inside : 128 * k + x .progress + chunkLen (x .count) (x .progress) ≤ length b
+  goes-inside = omega (arith, len-inside (x .count) (x .progress) hp)
+
+  pub goes-length : length (outgoing k x b) ≡ chunkLen (x .count) (x .progress)
+  unfolding outgoing
+  goes-length = part-length b (128 * k + x .progress) (chunkLen (x .count) (x .progress)) goes-inside
+
+  pub goes-eight : length (outgoing k x b) ≤ 8
+  goes-eight = omega (arith, goes-length, len-eight (x .count) (x .progress))
+
+-- what is known of a ready slot of a sound bridge
+pub readies : (s : Bridge) (k : ℕ) → sound s ≡ true → k < 4 → isReady (slot s k .phase) ≡ true → ReadyOk (s .tickets) (slot s k)
+readies s k h l r = ready-ok (s .tickets) (slot s k) (true-sound s h .each k l) r
+
+-- ── A turn ─────────────────────────────────────────────────────────────────────────────────────────────────────────
+
+module _ (s : Bridge) (b : List ℕ) where
+  pub turn-refused : (n : ℕ) → n ≡ lentRefusal s (length b) → (n ≡ 0 → ⊥)
+      → _≡_ {A = Stepped} (record { bridge = s; answer = noAnswer n }) (steppedOf (turn′ s b))
+  unfolding turn′ steppedOf
+  turn-refused n e h = rw (← e, ne-eqb n 0 h)
+
+  module _ (e : lentRefusal s (length b) ≡ 0) (a : Bridge) (q : a ≡ agedBridge s) where
+    pub turn-idles : nextReady a ≡ none → _≡_ {A = Stepped} (record { bridge = a; answer = noAnswer 0 }) (steppedOf (turn′ s b))
+    unfolding turn′ steppedOf sendFor
+    turn-idles z = rw (← q, z, eq-eqb _ 0 e)
+
+    module _ (k : ℕ) (z : nextReady a ≡ some k) where
+      pub turn-sends : steppedOf (sendFor a b (some k)) ≡ steppedOf (turn′ s b)
+      unfolding turn′
+      turn-sends = rw (← q, z, eq-eqb _ 0 e)
+
+      pub turn-sound : sound a ≡ true
+      turn-sound = rw q (sound-true (agedBridge s) (aged-sound s (true-sound s (lent-ok s (length b) e .0))))
+
+      pub turn-ready : isReady (slot a k .phase) ≡ true
+      unfolding nextReady
+      turn-ready = search-some _ (suc (a .last)) 4 k z .passes
+
+-- ── An incoming frame ──────────────────────────────────────────────────────────────────────────────────────────────
+
+-- the parts of a frame that no receiver refuses, or the number that refuses it
+module _ (own : ℕ) (f : Frame) where
+  pub head-is : (p : Parts) → headOf own f ≡ U.Is p → (headNumber own f ≡ 0) × (p ≡ partsOf (f .id))
+  unfolding headOf receiveNumber
+  head-is p e = let h = unpacked-is (receiveNumber own f) (partsOf (f .id)) p e in (if-zero 10 _ _ (h .0) .1, sym (h .1))
+
+  -- an own number 0..15 is not refused
+  receive-is : own ≤ 15 → receiveNumber own f ≡ headNumber own f
+  unfolding receiveNumber _if_else_
+  receive-is h = rw (le-ltb 15 own h)
+
+  pub head-refused : (n : ℕ) → own ≤ 15 → headOf own f ≡ U.Refused n → (headNumber own f ≡ n) × (n ≡ 0 → ⊥)
+  unfolding headOf answer
+  head-refused n o e = go (headNumber own f) (ap (λ (m : ℕ). answer U.Is U.Refused m (partsOf (f .id))) (sym (receive-is o)) ∙ e)
+    where
+      go : (m : ℕ) → answer U.Is U.Refused m (partsOf (f .id)) ≡ U.Refused n → (m ≡ n) × (n ≡ 0 → ⊥)
+      go zero q = absurd (let z : _≡_ {A = ℕ} 0 1 = cc in omega arith)
+      go (suc m) q = let z : suc m ≡ n = cc in (z, λ o. omega arith)
+
+  pub content-refused : (n : ℕ) → own ≤ 15 → headOf own f ≡ U.Refused n → n ≡ contentRefusal own f
+  unfolding contentRefusal _orElse_
+  content-refused n o e = let h = head-refused n o e in rw (h .0) (go n (h .1))
+    where
+      go : (m : ℕ) → (m ≡ 0 → ⊥) → m ≡ (m orElse (5 if not (eqb (idKind (f .id)) rsp) else 0))
+      go zero q = absurd (q refl)
+      go (suc m) q = refl
+
+  module _ (p : Parts) (e : headOf own f ≡ U.Is p) where
+    kind-is : p .kind ≡ idKind (f .id)
+    unfolding partsOf
+    kind-is = ap (λ (x : Parts). x .kind) (head-is p e .1)
+
+    pub content-five : (p .kind ≡ 2 → ⊥) → 5 ≡ contentRefusal own f
+    unfolding contentRefusal _orElse_ _if_else_
+    content-five h = rw (head-is p e .0, ← kind-is, ne-eqb (p .kind) 2 h)
+
+    pub content-zero : p .kind ≡ 2 → 0 ≡ contentRefusal own f
+    unfolding contentRefusal _orElse_ _if_else_
+    content-zero h = rw (head-is p e .0, ← kind-is, eq-eqb (p .kind) 2 h)
+
+  -- a frame that 1 to 5 don't refuse
+  module _ (e : contentRefusal own f ≡ 0) where
+    pub content-head : headNumber own f ≡ 0
+    unfolding contentRefusal
+    content-head = else-zero _ _ e .0
+
+    pub content-parts : (n : ℕ) {A : Type 0} → own ≤ 15 → headOf own f ≡ U.Refused n → A
+    content-parts n o q = let h = head-refused n o q in absurd (h .1 (sym (h .0) ∙ content-head))
+
+module _ (s : Bridge) (b : List ℕ) (f : Frame) where
+  pub frame-refused : (n : ℕ) → n ≡ replyRefusal s (length b) f → (n ≡ 0 → ⊥)
+      → _≡_ {A = Stepped} (record { bridge = s; answer = noAnswer n }) (steppedOf (frame′ s b f)) × (b ≡ frame′ s b f .buffer)
+  unfolding frame′ steppedOf
+  frame-refused n e h = rw (← e, ne-eqb n 0 h) (refl, refl)
+
+  module _ (e : replyRefusal s (length b) f ≡ 0) where
+    reply-lent : (sound s ≡ true) × (length b ≡ 512)
+    unfolding replyRefusal
+    reply-lent = lent-ok s (length b) (else-zero _ _ e .0)
+
+    pub reply-own : s .own ≤ 15
+    reply-own = true-sound s (reply-lent .0) .own
+
+    pub reply-content : contentRefusal (s .own) f ≡ 0
+    unfolding replyRefusal
+    reply-content = else-zero _ _ (else-zero _ _ e .1) .0
+
+    reply-found : isNone (awaiting s f) ≡ false
+    unfolding replyRefusal
+    reply-found = if-zero 16 _ _ (else-zero _ _ (else-zero _ _ e .1) .1) .0
+
+    pub reply-len : f .len ≤ 8
+    reply-len = head-short (s .own) f (content-head (s .own) f reply-content)
+
+    module _ (k : ℕ) (q : k ≡ orFour (awaiting s f)) where
+      pub reply-at : (k ≡ from (awaiting s f)) × (k < 4)
+      reply-at = awaiting-from s f k q reply-found
+
+      reply-awaited : AwaitsOk s f k
+      unfolding awaiting
+      reply-awaited = go (option-cases (awaiting s f))
+        where
+          go : (awaiting s f ≡ none) ⊎ ((j : ℕ) × (awaiting s f ≡ some j)) → AwaitsOk s f k
+          go (inl z) = absurd (true≢false (sym (ap isNone z) ∙ reply-found))
+          go (inr (j, z)) =
+              let g : k ≡ j = reply-at .0 ∙ ap from z in
+              rw g (awaits-ok s f j (lowest-some (awaits s f) j z .passes))
+
+      pub reply-fits : 128 * k + slot s k .progress + f .len ≤ length b
+      reply-fits =
+          let w = wait-ok (s .tickets) (slot s k) (true-sound s (reply-lent .0) .each k (reply-at .1)) (reply-awaited .waits) in
+          omega (arith, reply-at .1, reply-lent .1, reply-awaited .len, w .common .few, w .mid .below, len-inside (slot s k .count) (slot s k .progress) (w .mid .below))
+
+      pub frame-is : _≡_ {A = Stepped} (record { bridge = withSlots s (set (s .slots) k (advanced (slot s k))); answer = noAnswer 0 }) (steppedOf (frame′ s b f))
+          × (sets b (128 * k + slot s k .progress) (content f) ≡ frame′ s b f .buffer)
+      unfolding frame′ steppedOf
+      frame-is = rw (← reply-at .0, eq-eqb _ 0 e) (refl, refl)

@@ -1,0 +1,50 @@
+use borrow.Author.Needs.{needs}
+use Rattle.bridge.proofs.incoming.reply_number.Statement.{statement}
+use Rattle.bridge.proofs.incoming.reply_number.Tie as tie
+use Rattle.bridge.specs.Model.{replyRefusal}
+use Rattle.wire.proofs.Orders.{order}
+use Rattle.bridge.proofs.CodeSlots.{awaiting-none, awaiting-some}
+use mathlib.Core.Path.{sym, _∙_}
+use Rattle.bridge.proofs.Sound.{true-sound}
+use Rattle.bridge.proofs.Refusals.{lent-ok}
+
+lent-number-requires : tie.Need-lent-number-requires
+lent-number-requires c κs = search needs
+
+returns : tie.Need-returns
+unfolding replyRefusal
+returns c = search order depth 12
+
+content-number-requires : tie.Need-content-number-requires
+content-number-requires c κs =
+    let b = c .before .before .args .b in
+    true-sound b (lent-ok b _ (sym (c .before .lent-number .ensures) ∙ c .if1 .left) .0) .own
+
+returns-2 : tie.Need-returns-2
+unfolding replyRefusal
+returns-2 c = search order depth 12
+
+awaiting-requires : tie.Need-awaiting-requires
+awaiting-requires c κs =
+    let b = c .before .before .before .before .args .b in
+    (true-sound b (lent-ok b _ (sym (c .before .before .before .lent-number .ensures) ∙ c .before .before .if1 .left) .0) .own, sym (c .before .content-number .ensures) ∙ c .if2 .left)
+
+returns-3 : tie.Need-returns-3
+unfolding replyRefusal
+returns-3 c = rw (awaiting-none (c .before .before .before .before .before .before .args .b) (c .before .before .before .before .before .before .args .f) _ (c .before .awaiting .ensures) (c .if3 .taken)) (search order depth 12)
+
+returns-4 : tie.Need-returns-4
+unfolding replyRefusal
+returns-4 c = rw (awaiting-some (c .before .before .before .before .before .before .args .b) (c .before .before .before .before .before .before .args .f) _ (c .before .awaiting .ensures) (c .if3 .left) .0) (search order depth 12)
+
+pub reply-number-spec : {M : Type 1} → statement M
+reply-number-spec =
+    tie.close
+    (tie.spec
+    lent-number-requires
+    returns
+    content-number-requires
+    returns-2
+    awaiting-requires
+    returns-3
+    returns-4)

@@ -1,0 +1,51 @@
+use borrow.Author.Needs.{needs}
+use Rattle.bridge.proofs.state.holder.Statement.{statement}
+use Rattle.bridge.proofs.state.holder.Tie as tie
+use mathlib.Core.Path.{_∙_, ap}
+use Rattle.bridge.specs.Model.{holderOf, slot, orFour, firstSlot}
+
+array-copy-out-holds : tie.Need-array-copy-out-holds
+array-copy-out-holds c = search needs
+
+holds-requires : tie.Need-holds-requires
+holds-requires c κs = search needs
+
+array-copy-out-holds-2 : tie.Need-array-copy-out-holds-2
+array-copy-out-holds-2 c = search needs
+
+holds-requires-2 : tie.Need-holds-requires-2
+holds-requires-2 c κs = search needs
+
+array-copy-out-holds-3 : tie.Need-array-copy-out-holds-3
+array-copy-out-holds-3 c = search needs
+
+holds-requires-3 : tie.Need-holds-requires-3
+holds-requires-3 c κs = search needs
+
+array-copy-out-holds-4 : tie.Need-array-copy-out-holds-4
+array-copy-out-holds-4 c = search needs
+
+holds-requires-4 : tie.Need-holds-requires-4
+holds-requires-4 c κs = search needs
+
+first-requires : tie.Need-first-requires
+first-requires c κs = search needs
+
+returns : tie.Need-returns
+unfolding holderOf slot firstSlot
+returns c = c .first .ensures ∙ rw (c .before .before .before .before .before .before .before .holds .ensures, c .before .before .before .before .before .holds2 .ensures, c .before .before .before .holds3 .ensures, c .before .holds4 .ensures)
+
+pub holder-spec : {M : Type 1} → statement M
+holder-spec =
+    tie.close
+    (tie.spec
+    array-copy-out-holds
+    holds-requires
+    array-copy-out-holds-2
+    holds-requires-2
+    array-copy-out-holds-3
+    holds-requires-3
+    array-copy-out-holds-4
+    holds-requires-4
+    first-requires
+    returns)

@@ -1,0 +1,51 @@
+use borrow.Author.Needs.{needs}
+use Rattle.bridge.proofs.state.lowest_free.Statement.{statement}
+use Rattle.bridge.proofs.state.lowest_free.Tie as tie
+use mathlib.Core.Path.{_∙_, ap}
+use Rattle.bridge.specs.Model.{lowestFree, slot, orFour, firstSlot}
+
+array-copy-out-is-free : tie.Need-array-copy-out-is-free
+array-copy-out-is-free c = search needs
+
+is-free-requires : tie.Need-is-free-requires
+is-free-requires c κs = search needs
+
+array-copy-out-is-free-2 : tie.Need-array-copy-out-is-free-2
+array-copy-out-is-free-2 c = search needs
+
+is-free-requires-2 : tie.Need-is-free-requires-2
+is-free-requires-2 c κs = search needs
+
+array-copy-out-is-free-3 : tie.Need-array-copy-out-is-free-3
+array-copy-out-is-free-3 c = search needs
+
+is-free-requires-3 : tie.Need-is-free-requires-3
+is-free-requires-3 c κs = search needs
+
+array-copy-out-is-free-4 : tie.Need-array-copy-out-is-free-4
+array-copy-out-is-free-4 c = search needs
+
+is-free-requires-4 : tie.Need-is-free-requires-4
+is-free-requires-4 c κs = search needs
+
+first-requires : tie.Need-first-requires
+first-requires c κs = search needs
+
+returns : tie.Need-returns
+unfolding lowestFree slot firstSlot
+returns c = c .first .ensures ∙ rw (c .before .before .before .before .before .before .before .is-free .ensures, c .before .before .before .before .before .is-free2 .ensures, c .before .before .before .is-free3 .ensures, c .before .is-free4 .ensures)
+
+pub lowest-free-spec : {M : Type 1} → statement M
+lowest-free-spec =
+    tie.close
+    (tie.spec
+    array-copy-out-is-free
+    is-free-requires
+    array-copy-out-is-free-2
+    is-free-requires-2
+    array-copy-out-is-free-3
+    is-free-requires-3
+    array-copy-out-is-free-4
+    is-free-requires-4
+    first-requires
+    returns)

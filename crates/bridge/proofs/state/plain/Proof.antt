@@ -1,0 +1,12 @@
+use Rattle.bridge.proofs.state.plain.Statement.{statement}
+use Rattle.bridge.proofs.state.plain.Tie as tie
+use mathlib.Core.Path.{refl}
+use Rattle.bus.specs.Frames.{noFrame}
+use Rattle.bus.specs.Holder.{noAnswer}
+
+returns : tie.Need-returns
+unfolding noAnswer noFrame
+returns c = refl
+
+pub plain-spec : {M : Type 1} → statement M
+plain-spec = tie.close (tie.spec returns)

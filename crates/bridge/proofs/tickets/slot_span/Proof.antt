@@ -1,0 +1,32 @@
+use borrow.Author.Needs.{needs}
+use Rattle.bridge.proofs.tickets.slot_span.Statement.{statement}
+use Rattle.bridge.proofs.tickets.slot_span.Tie as tie
+use mathlib.Core.Path.{sym, _∙_}
+use Rattle.bridge.specs.Model.{spanOf, slot}
+
+mul-x : tie.Need-mul-x
+mul-x c = search needs
+
+array-copy-out-x : tie.Need-array-copy-out-x
+array-copy-out-x c = search needs
+
+asks-requires : tie.Need-asks-requires
+asks-requires c κs = search needs
+
+mul-t10 : tie.Need-mul-t10
+mul-t10 c = search needs
+
+cast-t11 : tie.Need-cast-t11
+cast-t11 c = search needs
+
+returns : tie.Need-returns
+unfolding spanOf slot
+returns c = rw (sym (c .before .before .asks .ensures) ∙ c .before .if1 .taken)
+
+returns-2 : tie.Need-returns-2
+unfolding spanOf slot
+returns-2 c = rw (sym (c .before .asks .ensures) ∙ c .if1 .left)
+
+pub slot-span-spec : {M : Type 1} → statement M
+slot-span-spec =
+    tie.close (tie.spec mul-x array-copy-out-x asks-requires mul-t10 cast-t11 returns returns-2)

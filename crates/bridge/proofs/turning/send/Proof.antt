@@ -1,0 +1,50 @@
+use borrow.Author.Needs.{needs}
+use Rattle.bridge.proofs.turning.send.Statement.{statement}
+use Rattle.bridge.proofs.turning.send.Tie as tie
+use mathlib.Core.Path.{sym, _∙_, ap}
+use native.Mathlib.Omega.{arith}
+use Rattle.bridge.specs.Model.{sendFor, slot, sound}
+use Rattle.bridge.specs.Answers.{steppedOf}
+use Rattle.bridge.proofs.Sound.{true-sound}
+use Rattle.bridge.proofs.CodeFrames.{readies}
+
+mul-x : tie.Need-mul-x
+mul-x c = search needs
+
+array-copy-out-x : tie.Need-array-copy-out-x
+array-copy-out-x c = search needs
+
+frame-for-requires : tie.Need-frame-for-requires
+unfolding slot
+frame-for-requires c κs = let w = readies (c .before .before .before .args .b) (c .before .before .before .args .k) (c .before .before .before .pre .0) (c .before .before .before .pre .1) (c .before .before .before .pre .2) in
+    (true-sound (c .before .before .before .args .b) (c .before .before .before .pre .0) .own, c .before .before .before .pre .1, w .common .device, w .common .table, w .mid .below, w .common .few, w .common .inside, c .before .before .before .pre .3)
+
+sent-slot-requires : tie.Need-sent-slot-requires
+unfolding slot
+sent-slot-requires c κs = readies (c .before .before .before .before .args .b) (c .before .before .before .before .args .k) (c .before .before .before .before .pre .0) (c .before .before .before .before .pre .1) (c .before .before .before .before .pre .2) .sends
+
+mul-y : tie.Need-mul-y
+mul-y c = search needs
+
+element-set-from-y : tie.Need-element-set-from-y
+element-set-from-y c = search needs
+
+cast-t : tie.Need-cast-t
+cast-t c = search needs
+
+returns : tie.Need-returns
+unfolding sendFor slot steppedOf
+returns c = rw (c .before .frame-for .ensures, c .sent-slot .ensures)
+
+pub send-spec : {M : Type 1} → statement M
+send-spec =
+    tie.close
+    (tie.spec
+    mul-x
+    array-copy-out-x
+    frame-for-requires
+    sent-slot-requires
+    mul-y
+    element-set-from-y
+    cast-t
+    returns)

@@ -1,0 +1,81 @@
+// Closing and reset.
+use crate::Bridge;
+use crate::Changed;
+use crate::state::blank;
+use crate::state::holder;
+use crate::state::sound;
+ghost use mathlib.Core.Path.{_≡_};
+ghost use Rattle.bridge.specs.Statement.{Demand3};
+ghost use Rattle.bridge.specs.Corollaries.{Corollaries};
+ghost use Rattle.bridge.specs.Calls.{Calls};
+ghost use Rattle.bridge.specs.Examples.{Examples};
+ghost use Rattle.bridge.specs.Model.{closeRefusal, close′, fresh, reset′};
+
+fn close_number(b: Bridge, ticket: u32) -> u8
+    ensures { λ r. ⌜ r ≡ closeRefusal b ticket ⌝ }
+{
+    if !sound(b) {
+        return 11;
+    }
+    if holder(b, ticket) == 4 {
+        return 14;
+    }
+    0
+}
+
+// Frees a ticket's slot in any state; 14 where the ticket is unknown.
+pub fn close(b: Bridge, ticket: u32) -> Changed
+    ensures { λ r. ⌜ r ≡ close′ b ticket ⌝ }
+{
+    let n = close_number(b, ticket);
+    if n != 0 {
+        return Changed {
+            bridge: b,
+            number: n,
+        };
+    }
+    let k = holder(b, ticket);
+    let x = blank();
+    let mut t = b;
+    t.slots[k] = x;
+    Changed {
+        bridge: t,
+        number: 0,
+    }
+}
+
+// The fresh bridge of an own number: its search starts at slot 0.
+fn fresh(own: u8) -> Bridge
+    ensures { λ r. ⌜ r ≡ fresh own ⌝ }
+{
+    let x = blank();
+    let slots = [x, x, x, x];
+    Bridge {
+        slots: slots,
+        tickets: 0,
+        own: own,
+        last: 3,
+    }
+}
+
+// Turns any state into the fresh bridge of an own number; 11 where that is over 15. Every list of calls from a fresh bridge keeps
+// demand 3, and with it stand the theorems on single calls.
+pub fn reset(b: Bridge, own: u8) -> Changed
+    ensures { λ r. ⌜ r ≡ reset′ b own ⌝ }
+    ensures demand3 { λ r. ⌜ Demand3 ⌝ }
+    ensures corollaries { λ r. ⌜ Corollaries ⌝ }
+    ensures calls { λ r. ⌜ Calls ⌝ }
+    ensures examples { λ r. ⌜ Examples ⌝ }
+{
+    if 15 < own {
+        return Changed {
+            bridge: b,
+            number: 11,
+        };
+    }
+    let t = fresh(own);
+    Changed {
+        bridge: t,
+        number: 0,
+    }
+}

@@ -1,0 +1,38 @@
+// The thin calls: turn, frame and close change the bridge in the caller's own storage.
+use crate::Bridge;
+use crate::ending::close;
+use crate::incoming::frame;
+use crate::turning::turn;
+ghost use mathlib.Core.Path.{_≡_};
+ghost use Rattle.bridge.specs.Model.{turn′, frame′, close′};
+ghost use Rattle.bridge.specs.Answers.{steppedOf};
+
+// A turn.
+pub fn turn_in_place(b: &mut Bridge, buffer: &[u8]) -> bus::Served
+    ensures { λ r. ⌜ (r ≡ steppedOf (turn′ (now (b .entry)) (now (buffer .entry))) .answer) × (now (b .exit) ≡ steppedOf (turn′ (now (b .entry)) (now (buffer .entry))) .bridge) ⌝ }
+{
+    let old = *b;
+    let t = turn(old, buffer);
+    *b = t.bridge;
+    t.answer
+}
+
+// An incoming frame.
+pub fn frame_in_place(b: &mut Bridge, buffer: &mut [u8], f: bus::Frame) -> bus::Served
+    ensures { λ r. ⌜ (r ≡ steppedOf (frame′ (now (b .entry)) (now (buffer .entry)) f) .answer) × ((now (b .exit) ≡ steppedOf (frame′ (now (b .entry)) (now (buffer .entry)) f) .bridge) × (now (buffer .exit) ≡ frame′ (now (b .entry)) (now (buffer .entry)) f .buffer)) ⌝ }
+{
+    let old = *b;
+    let t = frame(old, buffer, f);
+    *b = t.bridge;
+    t.answer
+}
+
+// A closing.
+pub fn close_in_place(b: &mut Bridge, ticket: u32) -> u8
+    ensures { λ r. ⌜ (r ≡ close′ (now (b .entry)) ticket .number) × (now (b .exit) ≡ close′ (now (b .entry)) ticket .bridge) ⌝ }
+{
+    let old = *b;
+    let t = close(old, ticket);
+    *b = t.bridge;
+    t.number
+}

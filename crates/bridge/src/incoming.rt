@@ -1,0 +1,109 @@
+// An incoming frame: the waiting read that awaits it stores its bytes.
+use crate::Bridge;
+use crate::Slot;
+use crate::Stepped;
+use crate::WAITING;
+use crate::state::advance;
+use crate::state::chunk_len;
+use crate::state::first;
+use crate::state::lent_number;
+use crate::state::plain;
+ghost use mathlib.Core.Path.{_≡_};
+ghost use mathlib.Core.Bool.{_&&_};
+ghost use Prim.Native.Nat.{_+_, _*_, _≤_, _<_};
+ghost use lib.Dec.{eqb};
+ghost use lib.ListN.{length, take};
+ghost use lib.Seq.{sets};
+ghost use Rattle.bridge.specs.Model.{isWaiting, chunkLen, contentRefusal, awaiting, orFour, replyRefusal, frame′};
+ghost use Rattle.bridge.specs.Answers.{steppedOf};
+
+// 1 to 5, by which a bridge of this own number judges a frame; else 0.
+fn content_number(own: u8, f: bus::Frame) -> u8
+    requires { ⌜ own ≤ 15 ⌝ }
+    ensures { λ r. ⌜ r ≡ contentRefusal own f ⌝ }
+{
+    let head = bus::ident::read_head(own, f);
+    match head {
+        bus::Unpacked::Is(p) => {
+            if p.kind != bus::RSP {
+                return 5;
+            }
+            0
+        }
+        bus::Unpacked::Refused(n) => n,
+    }
+}
+
+// Whether slot k is a waiting read that awaits a frame of these parts and this length.
+fn awaits(x: Slot, k: usize, p: bus::Parts, len: u8) -> bool
+    requires { ⌜ k < 4 ⌝ }
+    ensures { λ r. ⌜ r ≡ (isWaiting (x .phase) && eqb (p .table) 6 && eqb (p .from) (x .device) && eqb (p .offset) (128 * k + x .progress) && eqb len (chunkLen (x .count) (x .progress))) ⌝ }
+{
+    (x.phase == WAITING)
+        & (p.table == 6)
+        & (p.from == x.device)
+        & (p.offset as usize == 128 * k + x.progress as usize)
+        & (len == chunk_len(x.count, x.progress))
+}
+
+// The slot that awaits a frame, or 4.
+fn awaiting(b: Bridge, f: bus::Frame) -> usize
+    requires { ⌜ (b .own ≤ 15) × (contentRefusal (b .own) f ≡ 0) ⌝ }
+    ensures { λ r. ⌜ r ≡ orFour (awaiting b f) ⌝ }
+{
+    let bus::Unpacked::Is(p) = bus::ident::read_head(b.own, f) else {
+        return 4;
+    };
+    let slots = b.slots;
+    first(
+        awaits(slots[0], 0, p, f.len),
+        awaits(slots[1], 1, p, f.len),
+        awaits(slots[2], 2, p, f.len),
+        awaits(slots[3], 3, p, f.len),
+    )
+}
+
+// 11, 10, 1 to 5 and 17, by which an incoming frame is judged; else 0.
+fn reply_number(b: Bridge, n: usize, f: bus::Frame) -> u8
+    ensures { λ r. ⌜ r ≡ replyRefusal b n f ⌝ }
+{
+    let lent = lent_number(b, n);
+    if lent != 0 {
+        return lent;
+    }
+    let content = content_number(b.own, f);
+    if content != 0 {
+        return content;
+    }
+    if awaiting(b, f) == 4 {
+        return 17;
+    }
+    0
+}
+
+// The first n bytes of an array, stored from a place on.
+fn store(buffer: &mut [u8], at: usize, bytes: [u8; 8], n: usize)
+    requires { ⌜ (n ≤ 8) × (at + n ≤ length (now buffer)) ⌝ }
+    ensures { λ _. ⌜ now (buffer .exit) ≡ sets (now (buffer .entry)) at (take n bytes) ⌝ }
+{
+    wire::put(buffer, at, &bytes[..n]);
+}
+
+// An incoming frame: 17 where no waiting read awaits it; else its bytes are stored, and the read goes on or is done.
+pub fn frame(b: Bridge, buffer: &mut [u8], f: bus::Frame) -> Stepped
+    ensures { λ r. ⌜ (r ≡ steppedOf (frame′ b (now (buffer .entry)) f)) × (now (buffer .exit) ≡ frame′ b (now (buffer .entry)) f .buffer) ⌝ }
+{
+    let n = reply_number(b, buffer.len(), f);
+    if n != 0 {
+        return plain(b, n);
+    }
+    let k = awaiting(b, f);
+    let slots = b.slots;
+    let x = slots[k];
+    let bytes = f.bytes;
+    store(buffer, 128 * k + x.progress as usize, bytes, f.len as usize);
+    let y = advance(x);
+    let mut t = b;
+    t.slots[k] = y;
+    plain(t, 0)
+}

@@ -1,0 +1,124 @@
+// Status, and a done read's bytes.
+use crate::Bridge;
+use crate::DONE;
+use crate::GAVE_UP;
+use crate::Shown;
+use crate::Span;
+use crate::state::asks;
+use crate::state::holder;
+use crate::state::sound;
+ghost use mathlib.Core.Path.{_≡_};
+ghost use Prim.Native.Nat.{_+_, _<_, _≤_};
+ghost use lib.ListN.{length};
+ghost use Rattle.bridge.specs.Model.{phaseNumber, ticketNumber, status′, bytesRefusal, spanOf, span′, partOf, bytes′};
+
+fn phase_number(phase: u8) -> u8
+    ensures { λ r. ⌜ r ≡ phaseNumber phase ⌝ }
+{
+    if phase == DONE {
+        return 0;
+    }
+    if phase == GAVE_UP {
+        return 16;
+    }
+    15
+}
+
+fn ticket_number(b: Bridge, ticket: u32) -> u8
+    ensures { λ r. ⌜ r ≡ ticketNumber b ticket ⌝ }
+{
+    let k = holder(b, ticket);
+    if k == 4 {
+        return 14;
+    }
+    let slots = b.slots;
+    let x = slots[k];
+    phase_number(x.phase)
+}
+
+// 0 done, 16 gave up, 15 not finished; 14 where the ticket is unknown, 11 where the bridge is unsound.
+pub fn status(b: Bridge, ticket: u32) -> u8
+    ensures { λ r. ⌜ r ≡ status′ b ticket ⌝ }
+{
+    if !sound(b) {
+        return 11;
+    }
+    ticket_number(b, ticket)
+}
+
+fn bytes_number(b: Bridge, n: usize, ticket: u32) -> u8
+    ensures { λ r. ⌜ r ≡ bytesRefusal b n ticket ⌝ }
+{
+    if !sound(b) {
+        return 11;
+    }
+    if n != 512 {
+        return 10;
+    }
+    ticket_number(b, ticket)
+}
+
+// Where a done transfer's bytes lie: in slot k's part of the buffer for a read.
+fn slot_span(b: Bridge, k: usize) -> Span
+    requires { ⌜ k < 4 ⌝ }
+    ensures { λ r. ⌜ r ≡ spanOf b k ⌝ }
+{
+    let slots = b.slots;
+    let x = slots[k];
+    if asks(x.kind) {
+        return Span {
+            number: 0,
+            start: 128 * k,
+            count: x.count as usize,
+        };
+    }
+    Span {
+        number: 0,
+        start: 0,
+        count: 0,
+    }
+}
+
+// The same of a ticket, with a buffer of length n.
+fn span_of(b: Bridge, n: usize, ticket: u32) -> Span
+    ensures { λ r. ⌜ r ≡ span′ b n ticket ⌝ }
+{
+    let number = bytes_number(b, n, ticket);
+    if number != 0 {
+        return Span {
+            number: number,
+            start: 0,
+            count: 0,
+        };
+    }
+    let k = holder(b, ticket);
+    slot_span(b, k)
+}
+
+// Where a done read's bytes lie in the buffer, with the number of the bytes call; an empty span otherwise.
+pub fn span(b: Bridge, buffer: &[u8], ticket: u32) -> Span
+    ensures { λ r. ⌜ r ≡ span′ b (length (now (buffer .entry))) ticket ⌝ }
+{
+    span_of(b, buffer.len(), ticket)
+}
+
+// The part of the buffer that a span says.
+fn part<'a>(buffer: &'a [u8], s: Span) -> &'a [u8]
+    requires { ⌜ s .start + s .count ≤ length (now buffer) ⌝ }
+    ensures { λ r. ⌜ now r ≡ partOf (now (buffer .entry)) s ⌝ }
+{
+    let start = s.start;
+    let end = start + s.count;
+    &buffer[start..end]
+}
+
+// A done read's part of the buffer, with 11, 10 or status's number; an empty part otherwise.
+pub fn bytes<'a>(b: Bridge, buffer: &'a [u8], ticket: u32) -> Shown<'a>
+    ensures { λ r. ⌜ (r .number ≡ bytes′ b (now (buffer .entry)) ticket .number) × (now (r .part) ≡ bytes′ b (now (buffer .entry)) ticket .shown) ⌝ }
+{
+    let s = span_of(b, buffer.len(), ticket);
+    Shown {
+        number: s.number,
+        part: part(buffer, s),
+    }
+}

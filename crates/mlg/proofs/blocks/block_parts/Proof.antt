@@ -1,0 +1,55 @@
+use borrow.Author.Needs.{needs}
+use Rattle.mlg.proofs.blocks.block_parts.Statement.{statement}
+use Rattle.mlg.proofs.blocks.block_parts.Tie as tie
+use mathlib.Core.Path.{refl, sym}
+use native.Mathlib.Omega.{arith}
+use Rattle.mlg.proofs.Cases.{parts-data, parts-mark, mark-whole, least}
+
+shared-slice-read-own : tie.Need-shared-slice-read-own
+shared-slice-read-own c = omega (arith, least _ _ _ refl (c .before .before .pre .1))
+
+be16-requires : tie.Need-be16-requires
+be16-requires c κs = search needs
+
+shared-slice-read-kind : tie.Need-shared-slice-read-kind
+shared-slice-read-kind c = search needs
+
+add-t14 : tie.Need-add-t14
+add-t14 c = search needs
+
+returns : tie.Need-returns
+returns c = rw (c .before .before .be16 .ensures) (sym (parts-data _ _ _ _ (c .if1 .taken)))
+
+sub-text-len : tie.Need-sub-text-len
+sub-text-len c = search needs
+
+part-text-len-start : tie.Need-part-text-len-start
+part-text-len-start c = search needs
+
+part-text-len-end : tie.Need-part-text-len-end
+part-text-len-end c = omega (arith, mark-whole _ _ (c .before .before .before .before .before .pre .1) (c .if1 .left))
+
+text-len-requires : tie.Need-text-len-requires
+text-len-requires c κs = search needs
+
+add-t16 : tie.Need-add-t16
+add-t16 c = search needs
+
+returns-2 : tie.Need-returns-2
+returns-2 c = rw (c .before .before .before .before .be16 .ensures, c .text-len .ensures) (sym (parts-mark _ _ _ _ (c .before .before .if1 .left)))
+
+pub block-parts-spec : {M : Type 1} → statement M
+block-parts-spec =
+    tie.close
+    (tie.spec
+    shared-slice-read-own
+    be16-requires
+    shared-slice-read-kind
+    add-t14
+    returns
+    sub-text-len
+    part-text-len-start
+    part-text-len-end
+    text-len-requires
+    add-t16
+    returns-2)

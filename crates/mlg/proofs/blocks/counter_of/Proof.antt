@@ -1,0 +1,15 @@
+use borrow.Author.Needs.{needs}
+use Rattle.mlg.proofs.blocks.counter_of.Statement.{statement}
+use Rattle.mlg.proofs.blocks.counter_of.Tie as tie
+use mathlib.Core.Path.{refl}
+use Rattle.mlg.specs.Block.{counterOf}
+
+cast-result : tie.Need-cast-result
+cast-result c = search needs
+
+returns : tie.Need-returns
+unfolding counterOf
+returns c = refl
+
+pub counter-of-spec : {M : Type 1} → statement M
+counter-of-spec = tie.close (tie.spec cast-result returns)

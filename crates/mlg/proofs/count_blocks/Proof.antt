@@ -1,0 +1,43 @@
+use borrow.Author.Needs.{needs}
+use Rattle.mlg.proofs.count_blocks.Statement.{statement}
+use Rattle.mlg.proofs.count_blocks.Tie as tie
+use mathlib.Core.Path.{sym, _∙_}
+use Rattle.mlg.proofs.Logs.{log-placed}
+use Rattle.mlg.proofs.Tallies.{head-stop, head-go}
+
+read-header-requires : tie.Need-read-header-requires
+read-header-requires c κs = search needs
+
+enum-known-head : tie.Need-enum-known-head
+enum-known-head c = search needs
+
+enum-told : tie.Need-enum-told
+enum-told c = search needs
+
+refusal-requires : tie.Need-refusal-requires
+refusal-requires c κs = search needs
+
+returns : tie.Need-returns
+returns c = (rw (c .refusal .ensures) (head-stop (c .before .before .before .before .before .args .file .now) (c .before .before .before .read-header .result) (sym (c .before .before .before .read-header .ensures .0)) (c .before .before .match .keys2)), log-placed)
+
+cast-count-from : tie.Need-cast-count-from
+cast-count-from c = search needs
+
+count-from-requires : tie.Need-count-from-requires
+count-from-requires c κs = search needs
+
+returns-2 : tie.Need-returns-2
+returns-2 c = (c .count-from .ensures ∙ head-go (c .before .before .before .before .before .before .before .args .file .now) _ (sym (c .before .before .before .before .before .read-header .ensures .0) ∙ c .before .before .before .head .given .1), log-placed)
+
+pub count-blocks-spec : {M : Type 1} → statement M
+count-blocks-spec =
+    tie.close
+    (tie.spec
+    read-header-requires
+    enum-known-head
+    enum-told
+    refusal-requires
+    returns
+    cast-count-from
+    count-from-requires
+    returns-2)

@@ -1,0 +1,39 @@
+use borrow.Author.Needs.{needs}
+use Rattle.mlg.proofs.fields.field_number.Statement.{statement}
+use Rattle.mlg.proofs.fields.field_number.Tie as tie
+use native.Mathlib.Omega.{arith}
+use Rattle.mlg.specs.Fields.{fieldNumber}
+use Rattle.wire.proofs.Orders.{order}
+use Rattle.field.proofs.Layouts.{field-least}
+
+type-number-requires : tie.Need-type-number-requires
+type-number-requires c κs = omega (arith, field-least (c .before .before .before .args .version))
+
+returns : tie.Need-returns
+unfolding fieldNumber
+returns c = search order depth 9
+
+texts-number-requires : tie.Need-texts-number-requires
+texts-number-requires c κs = search needs
+
+returns-2 : tie.Need-returns-2
+unfolding fieldNumber
+returns-2 c = search order depth 9
+
+names-number-requires : tie.Need-names-number-requires
+names-number-requires c κs = omega (arith, field-least (c .before .before .before .before .before .before .before .args .version))
+
+returns-3 : tie.Need-returns-3
+unfolding fieldNumber
+returns-3 c = search order depth 9
+
+pub field-number-spec : {M : Type 1} → statement M
+field-number-spec =
+    tie.close
+    (tie.spec
+    type-number-requires
+    returns
+    texts-number-requires
+    returns-2
+    names-number-requires
+    returns-3)

@@ -1,0 +1,14 @@
+use borrow.Author.Needs.{needs}
+use Rattle.mlg.proofs.layout.header_len.Statement.{statement}
+use Rattle.mlg.proofs.layout.header_len.Tie as tie
+use mathlib.Core.Path.{ap}
+use Rattle.field.specs.declared.Layout.{Layout}
+
+layout-of-requires : tie.Need-layout-of-requires
+layout-of-requires c κs = search needs
+
+returns : tie.Need-returns
+returns c = ap (λ (l : Layout). l .header) (c .layout-of .ensures)
+
+pub header-len-spec : {M : Type 1} → statement M
+header-len-spec = tie.close (tie.spec layout-of-requires returns)

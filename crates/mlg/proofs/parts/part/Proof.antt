@@ -1,0 +1,13 @@
+use Rattle.mlg.proofs.parts.part.Statement.{statement}
+use Rattle.mlg.proofs.parts.part.Tie as tie
+use mathlib.Core.Path.{refl}
+use Rattle.mlg.proofs.Spans.{span-no, span-yes}
+
+returns : tie.Need-returns
+returns c = span-no _ _ _ _ refl (c .if1 .taken)
+
+returns-2 : tie.Need-returns-2
+returns-2 c = span-yes _ _ _ (c .if1 .left)
+
+pub part-spec : {M : Type 1} → statement M
+part-spec = tie.close (tie.spec returns returns-2)

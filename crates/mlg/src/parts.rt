@@ -1,0 +1,29 @@
+// Parts of a file as places and lengths.
+ghost use mathlib.Core.Path.{_≡_};
+ghost use Rattle.mlg.specs.Parts.{namesEnd, spanOf};
+use crate::Header;
+use crate::Span;
+
+pub(crate) fn part(number: u8, start: usize, len: usize) -> Span
+    ensures { λ r. ⌜ r ≡ spanOf number start len ⌝ }
+{
+    if number != 0 {
+        return Span {
+            number,
+            start: 0,
+            len: 0,
+        };
+    }
+    Span {
+        number: 0,
+        start,
+        len,
+    }
+}
+
+pub(crate) fn names_end(h: Header) -> usize
+    ensures { λ r. ⌜ r ≡ namesEnd h ⌝ }
+{
+    let info = h.info as usize;
+    if info == 0 { h.begin as usize } else { info }
+}

@@ -1,0 +1,106 @@
+// The blocks of a log, one after the other.
+ghost use mathlib.Core.Path.{_≡_};
+ghost use Prim.Native.Nat.{ℕ};
+ghost use Rattle.mlg.specs.Header.{headAnswer};
+ghost use Rattle.mlg.specs.Block.{blockAnswer};
+ghost use Rattle.mlg.specs.Log.{lengthOf, logOf, tallyOf};
+use crate::Block;
+use crate::Head;
+use crate::Tally;
+use crate::blocks::block_len;
+use crate::read_block;
+
+pub(crate) fn length_of(b: Block, size: u16) -> usize
+    ensures { λ r. ⌜ r ≡ lengthOf size b ⌝ }
+{
+    match b {
+        Block::Data {
+            counter: _,
+            time: _,
+            start: _,
+            right: _,
+        } => block_len(0, size),
+        Block::Mark {
+            counter: _,
+            time: _,
+            start: _,
+            len: _,
+            right: _,
+        } => block_len(1, size),
+        Block::End => 0,
+        Block::Refused {
+            number: _,
+            place: _,
+        } => 0,
+    }
+}
+
+pub(crate) fn stop_number(b: Block) -> u8
+    ensures { λ r. ⌜ ((l : ℕ) → r ≡ blockAnswer l b .number) ⌝ }
+{
+    match b {
+        Block::Data {
+            counter: _,
+            time: _,
+            start: _,
+            right: _,
+        } => 0,
+        Block::Mark {
+            counter: _,
+            time: _,
+            start: _,
+            len: _,
+            right: _,
+        } => 0,
+        Block::End => 0,
+        Block::Refused { number, place: _ } => number,
+    }
+}
+
+pub(crate) fn count_from(file: &[u8], size: u16, begin: usize) -> Tally
+    ensures { λ r. ⌜ r ≡ tallyOf size (logOf size (now (file .entry)) begin) ⌝ }
+{
+    let mut left = file.len() + 1;
+    let mut at = begin;
+    let mut n: u64 = 0;
+    while left != 0 {
+        let b = read_block(file, size, n, at);
+        let (Block::Data {
+            counter: _,
+            time: _,
+            start: _,
+            right: _,
+        }
+        | Block::Mark {
+            counter: _,
+            time: _,
+            start: _,
+            len: _,
+            right: _,
+        }) = b
+        else {
+            return Tally {
+                blocks: n,
+                ending: stop_number(b),
+                place: at,
+            };
+        };
+        at += length_of(b, size);
+        n += 1;
+        left -= 1;
+    }
+    Tally {
+        blocks: n,
+        ending: 0,
+        place: at,
+    }
+}
+
+pub(crate) fn refusal(head: Head) -> u8
+    ensures { λ r. ⌜ r ≡ headAnswer head .0 ⌝ }
+{
+    match head {
+        Head::Is(_) => 0,
+        Head::Refused(number) => number,
+    }
+}
