@@ -31,7 +31,7 @@ raw-signed t k b x e s h = rw (e, s, h)
 
 -- every other type's
 pub raw-plain : (t : ℕ) (b : List ℕ) → (t ≡ S08 → ⊥) → (t ≡ S16 → ⊥) → (t ≡ S32 → ⊥) → (t ≡ S64 → ⊥) → rawOf t b ≡ pos (beOf b)
-unfolding rawOf
+unfolding rawOf signedType
 raw-plain t b h i j k = rw (ne-eqb t 1 h, ne-eqb t 3 i, ne-eqb t 5 j, ne-eqb t 6 k)
 
 -- at most n bytes, read as the first n
@@ -72,7 +72,7 @@ twos-mag half x h = twos-by half x h (ltb x half) refl
 
 -- a raw value of a type of at most 16 bits
 pub raw-small : (t : ℕ) (b : List ℕ) → t < 4 → length b ≡ sizeOf t → Bytes b → mag (rawOf t b) < 65536
-unfolding rawOf sizeOf
+unfolding rawOf sizeOf signedType
 raw-small zero b h e g = omega (arith, rw e at (below b g))
 raw-small (suc zero) b h e g = omega (arith, twos-mag (2 ^ 7) (beOf b) (rw e at (below b g)))
 raw-small (suc (suc zero)) b h e g = omega (arith, rw e at (below b g))

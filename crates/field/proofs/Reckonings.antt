@@ -7,10 +7,10 @@ use Rattle.wire.specs.Sign.{twos}
 use Rattle.field.specs.Layout.{layoutOf}
 use Rattle.field.specs.Types.{sizeOf}
 use Rattle.field.specs.Field.{typeNumber}
-use Rattle.field.specs.Raw.{valueFieldNumber, valueNumber, rawOf, rawAt}
-use Rattle.field.specs.Shown.{rawFloat, scaledNumber, shownNumber, shownAt}
+use Rattle.field.specs.Raw.{valueFieldNumber, valueNumber, rawOf, rawAt, signedType}
+use Rattle.field.specs.Shown.{rawFloat, scaledNumber, shownNumber, shownAt, shows, finite, scalingIn}
 use Rattle.field.specs.Reckonings.{scalar, Reckonings}
 
 pub reckoned : Reckonings
-unfolding scalar rawAt shownAt shownNumber scaledNumber rawFloat rawOf valueNumber valueFieldNumber typeNumber answer layoutOf sizeOf twos _if_else_ _orElse_ add mul ofInt ofBits
+unfolding scalar rawAt shownAt shownNumber scaledNumber rawFloat rawOf valueNumber valueFieldNumber typeNumber answer layoutOf sizeOf twos _if_else_ _orElse_ add mul ofInt ofBits signedType shows finite scalingIn
 reckoned = record { s08 = refl; s16 = refl; shownS16 = refl; shownU08 = refl }

@@ -116,6 +116,7 @@ float-whole t b h = rw (ne-eqb t 7 h)
 
 -- the shown types but F32
 shown-by : (t : ℕ) → shows t ≡ true → (t ≡ F32 → ⊥) → (x : Bool) → ltb t 4 ≡ x → t < 4
+unfolding shows
 shown-by t h k true e = ltb-true t 4 e
 shown-by t h k false e =
     let l = ltb-false t 4 e in

@@ -25,7 +25,7 @@ unfoldable pub valueNumber : ℕ → List ℕ → List ℕ → ℕ
 valueNumber v d b = valueFieldNumber v d orElse 23 if not (eqb (length b) (fieldSize d)) else 0
 
 -- the signed types
-abbrev pub signedType : ℕ → Bool
+unfoldable pub signedType : ℕ → Bool
 signedType t = eqb t S08 || (eqb t S16 || (eqb t S32 || eqb t S64))
 
 -- the exact whole number of a type's raw bytes

@@ -19,17 +19,17 @@ use Rattle.field.specs.declared.ShownValue.{ShownValue}
 use Rattle.field.specs.declared.ShownValue.the-variants as S
 
 -- "U08, S08, U16, S16 and F32"
-abbrev pub shows : ℕ → Bool
+unfoldable pub shows : ℕ → Bool
 shows t = eqb t U08 || (eqb t S08 || (eqb t U16 || (eqb t S16 || eqb t F32)))
 
 -- neither an infinity nor a NaN
-abbrev pub finite : Float → Bool
+unfoldable pub finite : Float → Bool
 finite nan = false
 finite (inf s) = false
 finite (fin s m e) = true
 
 -- the scale and the transform in a field's bytes
-abbrev pub scalingIn : List ℕ → Scaling
+unfoldable pub scalingIn : List ℕ → Scaling
 scalingIn d = record { scale = ofBits binary32 (scaleBits d); transform = ofBits binary32 (transformBits d) }
 
 -- a raw value as an f32: what an F32's bits are, and another type's whole number
