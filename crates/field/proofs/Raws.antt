@@ -1,5 +1,5 @@
 -- Laws of raw values.
-use Prim.Native.Nat.{ℕ, zero, suc, _+_, _*_, _^_, _≤_, _<_}
+use Prim.Native.Nat.{ℕ, zero, suc, _*_, _^_, _≤_, _<_}
 use mathlib.Core.Path.{_≡_, refl, ap}
 use mathlib.Core.Bool.{Bool, true, false}
 use mathlib.Core.List.{List, [], _∷_}
@@ -11,9 +11,9 @@ use lib.Seq.{take-all}
 use lib.IntN.{ℤ, pos, negsuc}
 use lib.Signed.{mag}
 use lib.Ieee.{binary32, inFloat}
-use Rattle.wire.specs.BigEndian.{beFrom, beOf}
+use Rattle.wire.specs.BigEndian.{beOf}
 use Rattle.wire.specs.Sign.{signedOf, twos}
-use Rattle.wire.proofs.Numbers.{Bytes, bytes-tail, more-bytes}
+use Rattle.wire.proofs.Numbers.{Bytes, be-below}
 use Rattle.wire.proofs.Signs.{twos-low, twos-high}
 use Rattle.wire.proofs.Orders.{if-zero, else-zero}
 use Rattle.field.specs.Types.{sizeOf, S08, S16, S32, S64}
@@ -53,16 +53,6 @@ pub raw-means : (v : ℕ) (d b : List ℕ) (r : RawValue) → r ≡ rawAt v d b 
 unfolding rawAt rawAnswer
 raw-means v d b r = means R.Is R.Refused (pos 0) rawAnswer (λ z. refl) (λ n. refl) r _ _
 
--- bytes after i bytes keep a number below 2 to the bits that they all have
-from-below : (i a : ℕ) (b : List ℕ) → a < 2 ^ (8 * i) → Bytes b → beFrom a b < 2 ^ (8 * (i + length b))
-from-below i a [] h g = let e : i + 0 ≡ i = omega arith in rw e h
-from-below i a (x ∷ b) h g =
-    let e : i + length (x ∷ b) ≡ i + 1 + length b = omega arith in
-    rw e (from-below (i + 1) (a * 256 + x) b (more-bytes a x i h (g 0)) (bytes-tail x b g))
-
-below : (b : List ℕ) → Bytes b → beOf b < 2 ^ (8 * length b)
-below b g = let e : 0 + length b ≡ length b = omega arith in rw e at (from-below 0 0 b (omega arith) g)
-
 twos-by : (half x : ℕ) → x < 2 * half → (t : Bool) → ltb x half ≡ t → mag (twos half x) < 2 * half
 twos-by half x h true k = rw (twos-low half x (ltb-true x half k)) h
 twos-by half x h false k = rw (twos-high half x (ltb-false x half k) h) (omega (arith, ltb-false x half k))
@@ -73,10 +63,10 @@ twos-mag half x h = twos-by half x h (ltb x half) refl
 -- a raw value of a type of at most 16 bits
 pub raw-small : (t : ℕ) (b : List ℕ) → t < 4 → length b ≡ sizeOf t → Bytes b → mag (rawOf t b) < 65536
 unfolding rawOf sizeOf signedType
-raw-small zero b h e g = omega (arith, rw e at (below b g))
-raw-small (suc zero) b h e g = omega (arith, twos-mag (2 ^ 7) (beOf b) (rw e at (below b g)))
-raw-small (suc (suc zero)) b h e g = omega (arith, rw e at (below b g))
-raw-small (suc (suc (suc zero))) b h e g = omega (arith, twos-mag (2 ^ 15) (beOf b) (rw e at (below b g)))
+raw-small zero b h e g = omega (arith, rw e at (be-below b g))
+raw-small (suc zero) b h e g = omega (arith, twos-mag (2 ^ 7) (beOf b) (rw e at (be-below b g)))
+raw-small (suc (suc zero)) b h e g = omega (arith, rw e at (be-below b g))
+raw-small (suc (suc (suc zero))) b h e g = omega (arith, twos-mag (2 ^ 15) (beOf b) (rw e at (be-below b g)))
 raw-small (suc (suc (suc (suc t)))) b h e g = absurd (omega arith)
 
 -- and so it is an f32 exactly

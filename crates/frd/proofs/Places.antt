@@ -9,12 +9,13 @@ use lib.ListN.{length, drop, length-drop}
 use lib.Seq.{drop-drop}
 use Rattle.frd.specs.Counter.{counterOf}
 use Rattle.frd.specs.Header.{numbersOf}
-use Rattle.frd.specs.Blocks.{blockOf, blockAt, blockAnswer, lengthOf}
+use Rattle.frd.specs.Blocks.{judged, blockOf, blockAt, blockAnswer, lengthOf}
 use Rattle.frd.specs.Log.{Placed, Log, ended, more, walk, fileLog}
 use Rattle.frd.specs.RoundTrip.{placeAfter, InPlace, LogPlaces}
 use Rattle.frd.specs.declared.Block.{Block}
-use Rattle.frd.proofs.Cases.{at-within}
-use Rattle.frd.proofs.Walks.{block-fits, walk-on, walk-stop, either}
+use Rattle.frd.specs.declared.Block.the-variants.{End, Refused}
+use Rattle.frd.proofs.Cases.{at-within, View, at-end, of-data, of-time, of-refusal, view}
+use Rattle.frd.proofs.Walks.{goes, block-fits, walk-on, walk-stop, either}
 use Rattle.frd.proofs.Heads.{known, head-is, log-is}
 use Rattle.frd.proofs.Logs.{log-whole}
 
@@ -23,16 +24,16 @@ module _ (l : ℕ) (f : List ℕ) where
   record From (n at : ℕ) (g : Log) : Type 0 where
     each : (before : List Placed) (p : Placed) (after : List Placed) → g .blocks ≡ before ++ (p ∷ after)
         → (p .place ≡ placeAfter l at before) × (blockAt l (n + length before) f (p .place) ≡ p .block)
-    last : (g .place ≡ placeAfter l at (g .blocks)) × (blockAnswer (blockAt l (n + length (g .blocks)) f (g .place)) .number ≡ g .ending)
+    last : (g .place ≡ placeAfter l at (g .blocks)) × (blockAt l (n + length (g .blocks)) f (g .place) ≡ judged Refused (g .ending) (g .place) End)
 
   module _ (n at : ℕ) (b : Block) (here : blockAt l n f at ≡ b) where
     -- n blocks and none
     same : blockAt l (n + 0) f at ≡ b
     same = let z : n + 0 ≡ n = omega arith in rw z here
 
-    from-end : From n at (ended (blockAnswer b .number) at)
+    from-end : judged Refused (blockAnswer b .number) at End ≡ b → From n at (ended (blockAnswer b .number) at)
     unfolding placeAfter
-    from-end = record { each = each; last = (refl, ap (λ (x : Block). blockAnswer x .number) same) }
+    from-end stop = record { each = each; last = (refl, same ∙ sym stop) }
       where
         each : (before : List Placed) (p : Placed) (after : List Placed) → [] ≡ before ++ (p ∷ after)
             → (p .place ≡ placeAfter l at before) × (blockAt l (n + length before) f (p .place) ≡ p .block)
@@ -58,6 +59,15 @@ module _ (l : ℕ) (f : List ℕ) where
             let z = r .each qs p after w in
             (z .0 ∙ ap (λ (x : Placed). placeAfter l (at + lengthOf l (x .block)) qs) u, rw (one-more (length qs)) at (z .1))
 
+  -- what ends a log is the end or a refusal at its place
+  stops : {c at : ℕ} {t : List ℕ} → View l c at t → (goes (blockOf l c at t) → ⊥) → judged Refused (blockAnswer (blockOf l c at t) .number) at End ≡ blockOf l c at t
+  unfolding judged blockAnswer
+  stops (at-end h e) g = rw e
+  stops (of-data k h e) g = absurd (g (subst goes (sym e) tt))
+  stops (of-time k h e) g = absurd (g (subst goes (sym e) tt))
+  stops (of-refusal zero h e) g = absurd (h refl)
+  stops (of-refusal (suc m) h e) g = rw e
+
   from-walk : (k n at : ℕ) (t : List ℕ) → drop at f ≡ t → at ≤ length f → length t < k → From n at (walk k l n at t)
   from-walk zero n at t d h i = absurd (omega arith)
   from-walk (suc k) n at t d h i =
@@ -71,7 +81,7 @@ module _ (l : ℕ) (f : List ℕ) where
       subst (From n at) (sym (walk-on k l n at t b refl g))
       (from-more n at b q _
       (from-walk k (n + 1) (at + lengthOf l b) (drop (lengthOf l b) t) e (omega (arith, ap length d)) (omega (arith, length-drop (lengthOf l b) t)))))
-      (λ g. subst (From n at) (sym (walk-stop k l n at t b refl g)) (from-end n at b q))
+      (λ g. subst (From n at) (sym (walk-stop k l n at t b refl g)) (from-end n at b q (stops (view l (counterOf n) at t) g)))
       (either b)
 
   -- after no blocks

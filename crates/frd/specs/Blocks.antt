@@ -61,7 +61,7 @@ blockNumber l f at =
 unfoldable pub blockAt : ℕ → ℕ → List ℕ → ℕ → Block
 blockAt l n f at = judged Refused (blockNumber l f at) at (foundOf (counterOf n) at (drop at f))
 
--- the paper's number and values of each case
+-- the paper's number and values of each case; `kind` is the block's type, and 0 where there is no block
 pub record BlockAnswer : Type 0 where
   pub number : ℕ
   pub kind : ℕ

@@ -6,9 +6,9 @@ use mathlib.Core.List.{List, [], _∷_, _++_}
 use lib.ListN.{length, getD, take, drop}
 use Rattle.frd.specs.Counter.{counterOf}
 use Rattle.frd.specs.Header.{headLen, signatureLen, version, numbersOf, signatureIn, headNumber, headerOf}
-use Rattle.frd.specs.Blocks.{blockLen, kindIn, recordPlace, blockOf, blockAt, blockAnswer, lengthOf}
+use Rattle.frd.specs.Blocks.{blockLen, kindIn, recordPlace, judged, blockOf, blockAt, lengthOf}
 use Rattle.frd.specs.Log.{Placed, Log, fileLog}
-use Rattle.frd.specs.Writers.{headerBytes, dataBytes, timeBytes}
+use Rattle.frd.specs.Writers.{headerBytes, headerNumber, dataBytes, dataNumber, timeBytes, roomNumber}
 use Rattle.frd.specs.declared.Header.{Header}
 use Rattle.frd.specs.declared.Head.the-variants.{Is}
 use Rattle.frd.specs.declared.Block.{Block}
@@ -18,25 +18,30 @@ use Rattle.frd.specs.declared.Block.the-variants.{Data, Time, End, Refus
 abbrev pub headerFor : ℕ → ℕ → Header
 headerFor time l = record { version = version; time = time; begin = headLen; size = l }
 
--- a header, whatever bytes follow
+-- a header: it is written where it has room, and read back whatever bytes follow
 unfoldable pub HeaderBack : ℕ → List ℕ → ℕ → Type 0
 HeaderBack time signature l =
-    length signature ≡ signatureLen → (rest : List ℕ)
+    length signature ≡ signatureLen
+    → ((room : ℕ) → length (headerBytes time signature l) ≤ room → headerNumber time signature l room ≡ 0)
+    × ((rest : List ℕ)
     → (headerOf (headerBytes time signature l ++ rest) ≡ Is (headerFor time l))
-    × (signatureIn (headerBytes time signature l ++ rest) ≡ signature)
+    × (signatureIn (headerBytes time signature l ++ rest) ≡ signature))
 
--- a data block after n blocks, whatever bytes stand before and follow: its counter is right, and its bytes are where it says
+-- a data block after n blocks, likewise, whatever bytes stand before it and follow: its counter is right, and its bytes are where it says
 unfoldable pub DataBack : ℕ → ℕ → List ℕ → Type 0
 DataBack l n rec =
-    length rec ≡ l → (before rest : List ℕ)
+    length rec ≡ l
+    → ((room : ℕ) → length (dataBytes (counterOf n) rec) ≤ room → dataNumber l (counterOf n) rec room ≡ 0)
+    × ((before rest : List ℕ)
     → (blockAt l n (before ++ (dataBytes (counterOf n) rec ++ rest)) (length before) ≡ Data (counterOf n) (recordPlace (length before)) true)
-    × (take l (drop (recordPlace (length before)) (before ++ (dataBytes (counterOf n) rec ++ rest))) ≡ rec)
+    × (take l (drop (recordPlace (length before)) (before ++ (dataBytes (counterOf n) rec ++ rest))) ≡ rec))
 
 -- a time block
 unfoldable pub TimeBack : ℕ → ℕ → Type 0
 TimeBack n time =
-    (l : ℕ) (before rest : List ℕ)
-    → blockAt l n (before ++ (timeBytes (counterOf n) time ++ rest)) (length before) ≡ Time (counterOf n) time true
+    ((room : ℕ) → length (timeBytes (counterOf n) time) ≤ room → roomNumber (timeBytes (counterOf n) time) room ≡ 0)
+    × ((l : ℕ) (before rest : List ℕ)
+    → blockAt l n (before ++ (timeBytes (counterOf n) time ++ rest)) (length before) ≡ Time (counterOf n) time true)
 
 -- a whole block does not depend on what follows it
 unfoldable pub BlockAlone : Type 0
@@ -107,12 +112,12 @@ unfoldable pub placeAfter : ℕ → ℕ → List Placed → ℕ
 placeAfter l at [] = at
 placeAfter l at (p ∷ ps) = placeAfter l (at + lengthOf l (p .block)) ps
 
--- a log of the file f from a place on: each block begins where those before it end, and is what stands there after that many blocks; and what
--- stands after the last of them ends the log
+-- a log of the file f from a place on: each block begins where those before it end, and is what stands there after that many blocks; after the
+-- last of them stands the end, or what the number of the ending refuses
 pub record InPlace (l begin : ℕ) (f : List ℕ) (g : Log) : Type 0 where
   pub each : (before : List Placed) (p : Placed) (after : List Placed) → g .blocks ≡ before ++ (p ∷ after)
       → (p .place ≡ placeAfter l begin before) × (blockAt l (length before) f (p .place) ≡ p .block)
-  pub last : (g .place ≡ placeAfter l begin (g .blocks)) × (blockAnswer (blockAt l (length (g .blocks)) f (g .place)) .number ≡ g .ending)
+  pub last : (g .place ≡ placeAfter l begin (g .blocks)) × (blockAt l (length (g .blocks)) f (g .place) ≡ judged Refused (g .ending) (g .place) End)
 
 -- so it is in a file whose header is not refused, from data begin on
 unfoldable pub LogPlaces : List ℕ → Type 0
@@ -124,8 +129,10 @@ pub record InLayout (f : List ℕ) : Type 0 where
   pub head : headNumber f ≡ 0
   pub blocks : fileLog f .ending ≡ 0
 
--- with right counters, rewritten from what was read, it gives the same bytes
+-- with right counters, what was read of it is lawful to write, and written gives the same bytes
 unfoldable pub LogSame : Type 0
 LogSame =
     (f : List ℕ) → InLayout f → allRight (fileLog f .blocks) ≡ true
-    → fileBytes (numbersOf f .time) (signatureIn f) (numbersOf f .size) (entriesIn (numbersOf f .size) f (fileLog f .blocks)) ≡ f
+    → (length (signatureIn f) ≡ signatureLen)
+    × Lawful (numbersOf f .size) (entriesIn (numbersOf f .size) f (fileLog f .blocks))
+    × (fileBytes (numbersOf f .time) (signatureIn f) (numbersOf f .size) (entriesIn (numbersOf f .size) f (fileLog f .blocks)) ≡ f)
