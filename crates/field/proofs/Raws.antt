@@ -1,5 +1,5 @@
 -- Laws of raw values.
-use Prim.Native.Nat.{ℕ, zero, suc, _+_, _*_, _^_, _≤_, _<_}
+use Prim.Native.Nat.{ℕ, zero, suc, _*_, _^_, _≤_, _<_}
 use mathlib.Core.Path.{_≡_, refl, ap}
 use mathlib.Core.Bool.{Bool, true, false}
 use mathlib.Core.List.{List, [], _∷_}
@@ -11,14 +11,15 @@ use lib.Seq.{take-all}
 use lib.IntN.{ℤ, pos, negsuc}
 use lib.Signed.{mag}
 use lib.Ieee.{binary32, inFloat}
-use Rattle.wire.specs.BigEndian.{beFrom, beOf}
+use Rattle.wire.specs.BigEndian.{beOf}
 use Rattle.wire.specs.Sign.{signedOf, twos}
-use Rattle.wire.proofs.Numbers.{Bytes, bytes-tail, more-bytes}
+use Rattle.wire.proofs.Numbers.{Bytes, be-below}
 use Rattle.wire.proofs.Signs.{twos-low, twos-high}
 use Rattle.wire.proofs.Orders.{if-zero, else-zero}
 use Rattle.field.specs.Types.{sizeOf, S08, S16, S32, S64}
-use Rattle.field.specs.Field.{fieldSize}
-use Rattle.field.specs.Raw.{valueNumber, rawOf, rawAt, rawResult, rawAnswer, signedType}
+use Rattle.field.specs.Field.{typeOf, fieldSize}
+use Rattle.field.specs.Raw.{valueNumber, rawOf, rawAt, rawAnswer, signedType}
+use Rattle.wire.specs.Answer.{result}
 use Rattle.wire.proofs.Answers.{means}
 use Rattle.field.specs.declared.RawValue.{RawValue}
 use Rattle.field.specs.declared.RawValue.the-variants as R
@@ -30,7 +31,7 @@ raw-signed t k b x e s h = rw (e, s, h)
 
 -- every other type's
 pub raw-plain : (t : ℕ) (b : List ℕ) → (t ≡ S08 → ⊥) → (t ≡ S16 → ⊥) → (t ≡ S32 → ⊥) → (t ≡ S64 → ⊥) → rawOf t b ≡ pos (beOf b)
-unfolding rawOf
+unfolding rawOf signedType
 raw-plain t b h i j k = rw (ne-eqb t 1 h, ne-eqb t 3 i, ne-eqb t 5 j, ne-eqb t 6 k)
 
 -- at most n bytes, read as the first n
@@ -48,19 +49,9 @@ pub sized : (v : ℕ) (d b : List ℕ) → valueNumber v d b ≡ 0 → length b 
 unfolding valueNumber
 sized v d b e = eqb-true _ _ (not-false _ (if-zero 22 _ _ (else-zero _ _ e .1) .0))
 
-pub raw-means : (v : ℕ) (d b : List ℕ) (r : RawValue) → r ≡ rawAt v d b → (r ≡ rawAt v d b) × (rawAnswer r ≡ rawResult v d b)
-unfolding rawAt rawAnswer rawResult
+pub raw-means : (v : ℕ) (d b : List ℕ) (r : RawValue) → r ≡ rawAt v d b → (r ≡ rawAt v d b) × (rawAnswer r ≡ result (pos 0) (valueNumber v d b) (rawOf (typeOf d) b))
+unfolding rawAt rawAnswer
 raw-means v d b r = means R.Is R.Refused (pos 0) rawAnswer (λ z. refl) (λ n. refl) r _ _
-
--- bytes after i bytes keep a number below 2 to the bits that they all have
-from-below : (i a : ℕ) (b : List ℕ) → a < 2 ^ (8 * i) → Bytes b → beFrom a b < 2 ^ (8 * (i + length b))
-from-below i a [] h g = let e : i + 0 ≡ i = omega arith in rw e h
-from-below i a (x ∷ b) h g =
-    let e : i + length (x ∷ b) ≡ i + 1 + length b = omega arith in
-    rw e (from-below (i + 1) (a * 256 + x) b (more-bytes a x i h (g 0)) (bytes-tail x b g))
-
-below : (b : List ℕ) → Bytes b → beOf b < 2 ^ (8 * length b)
-below b g = let e : 0 + length b ≡ length b = omega arith in rw e at (from-below 0 0 b (omega arith) g)
 
 twos-by : (half x : ℕ) → x < 2 * half → (t : Bool) → ltb x half ≡ t → mag (twos half x) < 2 * half
 twos-by half x h true k = rw (twos-low half x (ltb-true x half k)) h
@@ -71,11 +62,11 @@ twos-mag half x h = twos-by half x h (ltb x half) refl
 
 -- a raw value of a type of at most 16 bits
 pub raw-small : (t : ℕ) (b : List ℕ) → t < 4 → length b ≡ sizeOf t → Bytes b → mag (rawOf t b) < 65536
-unfolding rawOf sizeOf
-raw-small zero b h e g = omega (arith, rw e at (below b g))
-raw-small (suc zero) b h e g = omega (arith, twos-mag (2 ^ 7) (beOf b) (rw e at (below b g)))
-raw-small (suc (suc zero)) b h e g = omega (arith, rw e at (below b g))
-raw-small (suc (suc (suc zero))) b h e g = omega (arith, twos-mag (2 ^ 15) (beOf b) (rw e at (below b g)))
+unfolding rawOf sizeOf signedType
+raw-small zero b h e g = omega (arith, rw e at (be-below b g))
+raw-small (suc zero) b h e g = omega (arith, twos-mag (2 ^ 7) (beOf b) (rw e at (be-below b g)))
+raw-small (suc (suc zero)) b h e g = omega (arith, rw e at (be-below b g))
+raw-small (suc (suc (suc zero))) b h e g = omega (arith, twos-mag (2 ^ 15) (beOf b) (rw e at (be-below b g)))
 raw-small (suc (suc (suc (suc t)))) b h e g = absurd (omega arith)
 
 -- and so it is an f32 exactly

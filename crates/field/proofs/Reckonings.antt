@@ -1,32 +1,16 @@
 -- 01's worked values, of the definitions, for whole fields.
-use Prim.Native.Nat.{ℕ}
-use mathlib.Core.Path.{_≡_, refl}
-use mathlib.Core.List.{List, [], _∷_, _++_}
-use lib.IntN.{pos, negsuc}
-use lib.ListN.{replicate}
-use lib.Ieee.{binary32, ofInt, ofBits, add, mul}
-use Rattle.wire.specs.BigEndian.{bytesOf}
+use mathlib.Core.Path.{refl}
+use lib.Ieee.{ofInt, ofBits, add, mul}
+use Rattle.wire.specs.Answer.{answer}
 use Rattle.wire.specs.Order.{_if_else_, _orElse_}
 use Rattle.wire.specs.Sign.{twos}
 use Rattle.field.specs.Layout.{layoutOf}
-use Rattle.field.specs.Types.{U08, S08, S16, sizeOf}
+use Rattle.field.specs.Types.{sizeOf}
 use Rattle.field.specs.Field.{typeNumber}
-use Rattle.wire.specs.Answer.{answer}
-use Rattle.field.specs.Raw.{valueFieldNumber, valueNumber, rawOf, rawAt}
-use Rattle.field.specs.Shown.{rawFloat, scaledNumber, shownNumber, shownAt}
-use Rattle.field.specs.declared.RawValue.the-variants as R
-use Rattle.field.specs.declared.ShownValue.the-variants as S
+use Rattle.field.specs.Raw.{valueFieldNumber, valueNumber, rawOf, rawAt, signedType}
+use Rattle.field.specs.Shown.{rawFloat, scaledNumber, shownNumber, shownAt, shows, finite, scalingIn}
+use Rattle.field.specs.Reckonings.{scalar, Reckonings}
 
--- a scalar field, by its type and the patterns of its scale and transform; all else 0
-abbrev pub scalar : ℕ → ℕ → ℕ → List ℕ
-scalar t s m = t ∷ replicate 45 0 ++ bytesOf 4 s ++ bytesOf 4 m ++ replicate 35 0
-
--- "0x80 in an S08 field reads -128. S16 FF38 reads -200; scale 0.5, transform 0 shows -100. U08 10, transform 5, scale 2 shows 30."
--- The patterns are those of 0.5, 2 and 5.
-pub reckoned :
-    (rawAt 2 (scalar S08 0 0) (0x80 ∷ []) ≡ R.Is (negsuc 127))
-    × (rawAt 2 (scalar S16 0 0) (0xFF ∷ 0x38 ∷ []) ≡ R.Is (negsuc 199))
-    × (shownAt 2 (scalar S16 0x3F000000 0) (0xFF ∷ 0x38 ∷ []) ≡ S.Is (ofInt binary32 (negsuc 99)))
-    × (shownAt 2 (scalar U08 0x40000000 0x40A00000) (10 ∷ []) ≡ S.Is (ofInt binary32 (pos 30)))
-unfolding rawAt shownAt shownNumber scaledNumber rawFloat rawOf valueNumber valueFieldNumber typeNumber answer layoutOf sizeOf twos _if_else_ _orElse_ add mul ofInt ofBits
-reckoned = (refl, refl, refl, refl)
+pub reckoned : Reckonings
+unfolding scalar rawAt shownAt shownNumber scaledNumber rawFloat rawOf valueNumber valueFieldNumber typeNumber answer layoutOf sizeOf twos _if_else_ _orElse_ add mul ofInt ofBits signedType shows finite scalingIn
+reckoned = record { s08 = refl; s16 = refl; shownS16 = refl; shownU08 = refl }

@@ -13,8 +13,8 @@ use Rattle.wire.specs.BigEndian.{beOf}
 use Rattle.field.specs.Types.{F32}
 use Rattle.field.specs.Field.{typeOf}
 use Rattle.field.specs.Raw.{valueNumber, rawOf}
-use Rattle.wire.specs.Answer.{answer}
-use Rattle.field.specs.Shown.{shows, finite, scalingIn, partsNumber, scalingNumber, rawFloat, shownNumber, shifted, scaled, scaledNumber, applied, appliedResult, shownAt, shownResult, shownAnswer, scalingAt, scalingResult, scalingAnswer, zeroFloat, zeroScaling}
+use Rattle.wire.specs.Answer.{answer, result}
+use Rattle.field.specs.Shown.{shows, finite, scalingIn, partsNumber, scalingNumber, rawFloat, shownNumber, shifted, scaled, scaledNumber, applied, shownOf, shownAt, shownAnswer, scalingAt, scalingAnswer, zeroFloat, zeroScaling}
 use Rattle.wire.proofs.Answers.{means}
 use Rattle.field.proofs.Finite.{sum-finite, product-finite}
 use Rattle.field.specs.declared.Scaling.{Scaling}
@@ -61,16 +61,16 @@ module _ (s : Scaling) (x : Float) where
       (if-no 30 _ _ _ (not-no _ (product-finite (shifted s x) (s .scale) k))
       (if-no 30 _ _ _ (not-no _ k) refl))))
 
-  pub applied-means : (r : ShownValue) → r ≡ applied s x → (r ≡ applied s x) × (shownAnswer r ≡ appliedResult s x)
-  unfolding applied shownAnswer appliedResult
+  pub applied-means : (r : ShownValue) → r ≡ applied s x → (r ≡ applied s x) × (shownAnswer r ≡ result zeroFloat (scaledNumber s x) (scaled s x))
+  unfolding applied shownAnswer
   applied-means r = means S.Is S.Refused zeroFloat shownAnswer (λ y. refl) (λ n. refl) r _ _
 
-pub shown-means : (v : ℕ) (d b : List ℕ) (r : ShownValue) → r ≡ shownAt v d b → (r ≡ shownAt v d b) × (shownAnswer r ≡ shownResult v d b)
-unfolding shownAt shownAnswer shownResult
+pub shown-means : (v : ℕ) (d b : List ℕ) (r : ShownValue) → r ≡ shownAt v d b → (r ≡ shownAt v d b) × (shownAnswer r ≡ result zeroFloat (shownNumber v d b) (shownOf d b))
+unfolding shownAt shownAnswer
 shown-means v d b r = means S.Is S.Refused zeroFloat shownAnswer (λ y. refl) (λ n. refl) r _ _
 
-pub scaling-means : (v : ℕ) (d : List ℕ) (r : FieldScaling) → r ≡ scalingAt v d → (r ≡ scalingAt v d) × (scalingAnswer r ≡ scalingResult v d)
-unfolding scalingAt scalingAnswer scalingResult
+pub scaling-means : (v : ℕ) (d : List ℕ) (r : FieldScaling) → r ≡ scalingAt v d → (r ≡ scalingAt v d) × (scalingAnswer r ≡ result zeroScaling (scalingNumber v d) (scalingIn d))
+unfolding scalingAt scalingAnswer
 scaling-means v d r = means F.Is F.Refused zeroScaling scalingAnswer (λ s. refl) (λ n. refl) r _ _
 
 -- what holds where no number refuses
@@ -116,6 +116,7 @@ float-whole t b h = rw (ne-eqb t 7 h)
 
 -- the shown types but F32
 shown-by : (t : ℕ) → shows t ≡ true → (t ≡ F32 → ⊥) → (x : Bool) → ltb t 4 ≡ x → t < 4
+unfolding shows
 shown-by t h k true e = ltb-true t 4 e
 shown-by t h k false e =
     let l = ltb-false t 4 e in

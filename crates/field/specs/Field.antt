@@ -1,4 +1,5 @@
--- A field's bytes d, by place. Bytes that are not there count as 0.
+-- A field's bytes d, by place. A byte that is not there counts as 0; of a number cut short, the bytes that are there count. No value call
+-- gets that far: another length than the version's is 23.
 use Prim.Native.Nat.{ℕ, _*_}
 use mathlib.Core.List.{List}
 use lib.Dec.{eqb, ltb}
@@ -48,9 +49,9 @@ bitsOf d = getD d 51 0
 abbrev pub fieldSize : List ℕ → ℕ
 fieldSize d = sizeOf (typeOf d)
 
--- "24 for type, 24 for a bit field's bits over its width"
-unfoldable pub typeNumber : List ℕ → ℕ
-typeNumber d =
-    24 if eqb (fieldSize d) 0 else
-    0 if ltb (typeOf d) firstBitType else
-    24 if ltb (8 * fieldSize d) (bitsOf d) else 0
+-- "24 for type, 24 for a bit field's bits over its width", by a field's type and bits
+unfoldable pub typeNumber : ℕ → ℕ → ℕ
+typeNumber t bits =
+    24 if eqb (sizeOf t) 0 else
+    0 if ltb t firstBitType else
+    24 if ltb (8 * sizeOf t) bits else 0

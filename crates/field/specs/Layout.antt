@@ -8,7 +8,8 @@ use Rattle.field.specs.declared.Layout.{Layout}
 unfoldable pub served : ℕ → Bool
 served v = eqb v 2
 
--- the layout of a served version: bytes of the header, of the info start in it, and of a field
+-- bytes of the header, of the info start in it, and of a field. One layout stands for every version so far; who reads a file judges its
+-- version first (22)
 unfoldable pub layoutOf : ℕ → Layout
 layoutOf v = record { header = 24; info = 4; field = 89 }
 

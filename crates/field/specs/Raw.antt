@@ -11,21 +11,21 @@ use Rattle.wire.specs.BigEndian.{beOf}
 use Rattle.wire.specs.Sign.{signedOf}
 use Rattle.field.specs.Layout.{fieldLen}
 use Rattle.field.specs.Types.{S08, S16, S32, S64, sizeOf}
-use Rattle.field.specs.Field.{typeOf, fieldSize, typeNumber}
-use Rattle.wire.specs.Answer.{answer, result}
+use Rattle.field.specs.Field.{typeOf, bitsOf, fieldSize, typeNumber}
+use Rattle.wire.specs.Answer.{answer}
 use Rattle.field.specs.declared.RawValue.{RawValue}
 use Rattle.field.specs.declared.RawValue.the-variants as R
 
 -- "23 (not 89), 24"
 unfoldable pub valueFieldNumber : ℕ → List ℕ → ℕ
-valueFieldNumber v d = 23 if not (eqb (length d) (fieldLen v)) else typeNumber d
+valueFieldNumber v d = 23 if not (eqb (length d) (fieldLen v)) else typeNumber (typeOf d) (bitsOf d)
 
 -- "23 (not 89), 24, 23 (raw length)"
 unfoldable pub valueNumber : ℕ → List ℕ → List ℕ → ℕ
 valueNumber v d b = valueFieldNumber v d orElse 23 if not (eqb (length b) (fieldSize d)) else 0
 
 -- the signed types
-abbrev pub signedType : ℕ → Bool
+unfoldable pub signedType : ℕ → Bool
 signedType t = eqb t S08 || (eqb t S16 || (eqb t S32 || eqb t S64))
 
 -- the exact whole number of a type's raw bytes
@@ -36,11 +36,7 @@ rawOf t b = cond (signedType t) (signedOf (8 * sizeOf t) (beOf b)) (pos (beOf b)
 unfoldable pub rawAt : ℕ → List ℕ → List ℕ → RawValue
 rawAt v d b = answer R.Is R.Refused (valueNumber v d b) (rawOf (typeOf d) b)
 
--- its number and its value, which is 0 in a refusal
-unfoldable pub rawResult : ℕ → List ℕ → List ℕ → ℕ × ℤ
-rawResult v d b = result (pos 0) (valueNumber v d b) (rawOf (typeOf d) b)
-
--- the number and the value of each case of the enum
+-- the paper's number and value of each case: in a refusal every other number is 0
 unfoldable pub rawAnswer : RawValue → ℕ × ℤ
 rawAnswer (R.Is z) = (0, z)
 rawAnswer (R.Refused n) = (n, pos 0)

@@ -10,7 +10,7 @@ use Rattle.wire.specs.Order.{_if_else_, _orElse_}
 use Rattle.wire.specs.BigEndian.{beOf}
 use Rattle.field.specs.Types.{U08, S08, U16, S16, F32}
 use Rattle.field.specs.Field.{typeOf, scaleBits, transformBits}
-use Rattle.wire.specs.Answer.{answer, result}
+use Rattle.wire.specs.Answer.{answer}
 use Rattle.field.specs.Raw.{valueFieldNumber, valueNumber, rawOf}
 use Rattle.field.specs.declared.Scaling.{Scaling}
 use Rattle.field.specs.declared.FieldScaling.{FieldScaling}
@@ -19,17 +19,17 @@ use Rattle.field.specs.declared.ShownValue.{ShownValue}
 use Rattle.field.specs.declared.ShownValue.the-variants as S
 
 -- "U08, S08, U16, S16 and F32"
-abbrev pub shows : ℕ → Bool
+unfoldable pub shows : ℕ → Bool
 shows t = eqb t U08 || (eqb t S08 || (eqb t U16 || (eqb t S16 || eqb t F32)))
 
 -- neither an infinity nor a NaN
-abbrev pub finite : Float → Bool
+unfoldable pub finite : Float → Bool
 finite nan = false
 finite (inf s) = false
 finite (fin s m e) = true
 
 -- the scale and the transform in a field's bytes
-abbrev pub scalingIn : List ℕ → Scaling
+unfoldable pub scalingIn : List ℕ → Scaling
 scalingIn d = record { scale = ofBits binary32 (scaleBits d); transform = ofBits binary32 (transformBits d) }
 
 -- a raw value as an f32: what an F32's bits are, and another type's whole number
@@ -57,14 +57,6 @@ scaledNumber s x =
 unfoldable pub applied : Scaling → Float → ShownValue
 applied s x = answer S.Is S.Refused (scaledNumber s x) (scaled s x)
 
--- 0 as an f32
-abbrev pub zeroFloat : Float
-zeroFloat = fin false 0 (pos 0)
-
--- its number and its value, which is 0 in a refusal
-unfoldable pub appliedResult : Scaling → Float → ℕ × Float
-appliedResult s x = result zeroFloat (scaledNumber s x) (scaled s x)
-
 -- "23 (not 89), 24, 23 (raw length), 30"
 unfoldable pub shownNumber : ℕ → List ℕ → List ℕ → ℕ
 shownNumber v d b =
@@ -73,12 +65,11 @@ shownNumber v d b =
     scaledNumber (scalingIn d) (rawFloat (typeOf d) b)
 
 -- a field's shown value
-unfoldable pub shownAt : ℕ → List ℕ → List ℕ → ShownValue
-shownAt v d b = answer S.Is S.Refused (shownNumber v d b) (scaled (scalingIn d) (rawFloat (typeOf d) b))
+abbrev pub shownOf : List ℕ → List ℕ → Float
+shownOf d b = scaled (scalingIn d) (rawFloat (typeOf d) b)
 
--- its number and its value, which is 0 in a refusal
-unfoldable pub shownResult : ℕ → List ℕ → List ℕ → ℕ × Float
-shownResult v d b = result zeroFloat (shownNumber v d b) (scaled (scalingIn d) (rawFloat (typeOf d) b))
+unfoldable pub shownAt : ℕ → List ℕ → List ℕ → ShownValue
+shownAt v d b = answer S.Is S.Refused (shownNumber v d b) (shownOf d b)
 
 -- 30 by the field alone: its type has no shown value, or its transform or scale is not finite
 unfoldable pub partsNumber : List ℕ → ℕ
@@ -95,15 +86,13 @@ scalingNumber v d = valueFieldNumber v d orElse partsNumber d
 unfoldable pub scalingAt : ℕ → List ℕ → FieldScaling
 scalingAt v d = answer F.Is F.Refused (scalingNumber v d) (scalingIn d)
 
--- 0 as scale and transform
+-- the paper's number and values of each case: in a refusal every other number is 0
+abbrev pub zeroFloat : Float
+zeroFloat = fin false 0 (pos 0)
+
 abbrev pub zeroScaling : Scaling
 zeroScaling = record { scale = zeroFloat; transform = zeroFloat }
 
--- its number and its values, which are 0 in a refusal
-unfoldable pub scalingResult : ℕ → List ℕ → ℕ × Scaling
-scalingResult v d = result zeroScaling (scalingNumber v d) (scalingIn d)
-
--- the number and the values of each case of the enums
 unfoldable pub shownAnswer : ShownValue → ℕ × Float
 shownAnswer (S.Is x) = (0, x)
 shownAnswer (S.Refused n) = (n, zeroFloat)

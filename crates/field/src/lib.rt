@@ -4,13 +4,16 @@ ghost use Prim.Native.Nat.{_≤_, _<_};
 ghost use lib.ListN.{length, getD};
 ghost use lib.Signed.{mag};
 ghost use lib.Ieee.{binary32, ofInt, ofBits};
+ghost use lib.IntN.{pos};
+ghost use Rattle.wire.specs.Answer.{result};
 ghost use Rattle.wire.specs.BigEndian.{beOf};
 ghost use Rattle.field.specs.Layout.{served, layoutOf};
 ghost use Rattle.field.specs.Types.{sizeOf};
 ghost use Rattle.field.specs.Field.{typeNumber, typeOf, fieldSize};
-ghost use Rattle.field.specs.Raw.{valueFieldNumber, valueNumber, rawOf, rawAt, rawResult, rawAnswer};
-ghost use Rattle.field.specs.Shown.{shows, finite, rawFloat, applied, appliedResult, shownAt, shownResult, shownAnswer};
-ghost use Rattle.field.specs.Shown.{scalingIn, partsNumber, scalingNumber, scalingAt, scalingResult, scalingAnswer};
+ghost use Rattle.field.specs.Raw.{valueFieldNumber, valueNumber, rawOf, rawAt, rawAnswer};
+ghost use Rattle.field.specs.Shown.{shows, finite, rawFloat, scaled, scaledNumber, applied, shownNumber, shownOf, shownAt, zeroFloat, shownAnswer};
+ghost use Rattle.field.specs.Shown.{scalingIn, partsNumber, scalingNumber, scalingAt, zeroScaling, scalingAnswer};
+ghost use Rattle.field.specs.Reckonings.{Reckonings};
 
 // Bytes of a header, of the info start in it, and of a field.
 pub struct Layout {
@@ -26,7 +29,7 @@ pub fn is_served(version: u16) -> bool
     version == 2
 }
 
-// The layout of a served version; who calls judges the version first.
+// The layout of a version: one for every version so far. Who calls judges the version first.
 pub fn layout_of(version: u16) -> Layout
     ensures { λ r. ⌜ r ≡ layoutOf version ⌝ }
 {
@@ -54,11 +57,10 @@ fn byte_at(s: &[u8], at: usize) -> u8
     if at < s.len() { s[at] } else { 0 }
 }
 
-// 24 for a field's type, 24 for a bit field's bits over its width, else 0; bytes that are not there count as 0.
-pub fn type_number(field: &[u8]) -> u8
-    ensures { λ r. ⌜ r ≡ typeNumber (now (field .entry)) ⌝ }
+// By a field's type and bits: 24 for the type, 24 for a bit field's bits over its width, else 0.
+pub fn type_number(kind: u8, bits: u8) -> u8
+    ensures { λ r. ⌜ r ≡ typeNumber kind bits ⌝ }
 {
-    let kind = byte_at(field, 0);
     let size = size_of(kind);
     if size == 0 {
         return 24;
@@ -66,7 +68,7 @@ pub fn type_number(field: &[u8]) -> u8
     if kind < 10 {
         return 0;
     }
-    if 8 * size < byte_at(field, 51) {
+    if 8 * size < bits {
         return 24;
     }
     0
@@ -86,7 +88,7 @@ fn field_number(version: u16, field: &[u8]) -> u8
     if field.len() != layout.field {
         return 23;
     }
-    type_number(field)
+    type_number(byte_at(field, 0), byte_at(field, 51))
 }
 
 // The same, then 23 for raw bytes of another length than the type's.
@@ -127,7 +129,7 @@ fn raw_of(kind: u8, raw: &[u8]) -> i64
 // A field's raw value, by the field's bytes and its raw bytes.
 pub fn raw_value(field: &[u8], raw: &[u8]) -> RawValue
     ensures { λ r. ⌜ (r ≡ rawAt 2 (now (field .entry)) (now (raw .entry)))
-        × (rawAnswer r ≡ rawResult 2 (now (field .entry)) (now (raw .entry))) ⌝ }
+        × (rawAnswer r ≡ result (pos 0) (valueNumber 2 (now (field .entry)) (now (raw .entry))) (rawOf (typeOf (now (field .entry))) (now (raw .entry)))) ⌝ }
 {
     let number = value_number(2, field, raw);
     if number != 0 {
@@ -221,7 +223,7 @@ fn scaling_number(version: u16, field: &[u8]) -> u8
 // A field's scale and transform, by its bytes.
 pub fn scaling_of(field: &[u8]) -> FieldScaling
     ensures { λ r. ⌜ (r ≡ scalingAt 2 (now (field .entry)))
-        × (scalingAnswer r ≡ scalingResult 2 (now (field .entry))) ⌝ }
+        × (scalingAnswer r ≡ result zeroScaling (scalingNumber 2 (now (field .entry))) (scalingIn (now (field .entry)))) ⌝ }
 {
     let number = scaling_number(2, field);
     if number != 0 {
@@ -233,7 +235,7 @@ pub fn scaling_of(field: &[u8]) -> FieldScaling
 impl Scaling {
     // The shown value of a raw value: transform added, then times scale.
     pub fn apply(self, raw: f32) -> ShownValue
-        ensures { λ r. ⌜ (r ≡ applied self raw) × (shownAnswer r ≡ appliedResult self raw) ⌝ }
+        ensures { λ r. ⌜ (r ≡ applied self raw) × (shownAnswer r ≡ result zeroFloat (scaledNumber self raw) (scaled self raw)) ⌝ }
     {
         let sum = raw + self.transform;
         if !is_finite(sum) {
@@ -291,7 +293,8 @@ fn shown_of(field: &[u8], raw: &[u8]) -> ShownValue
 // A field's shown value, by the field's bytes and its raw bytes.
 pub fn shown_value(field: &[u8], raw: &[u8]) -> ShownValue
     ensures { λ r. ⌜ (r ≡ shownAt 2 (now (field .entry)) (now (raw .entry)))
-        × (shownAnswer r ≡ shownResult 2 (now (field .entry)) (now (raw .entry))) ⌝ }
+        × (shownAnswer r ≡ result zeroFloat (shownNumber 2 (now (field .entry)) (now (raw .entry))) (shownOf (now (field .entry)) (now (raw .entry)))) ⌝ }
+    ensures reckoned { λ _. ⌜ Reckonings ⌝ }
 {
     let number = value_number(2, field, raw);
     if number != 0 {

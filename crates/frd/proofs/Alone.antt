@@ -51,4 +51,5 @@ module _ (l c at : ℕ) (t rest : List ℕ) (some : 0 < length t) (whole : block
       sym (unknown (t ++ rest) first-more (ap (blockLen l) kind-same ∙ n)) ∙ unknown t first n
 
 pub block-alone : BlockAlone
+unfolding BlockAlone
 block-alone l c at t rest some whole = by l c at t rest some whole (kind-of (kindIn t))

@@ -10,15 +10,17 @@ use lib.Seq.{take-at, drop-at, drop-append-add, drop-drop}
 use Rattle.wire.specs.BigEndian.{beOf, beAt, bytesOf}
 use Rattle.wire.proofs.Numbers.{be-back}
 use Rattle.wire.proofs.Orders.{if-no, not-no}
+use Rattle.wire.proofs.Answers.{stands}
 use Rattle.frd.specs.Counter.{counterOf}
 use Rattle.frd.specs.Header.{headLen, signatureLen, name, version, numbersOf, signatureIn, headNumber, headerOf}
 use Rattle.frd.specs.Blocks.{blockLen, kindIn, recordPlace, foundOf, blockOf, blockAt}
-use Rattle.frd.specs.Writers.{headerBytes, dataBytes, timeBytes}
+use Rattle.frd.specs.Writers.{headerBytes, headerNumber, dataBytes, dataNumber, timeBytes}
 use Rattle.frd.specs.RoundTrip.{headerFor, HeaderBack, DataBack, TimeBack}
-use Rattle.frd.specs.declared.Head.the-variants.{Is}
+use Rattle.frd.specs.declared.Head.the-variants.{Is, Refused}
 use Rattle.frd.specs.declared.Block.{Block}
 use Rattle.frd.specs.declared.Block.the-variants.{Data, Time}
-use Rattle.frd.proofs.Cases.{head-stands, block-stands, rest-whole, data-len, time-len, found-data, found-time, at-within}
+use Rattle.frd.proofs.Puts.{room-left}
+use Rattle.frd.proofs.Cases.{block-stands, rest-whole, data-len, time-len, found-data, found-time, at-within}
 
 -- lengths
 pub data-length : (c : ℕ) (rec : List ℕ) → length (dataBytes c rec) ≡ length rec + 2
@@ -68,12 +70,28 @@ at-place l n before t b e =
     at-within l n (before ++ t) (length before) (omega (arith, length-append before t))
     ∙ ap (blockOf l (counterOf n) (length before)) (drop-at before t (length before) refl) ∙ e
 
+-- what is lawful is written where there is room
+data-written : (l c : ℕ) (rec : List ℕ) → length rec ≡ l → (room : ℕ) → length (dataBytes c rec) ≤ room → dataNumber l c rec room ≡ 0
+unfolding dataNumber
+data-written l c rec e room h = sym (if-no 23 _ _ 0 (not-no _ (eq-eqb _ _ e)) (room-left (dataBytes c rec) room h))
+
+header-written : (time : ℕ) (signature : List ℕ) (l : ℕ) → length signature ≡ signatureLen → (room : ℕ) → length (headerBytes time signature l) ≤ room → headerNumber time signature l room ≡ 0
+unfolding headerNumber
+header-written time signature l e room h = sym (if-no 23 _ _ 0 (not-no _ (eq-eqb _ _ e)) (room-left (headerBytes time signature l) room h))
+
 pub data-back : (l n : ℕ) (rec : List ℕ) → DataBack l n rec
-data-back l n rec e before rest =
-    (at-place l n before _ _ (data-back-at l (counterOf n) (length before) rec rest e), record-back l (counterOf n) before rec rest e)
+unfolding DataBack
+data-back l n rec e = (
+  data-written l (counterOf n) rec e,
+  λ before rest. (at-place l n before _ _ (data-back-at l (counterOf n) (length before) rec rest e), record-back l (counterOf n) before rec rest e),
+)
 
 pub time-back : (n time : ℕ) → time < 2 ^ 32 → TimeBack n time
-time-back n time h l before rest = at-place l n before _ _ (time-back-at l (counterOf n) (length before) time rest h)
+unfolding TimeBack
+time-back n time h = (
+  λ room k. sym (room-left (timeBytes (counterOf n) time) room k),
+  λ l before rest. at-place l n before _ _ (time-back-at l (counterOf n) (length before) time rest h),
+)
 
 -- a header's bytes and what follows them, part by part
 abbrev pub headerThen : ℕ → List ℕ → ℕ → List ℕ → List ℕ
@@ -113,7 +131,7 @@ module _ (time : ℕ) (signature : List ℕ) (l : ℕ) (small : time < 2 ^ 32) (
 
   head-is : headerOf file ≡ Is (headerFor time l)
   unfolding headerOf
-  head-is = sym (head-stands _ _ _ none (sym numbers-back))
+  head-is = sym (stands Is Refused _ _ _ (sym none) (sym numbers-back))
 
   signature-is : signatureIn file ≡ signature
   unfolding signatureIn
@@ -123,4 +141,5 @@ module _ (time : ℕ) (signature : List ℕ) (l : ℕ) (small : time < 2 ^ 32) (
   header-read = rw (header-list time signature l rest) (head-is, signature-is)
 
 pub header-back : (time : ℕ) (signature : List ℕ) (l : ℕ) → time < 2 ^ 32 → l < 2 ^ 16 → HeaderBack time signature l
-header-back time signature l t s e rest = header-read time signature l t s e rest
+unfolding HeaderBack
+header-back time signature l t s e = (header-written time signature l e, λ rest. header-read time signature l t s e rest)

@@ -10,27 +10,22 @@ use lib.ListN.{length, drop}
 use Rattle.wire.specs.BigEndian.{beAt}
 use Rattle.wire.proofs.Orders.{if-yes, if-no, if-zero, if-skip}
 use Rattle.frd.specs.Counter.{counterOf}
-use Rattle.frd.specs.Header.{signaturePlace, signatureLen, signaturePart, headFor, headAnswer}
-use Rattle.frd.specs.Blocks.{blockLen, kindIn, counterIn, recordPlace, restNumber, foundOf, judged, blockOf, blockAt, blockNumber, blockAnswer}
-use Rattle.frd.specs.declared.Header.{Header}
+use Rattle.wire.specs.Answer.{result}
+use Rattle.wire.proofs.Answers.{means}
+use Rattle.frd.specs.Header.{numbersOf, headNumber, headerOf, noHeader, headAnswer, signaturePlace, signatureLen, signaturePart}
+use Rattle.frd.specs.Blocks.{blockLen, kindIn, counterIn, recordPlace, restNumber, foundOf, judged, blockOf, blockAt, blockNumber, BlockAnswer, noBlock, dataValues, timeValues, foundValues, blockAnswer, blockResult}
 use Rattle.frd.specs.declared.Part.{Part}
 use Rattle.frd.specs.declared.Head.{Head}
 use Rattle.frd.specs.declared.Head.the-variants.{Is, Refused as HeadRefused}
 use Rattle.frd.specs.declared.Block.{Block}
 use Rattle.frd.specs.declared.Block.the-variants.{Data, Time, End, Refused}
 
--- a header that a number refuses, and one that none does
-pub head-refused : (n : ℕ) (h : Header) (x : ℕ) → x ≡ n → (x ≡ 0 → ⊥) → HeadRefused x ≡ headFor n h
-unfolding headFor
-head-refused zero h x e k = absurd (k e)
-head-refused (suc n) h x e k = ap HeadRefused e
+-- what a header's answer says
+pub head-means : (f : List ℕ) (r : Head) → r ≡ headerOf f → (r ≡ headerOf f) × (headAnswer r ≡ result noHeader (headNumber f) (numbersOf f))
+unfolding headerOf headAnswer
+head-means f r = means Is HeadRefused noHeader headAnswer (λ h. refl) (λ n. refl) r _ _
 
-pub head-stands : (n : ℕ) (h g : Header) → 0 ≡ n → g ≡ h → Is g ≡ headFor n h
-unfolding headFor
-head-stands zero h g e k = ap Is k
-head-stands (suc n) h g e k = absurd (omega arith)
-
--- where its signature stands
+-- where the signature of a header stands, that a number refuses or that none does
 pub part-refused : (n x : ℕ) → x ≡ n → (x ≡ 0 → ⊥) → _≡_ {A = Part} (record { number = x; start = 0; len = 0 }) (signaturePart n)
 unfolding signaturePart
 part-refused zero x e k = absurd (k e)
@@ -42,12 +37,12 @@ part-stands zero x e k = rw e
 part-stands (suc n) x e k = absurd (omega arith)
 
 -- the same of a block
-pub block-refused : (n at : ℕ) (b : Block) (x : ℕ) → x ≡ n → (x ≡ 0 → ⊥) → Refused x at ≡ judged n at b
+pub block-refused : (n at : ℕ) (b : Block) (x : ℕ) → x ≡ n → (x ≡ 0 → ⊥) → Refused x at ≡ judged Refused n at b
 unfolding judged
 block-refused zero at b x e k = absurd (k e)
 block-refused (suc n) at b x e k = ap (λ (m : ℕ). Refused m at) e
 
-pub block-stands : (n at : ℕ) (b : Block) → n ≡ 0 → judged n at b ≡ b
+pub block-stands : (n at : ℕ) (b : Block) → n ≡ 0 → judged Refused n at b ≡ b
 unfolding judged
 block-stands zero at b e = refl
 block-stands (suc n) at b e = absurd (omega arith)
@@ -140,32 +135,28 @@ module _ (l n : ℕ) (f : List ℕ) (at : ℕ) where
 
   pub at-within : at ≤ length f → blockAt l n f at ≡ blockOf l (counterOf n) at (drop at f)
   unfolding blockAt blockOf blockNumber
-  at-within h = ap (λ (m : ℕ). judged m at (foundOf (counterOf n) at (drop at f))) (sym (if-no 23 _ _ (restNumber l (drop at f)) (le-ltb _ _ h) refl))
+  at-within h = ap (λ (m : ℕ). judged Refused m at (foundOf (counterOf n) at (drop at f))) (sym (if-no 23 _ _ (restNumber l (drop at f)) (le-ltb _ _ h) refl))
 
--- the numbers of the answers
-pub head-read : (n : ℕ) (h : Header) (r : Head) → r ≡ headFor n h → (r ≡ headFor n h) × (headAnswer r .number ≡ n)
-unfolding headFor
-head-read zero h r e = (e, ap (λ (x : Head). headAnswer x .number) e)
-head-read (suc n) h r e = (e, ap (λ (x : Head). headAnswer x .number) e)
+-- what a block's answer says
+judged-values : (n at : ℕ) (b : Block) (v : BlockAnswer) → blockAnswer b ≡ v → blockAnswer (judged Refused n at b) ≡ judged noBlock n at v
+unfolding judged blockAnswer
+judged-values zero at b v e = e
+judged-values (suc n) at b v e = refl
 
-judged-number : (n at : ℕ) (b : Block) → blockAnswer b .number ≡ 0 → blockAnswer (judged n at b) .number ≡ n
-unfolding judged
-judged-number zero at b e = e
-judged-number (suc n) at b e = refl
+found-values : (c at : ℕ) (t : List ℕ) → blockAnswer (foundOf c at t) ≡ foundValues c at t
+unfolding foundOf foundValues blockAnswer
+found-values c at t = by (eqb (length t) 0) (eqb (kindIn t) 1)
+  where
+    by : (a b : Bool)
+        → blockAnswer (cond a End (cond b (Data (counterIn t) (recordPlace at) (eqb (counterIn t) c)) (Time (counterIn t) (beAt 4 t 2) (eqb (counterIn t) c))))
+        ≡ cond a (noBlock 0 0) (cond b (dataValues c at t) (timeValues c t))
+    by true b = refl
+    by false true = refl
+    by false false = refl
 
-found-by : (c s m : ℕ) (r a b : Bool) → blockAnswer (cond a End (cond b (Data c s r) (Time c m r))) .number ≡ 0
-found-by c s m r true b = refl
-found-by c s m r false true = refl
-found-by c s m r false false = refl
-
-found-number : (c at : ℕ) (t : List ℕ) → blockAnswer (foundOf c at t) .number ≡ 0
-unfolding foundOf
-found-number c at t = found-by _ _ _ _ (eqb (length t) 0) (eqb (kindIn t) 1)
-
-pub block-read : (l n : ℕ) (f : List ℕ) (at : ℕ) (r : Block) → r ≡ blockAt l n f at → (r ≡ blockAt l n f at) × (blockAnswer r .number ≡ blockNumber l f at)
-unfolding blockAt
-block-read l n f at r e =
-    (e, ap (λ (x : Block). blockAnswer x .number) e ∙ judged-number (blockNumber l f at) at (foundOf (counterOf n) at (drop at f)) (found-number (counterOf n) at (drop at f)))
+pub block-means : (l n : ℕ) (f : List ℕ) (at : ℕ) (r : Block) → r ≡ blockAt l n f at → (r ≡ blockAt l n f at) × (blockAnswer r ≡ blockResult l n f at)
+unfolding blockAt blockResult
+block-means l n f at r e = (e, ap blockAnswer e ∙ judged-values (blockNumber l f at) at _ _ (found-values (counterOf n) at (drop at f)))
 
 -- what the rest of the file begins with, and the facts of each case
 pub data View (l c at : ℕ) (t : List ℕ) : Type 0 where

@@ -1,5 +1,5 @@
 -- What a header that was read says of its file.
-use Prim.Native.Nat.{ℕ, zero, suc, _≤_}
+use Prim.Native.Nat.{ℕ, _≤_}
 use mathlib.Core.Path.{_≡_, refl, sym}
 use mathlib.Core.List.{List}
 use native.Mathlib.Omega.{arith}
@@ -7,12 +7,12 @@ use borrow.Author.Tests.{eqb-true, ltb-false, not-false}
 use lib.ListN.{length, drop}
 use Rattle.wire.specs.BigEndian.{beOf, beAt}
 use Rattle.wire.proofs.Orders.{if-zero}
-use Rattle.frd.specs.Header.{headLen, name, version, numbersOf, headNumber, headFor, headerOf, headAnswer}
-use Rattle.frd.specs.Log.{logOf, fileLog, tallyOf}
+use Rattle.frd.specs.Header.{headLen, name, version, numbersOf, headNumber, headerOf, headAnswer}
+use Rattle.frd.specs.Log.{logOf, fileLog, tallyOf, logAfter}
 use Rattle.frd.specs.declared.Header.{Header}
 use Rattle.frd.specs.declared.Head.{Head}
 use Rattle.frd.specs.declared.Head.the-variants.{Is, Refused}
-use Rattle.frd.proofs.Cases.{head-stands}
+use Rattle.wire.proofs.Answers.{answered, stands}
 
 pub record Known (f : List ℕ) : Type 0 where
   pub long : headLen ≤ length f
@@ -34,18 +34,15 @@ known f e =
       begins = eqb-true _ _ (not-false _ (g .0));
     }
 
-taken : (n : ℕ) (g h : Header) → headFor n g ≡ Is h → (n ≡ 0) × (h ≡ g)
-unfolding headFor
-taken zero g h e = (refl, cc)
-taken (suc n) g h e = let z : _≡_ {A = ℕ} 0 1 = cc in absurd (omega arith)
-
 pub head-taken : (f : List ℕ) (h : Header) → headerOf f ≡ Is h → (headNumber f ≡ 0) × (h ≡ numbersOf f)
 unfolding headerOf
-head-taken f h e = taken _ _ h e
+head-taken f h e =
+    let a = answered Is Refused (λ n y q. let z : _≡_ {A = ℕ} 0 1 = cc in omega arith) (λ x y q. cc) (headNumber f) (numbersOf f) h e in
+    (a .0, sym (a .1))
 
 pub head-is : (f : List ℕ) → headNumber f ≡ 0 → headerOf f ≡ Is (numbersOf f)
 unfolding headerOf
-head-is f e = sym (head-stands _ _ _ (sym e) refl)
+head-is f e = sym (stands Is Refused _ _ _ e refl)
 
 -- the data begin within the file
 pub begins-in : (f : List ℕ) (h : Header) → headerOf f ≡ Is h → h .begin ≤ length f
@@ -56,10 +53,10 @@ begins-in f h e =
 
 -- the whole-file meaning, by the header
 pub log-is : (f : List ℕ) (h : Header) → headerOf f ≡ Is h → fileLog f ≡ logOf (h .size) (h .begin) (drop (h .begin) f)
-unfolding fileLog
+unfolding fileLog logAfter
 log-is f h e = rw e
 
 pub log-none : (f : List ℕ) (b : Head) (m : ℕ) → b ≡ headerOf f → b ≡ Refused m
-    → record { blocks = 0; number = headAnswer b .number; place = 0 } ≡ tallyOf (fileLog f)
-unfolding fileLog
+    → record { blocks = 0; ending = headAnswer b .0; place = 0 } ≡ tallyOf (fileLog f)
+unfolding fileLog headAnswer logAfter
 log-none f b m e k = rw (← e, k)

@@ -2,7 +2,8 @@ pub mod Cases
 pub mod Alone
 pub mod Walks
 pub mod Heads
-pub mod Backs
 pub mod Puts
+pub mod Backs
 pub mod Logs
 pub mod Same
+pub mod Places

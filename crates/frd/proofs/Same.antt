@@ -6,15 +6,15 @@ use mathlib.Core.List.{List, [], _∷_, _++_}
 use native.Mathlib.Omega.{arith}
 use borrow.Author.Tests.{eqb-true}
 use lib.ListN.{length, take, drop, length-drop, take-append-drop}
-use lib.Seq.{drop-drop}
+use lib.Seq.{drop-drop, length-take-le}
 use Rattle.wire.specs.BigEndian.{beOf, beAt, bytesOf}
-use Rattle.wire.proofs.Numbers.{Bytes, bytes-drop, part-back}
+use Rattle.wire.proofs.Numbers.{Bytes, bytes-take, bytes-drop, be-below, below-part, part-back}
 use Rattle.frd.specs.Counter.{counterOf}
 use Rattle.frd.specs.Header.{headLen, name, version, numbersOf, signatureIn}
-use Rattle.frd.specs.Blocks.{kindIn, counterIn, recordPlace, blockOf, lengthOf}
+use Rattle.frd.specs.Blocks.{kindIn, counterIn, recordPlace, blockOf, blockAnswer, lengthOf}
 use Rattle.frd.specs.Log.{Log, walk, fileLog}
 use Rattle.frd.specs.Writers.{headerBytes, dataBytes, timeBytes}
-use Rattle.frd.specs.RoundTrip.{Entry, logBytes, fileBytes, entryThen, entriesIn, rightThen, allRight, LogSame}
+use Rattle.frd.specs.RoundTrip.{Entry, Lawful, logBytes, fileBytes, entryThen, entriesIn, rightThen, allRight, LogSame}
 use Rattle.frd.specs.declared.Block.{Block}
 use Rattle.frd.specs.declared.Block.the-variants.{Data, Time, End, Refused}
 use Rattle.frd.proofs.Cases.{View, at-end, of-data, of-time, of-refusal, view, data-len, time-len}
@@ -66,6 +66,7 @@ cond-true true b e = (refl, e)
 cond-true false b e = let z : _≡_ {A = Bool} false true = e in (cc, cc)
 
 right-both : (b : Block) (x : Bool) → rightThen b x ≡ true → goes b → (rightThen b true ≡ true) × (x ≡ true)
+unfolding rightThen
 right-both (Data c s r) x e g = let w = cond-true r x e in (rw (w .0), w .1)
 right-both (Time c m r) x e g = let w = cond-true r x e in (rw (w .0), w .1)
 right-both End x e g = absurd g
@@ -73,9 +74,9 @@ right-both (Refused m p) x e g = absurd g
 
 -- the rest of the file from a place on
 module _ (l : ℕ) (f : List ℕ) where
-  -- a log whose blocks, written again after n blocks, are these bytes
+  -- a log whose blocks are lawful to write, and written again after n blocks are these bytes
   abbrev Rewrites : ℕ → List ℕ → Log → Type 0
-  Rewrites n t g = g .number ≡ 0 → allRight (g .blocks) ≡ true → logBytes n (entriesIn l f (g .blocks)) ≡ t
+  Rewrites n t g = g .ending ≡ 0 → allRight (g .blocks) ≡ true → Lawful l (entriesIn l f (g .blocks)) × (logBytes n (entriesIn l f (g .blocks)) ≡ t)
 
   -- every walk with this fuel
   abbrev WalkSame : ℕ → Type 0
@@ -87,25 +88,27 @@ module _ (l : ℕ) (f : List ℕ) where
 
   module _ (k : ℕ) (more-same : WalkSame k) (n at : ℕ) (t : List ℕ) (here : drop at f ≡ t) (small : Bytes t) (fuel : length t < suc k) where
     block-same : (b : Block) → blockOf l (counterOf n) at t ≡ b → goes b
-        → ((es : List Entry) → logBytes (n + 1) es ≡ drop (lengthOf l b) t → rightThen b true ≡ true → logBytes n (entryThen l f b es) ≡ t)
+        → ((es : List Entry) → Lawful l es → logBytes (n + 1) es ≡ drop (lengthOf l b) t → rightThen b true ≡ true → Lawful l (entryThen l f b es) × (logBytes n (entryThen l f b es) ≡ t))
         → Rewrites n t (walk (suc k) l n at t)
+    unfolding entriesIn allRight
     block-same b e g one =
         let q : drop (at + lengthOf l b) f ≡ drop (lengthOf l b) t = sym (drop-drop (lengthOf l b) at f) ∙ ap (drop (lengthOf l b)) here in
         let i = block-fits l (counterOf n) at t b e g in
         let r = more-same (n + 1) (at + lengthOf l b) (drop (lengthOf l b) t) q (bytes-drop (lengthOf l b) t small) (omega (arith, length-drop (lengthOf l b) t)) in
         subst (Rewrites n t) (sym (walk-on k l n at t b e g))
-        (λ x y. let w = right-both b _ y g in one _ (r x (w .1)) (w .0))
+        (λ x y. let w = right-both b _ y g in let q = r x (w .1) in one _ (q .0) (q .1) (w .0))
 
     view-same : View l (counterOf n) at t → Rewrites n t (walk (suc k) l n at t)
-    view-same (at-end z e) = subst (Rewrites n t) (sym (walk-stop k l n at t End e (λ g. g))) (λ x y. nothing t z)
+    unfolding blockAnswer logBytes entriesIn entryThen rightThen lengthOf Lawful
+    view-same (at-end z e) = subst (Rewrites n t) (sym (walk-stop k l n at t End e (λ g. g))) (λ x y. (tt, nothing t z))
     view-same (of-data z s e) =
         block-same _ e tt
-        (λ es x y.
+        (λ es i x y.
         let v : drop (recordPlace at) f ≡ drop 2 t = sym (drop-drop 2 at f) ∙ ap (drop 2) here in
-        rw (x, v, data-len l 1 refl) (data-same l (counterOf n) t z s (eqb-true _ _ (cond-true _ _ y .0))))
+        rw (x, v, data-len l 1 refl) ((length-take-le l (drop 2 t) (omega (arith, length-drop 2 t)), i), data-same l (counterOf n) t z s (eqb-true _ _ (cond-true _ _ y .0))))
     view-same (of-time z s e) =
         block-same _ e tt
-        (λ es x y. rw (x, time-len l 2 refl) (time-same (counterOf n) t z s (eqb-true _ _ (cond-true _ _ y .0)) small))
+        (λ es i x y. rw (x, time-len l 2 refl) ((below-part 4 (drop 2 t) (be-below (take 4 (drop 2 t)) (bytes-take 4 (drop 2 t) (bytes-drop 2 t small))) refl, i), time-same (counterOf n) t z s (eqb-true _ _ (cond-true _ _ y .0)) small))
     view-same (of-refusal m z e) = subst (Rewrites n t) (sym (walk-stop k l n at t (Refused m at) e (λ g. g))) (λ x y. absurd (z x))
 
   walk-same : (k : ℕ) → WalkSame k
@@ -113,12 +116,12 @@ module _ (l : ℕ) (f : List ℕ) where
   walk-same (suc k) n at t p h i = view-same k (walk-same k) n at t p h i (view l (counterOf n) at t)
 
 pub log-same : LogSame
-unfolding fileBytes
+unfolding fileBytes LogSame signatureIn
 log-same f y r =
     let k = known f (y .head) in
     let l = numbersOf f .size in
     let t = drop headLen f in
     let e : fileLog f ≡ walk (suc (length t)) l 0 headLen t = log-is f (numbersOf f) (head-is f (y .head)) ∙ (rw (k .begins)) ∙ log-whole l headLen t in
     let s = walk-same l f (suc (length t)) 0 headLen t refl (bytes-drop headLen f (y .bytes)) (omega arith) in
-    ap (λ (x : List ℕ). headerBytes (numbersOf f .time) (signatureIn f) l ++ x) (subst (Rewrites l f 0 t) (sym e) s (y .blocks) r)
-    ∙ header-same f (y .bytes) k
+    let w = subst (Rewrites l f 0 t) (sym e) s (y .blocks) r in
+    (length-take-le 63 (drop 12 f) (omega (arith, k .long, length-drop 12 f)), w .0, ap (λ (x : List ℕ). headerBytes (numbersOf f .time) (signatureIn f) l ++ x) (w .1) ∙ header-same f (y .bytes) k)

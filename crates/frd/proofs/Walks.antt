@@ -11,7 +11,7 @@ use lib.ListN.{length, drop, length-drop}
 use lib.Seq.{drop-drop}
 use Rattle.frd.specs.Counter.{counterOf}
 use Rattle.frd.specs.Blocks.{blockOf, blockAnswer, lengthOf}
-use Rattle.frd.specs.Log.{Log, ended, more, walk, logOf, tallyOf}
+use Rattle.frd.specs.Log.{Log, ended, more, walk, logOf, tallyOf, onward}
 use Rattle.frd.specs.declared.Block.{Block}
 use Rattle.frd.specs.declared.Block.the-variants.{Data, Time, End, Refused}
 use Rattle.frd.specs.declared.Tally.{Tally}
@@ -41,6 +41,7 @@ left (Refused n p) k g = g
 -- such a block has two bytes at least, and lies within the file
 module _ (l c at : ℕ) (t : List ℕ) where
   fits-by : View l c at t → goes (blockOf l c at t) → (2 ≤ lengthOf l (blockOf l c at t)) × (lengthOf l (blockOf l c at t) ≤ length t)
+  unfolding lengthOf
   fits-by (at-end h e) g = absurd (subst goes e g)
   fits-by (of-data k h e) g = rw e (omega (arith, data-len l 1 refl), omega (arith, data-len l 1 refl))
   fits-by (of-time k h e) g = rw e (omega (arith, time-len l 2 refl), omega (arith, time-len l 2 refl))
@@ -52,6 +53,7 @@ module _ (l c at : ℕ) (t : List ℕ) where
 -- the first block
 pub walk-on : (k l n at : ℕ) (t : List ℕ) (b : Block) → blockOf l (counterOf n) at t ≡ b → goes b
     → walk (suc k) l n at t ≡ more at b (walk k l (n + 1) (at + lengthOf l b) (drop (lengthOf l b) t))
+unfolding walk onward
 walk-on k l n at t (Data c s r) e g = rw e
 walk-on k l n at t (Time c m r) e g = rw e
 walk-on k l n at t End e g = absurd g
@@ -59,6 +61,7 @@ walk-on k l n at t (Refused m p) e g = absurd g
 
 pub walk-stop : (k l n at : ℕ) (t : List ℕ) (b : Block) → blockOf l (counterOf n) at t ≡ b → (goes b → ⊥)
     → walk (suc k) l n at t ≡ ended (blockAnswer b .number) at
+unfolding blockAnswer walk onward
 walk-stop k l n at t (Data c s r) e g = absurd (g tt)
 walk-stop k l n at t (Time c m r) e g = absurd (g tt)
 walk-stop k l n at t End e g = rw e
@@ -92,7 +95,7 @@ walkAt l n f at = walk (suc (length (drop at f))) l n at (drop at f)
 
 -- a tally after n blocks
 abbrev pub tallyFrom : ℕ → Log → Tally
-tallyFrom n g = record { blocks = n + length (g .blocks); number = g .number; place = g .place }
+tallyFrom n g = record { blocks = n + length (g .blocks); ending = g .ending; place = g .place }
 
 pub tally-on : (l n : ℕ) (f : List ℕ) (at : ℕ) (b : Block) → blockOf l (counterOf n) at (drop at f) ≡ b → goes b
     → tallyFrom n (walkAt l n f at) ≡ tallyFrom (n + 1) (walkAt l (n + 1) f (at + lengthOf l b))
@@ -108,7 +111,7 @@ tally-on l n f at b e g =
     one r = let q : n + suc (length (r .blocks)) ≡ n + 1 + length (r .blocks) = omega arith in rw q
 
 pub tally-stop : (l n : ℕ) (f : List ℕ) (at : ℕ) (b : Block) → blockOf l (counterOf n) at (drop at f) ≡ b → (goes b → ⊥)
-    → record { blocks = n; number = blockAnswer b .number; place = at } ≡ tallyFrom n (walkAt l n f at)
+    → record { blocks = n; ending = blockAnswer b .number; place = at } ≡ tallyFrom n (walkAt l n f at)
 tally-stop l n f at b e k =
     let q : n + 0 ≡ n = omega arith in
     sym (ap (tallyFrom n) (walk-stop (length (drop at f)) l n at (drop at f) b e k) ∙ rw q)

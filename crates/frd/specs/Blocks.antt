@@ -42,13 +42,14 @@ foundOf c at t =
     (Data (counterIn t) (recordPlace at) (eqb (counterIn t) c))
     (Time (counterIn t) (beAt 4 t 2) (eqb (counterIn t) c)))
 
--- that, or the number that refuses it, with the block's place
-unfoldable pub judged : ℕ → ℕ → Block → Block
-judged zero at b = b
-judged (suc n) at b = Refused (suc n) at
+-- what is found where the number is 0, else a refusal, which holds the number and the block's place
+unfoldable pub judged : {A : Type 0} → (ℕ → ℕ → A) → ℕ → ℕ → A → A
+judged refused zero at x = x
+judged refused (suc n) at x = refused (suc n) at
 
+-- what t begins with
 unfoldable pub blockOf : ℕ → ℕ → ℕ → List ℕ → Block
-blockOf l c at t = judged (restNumber l t) at (foundOf c at t)
+blockOf l c at t = judged Refused (restNumber l t) at (foundOf c at t)
 
 -- "Order: .. 23 (place past the file), 25, 20"; a place equal to the file's length is the end
 unfoldable pub blockNumber : ℕ → List ℕ → ℕ → ℕ
@@ -58,9 +59,9 @@ blockNumber l f at =
 
 -- what stands at a place of a file, after n blocks
 unfoldable pub blockAt : ℕ → ℕ → List ℕ → ℕ → Block
-blockAt l n f at = judged (blockNumber l f at) at (foundOf (counterOf n) at (drop at f))
+blockAt l n f at = judged Refused (blockNumber l f at) at (foundOf (counterOf n) at (drop at f))
 
--- the number and the values of each case; a refusal's are 0, save the block's place
+-- the paper's number and values of each case; `kind` is the block's type, and 0 where there is no block
 pub record BlockAnswer : Type 0 where
   pub number : ℕ
   pub kind : ℕ
@@ -70,14 +71,34 @@ pub record BlockAnswer : Type 0 where
   pub right : Bool
   pub place : ℕ
 
-abbrev pub blockAnswer : Block → BlockAnswer
+-- no block: the end, whose number and place are 0, or a refusal, in which "every other number .. is 0, save that a block reader's refusal
+-- names the block's place"
+abbrev pub noBlock : ℕ → ℕ → BlockAnswer
+noBlock n p = record { number = n; kind = 0; counter = 0; time = 0; start = 0; right = false; place = p }
+
+unfoldable pub blockAnswer : Block → BlockAnswer
 blockAnswer (Data c s r) = record { number = 0; kind = 1; counter = c; time = 0; start = s; right = r; place = 0 }
 blockAnswer (Time c m r) = record { number = 0; kind = 2; counter = c; time = m; start = 0; right = r; place = 0 }
-blockAnswer End = record { number = 0; kind = 0; counter = 0; time = 0; start = 0; right = false; place = 0 }
-blockAnswer (Refused n p) = record { number = n; kind = 0; counter = 0; time = 0; start = 0; right = false; place = p }
+blockAnswer End = noBlock 0 0
+blockAnswer (Refused n p) = noBlock n p
+
+-- the same of a place of a file, by its bytes
+abbrev pub dataValues : ℕ → ℕ → List ℕ → BlockAnswer
+dataValues c at t = record { number = 0; kind = 1; counter = counterIn t; time = 0; start = recordPlace at; right = eqb (counterIn t) c; place = 0 }
+
+abbrev pub timeValues : ℕ → List ℕ → BlockAnswer
+timeValues c t = record { number = 0; kind = 2; counter = counterIn t; time = beAt 4 t 2; start = 0; right = eqb (counterIn t) c; place = 0 }
+
+unfoldable pub foundValues : ℕ → ℕ → List ℕ → BlockAnswer
+foundValues c at t =
+    cond (eqb (length t) 0) (noBlock 0 0)
+    (cond (eqb (kindIn t) 1) (dataValues c at t) (timeValues c t))
+
+unfoldable pub blockResult : ℕ → ℕ → List ℕ → ℕ → BlockAnswer
+blockResult l n f at = judged noBlock (blockNumber l f at) at (foundValues (counterOf n) at (drop at f))
 
 -- how many bytes a block takes
-abbrev pub lengthOf : ℕ → Block → ℕ
+unfoldable pub lengthOf : ℕ → Block → ℕ
 lengthOf l (Data c s r) = blockLen l 1
 lengthOf l (Time c m r) = blockLen l 2
 lengthOf l End = 0

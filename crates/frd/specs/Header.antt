@@ -5,6 +5,7 @@ use mathlib.Core.List.{List, [], _∷_}
 use lib.Dec.{eqb, ltb}
 use lib.ListN.{length, take, drop}
 use Rattle.wire.specs.Order.{_if_else_}
+use Rattle.wire.specs.Answer.{answer}
 use Rattle.wire.specs.BigEndian.{beOf, beAt}
 use Rattle.frd.specs.declared.Header.{Header}
 use Rattle.frd.specs.declared.Part.{Part}
@@ -54,23 +55,18 @@ headNumber f =
     else 0
 
 -- the header, or the number that refuses it
-unfoldable pub headFor : ℕ → Header → Head
-headFor zero h = Is h
-headFor (suc n) h = Refused (suc n)
-
 unfoldable pub headerOf : List ℕ → Head
-headerOf f = headFor (headNumber f) (numbersOf f)
+headerOf f = answer Is Refused (headNumber f) (numbersOf f)
+
+-- the paper's number and values of each case: in a refusal every other number is 0
+abbrev pub noHeader : Header
+noHeader = record { version = 0; time = 0; begin = 0; size = 0 }
+
+unfoldable pub headAnswer : Head → ℕ × Header
+headAnswer (Is h) = (0, h)
+headAnswer (Refused n) = (n, noHeader)
 
 -- where a read header's signature stands: place and length in the file, which a refusal leaves 0
 unfoldable pub signaturePart : ℕ → Part
 signaturePart zero = record { number = 0; start = signaturePlace; len = signatureLen }
 signaturePart (suc n) = record { number = suc n; start = 0; len = 0 }
-
--- the number and the values of each case; a refusal's are 0
-pub record HeadAnswer : Type 0 where
-  pub number : ℕ
-  pub header : Header
-
-abbrev pub headAnswer : Head → HeadAnswer
-headAnswer (Is h) = record { number = 0; header = h }
-headAnswer (Refused n) = record { number = n; header = record { version = 0; time = 0; begin = 0; size = 0 } }

@@ -16,38 +16,38 @@ pub record Placed : Type 0 where
   pub place : ℕ
   pub block : Block
 
--- the blocks, the place after them, and the number of what stands there: 0 for the end, else its refusal
+-- the blocks, the place after them, and how they ended: 0 at the file's end, else the number that refuses what stands at that place
 pub record Log : Type 0 where
   pub blocks : List Placed
-  pub number : ℕ
+  pub ending : ℕ
   pub place : ℕ
 
 abbrev pub ended : ℕ → ℕ → Log
-ended m at = record { blocks = []; number = m; place = at }
+ended m at = record { blocks = []; ending = m; place = at }
 
 abbrev pub more : ℕ → Block → Log → Log
-more at b g = record { blocks = record { place = at; block = b } ∷ g .blocks; number = g .number; place = g .place }
+more at b g = record { blocks = record { place = at; block = b } ∷ g .blocks; ending = g .ending; place = g .place }
 
 -- data and times are followed by the rest of the log; the end and a refusal end it
-abbrev pub onward : ℕ → Block → Log → Log
+unfoldable pub onward : ℕ → Block → Log → Log
 onward at (Data c s r) g = more at (Data c s r) g
 onward at (Time c m r) g = more at (Time c m r) g
 onward at End g = ended 0 at
 onward at (Refused m p) g = ended m at
 
--- at most k blocks from a place on, after n blocks; t is the rest of the file
-abbrev pub walk : ℕ → ℕ → ℕ → ℕ → List ℕ → Log
+-- the first k blocks from a place on, after n blocks, where there are that many; t is the rest of the file
+unfoldable pub walk : ℕ → ℕ → ℕ → ℕ → List ℕ → Log
 walk zero l n at t = ended 0 at
 walk (suc k) l n at t =
     onward at (blockOf l (counterOf n) at t)
     (walk k l (n + 1) (at + lengthOf l (blockOf l (counterOf n) at t)) (drop (lengthOf l (blockOf l (counterOf n) at t)) t))
 
--- all of them: every block takes a byte at least
+-- all of them: a block takes two bytes at least, so there are fewer than bytes
 unfoldable pub logOf : ℕ → ℕ → List ℕ → Log
 logOf l at t = walk (suc (length t)) l 0 at t
 
--- a refused header ends the file at its start
-abbrev pub logAfter : List ℕ → Head → Log
+-- of a whole file: from data begin on; a refused header gives no blocks, its number, and place 0
+unfoldable pub logAfter : List ℕ → Head → Log
 logAfter f (Is h) = logOf (h .size) (h .begin) (drop (h .begin) f)
 logAfter f (HeadRefused m) = ended m 0
 
@@ -56,4 +56,4 @@ fileLog f = logAfter f (headerOf f)
 
 -- how many blocks there are, and how they ended
 abbrev pub tallyOf : Log → Tally
-tallyOf g = record { blocks = length (g .blocks); number = g .number; place = g .place }
+tallyOf g = record { blocks = length (g .blocks); ending = g .ending; place = g .place }

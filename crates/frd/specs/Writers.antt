@@ -25,11 +25,13 @@ timeBytes c time = 2 ∷ c ∷ bytesOf 4 time
 unfoldable pub roomNumber : List ℕ → ℕ → ℕ
 roomNumber bytes room = 27 if ltb room (length bytes) else 0
 
+-- a header: 23 for a signature not of 63 bytes, then 27
 unfoldable pub headerNumber : ℕ → List ℕ → ℕ → ℕ → ℕ
 headerNumber time signature l room =
     23 if not (eqb (length signature) signatureLen)
     else roomNumber (headerBytes time signature l) room
 
+-- a data block: 23 for a wrong record length, then 27; a time block: 27 alone
 unfoldable pub dataNumber : ℕ → ℕ → List ℕ → ℕ → ℕ
 dataNumber l c rec room =
     23 if not (eqb (length rec) l)

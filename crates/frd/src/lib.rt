@@ -2,13 +2,14 @@
 ghost use mathlib.Core.Path.{_≡_};
 ghost use Prim.Native.Nat.{ℕ, _+_, _<_, _≤_, _^_};
 ghost use lib.ListN.{length, take, drop};
+ghost use Rattle.wire.specs.Answer.{result};
 ghost use Rattle.wire.specs.Writer.{wrote, leaves};
 ghost use Rattle.frd.specs.Counter.{counterOf};
-ghost use Rattle.frd.specs.Header.{numbersOf, signatureIn, headNumber, headerOf, signaturePart, headAnswer};
-ghost use Rattle.frd.specs.Blocks.{blockLen, restNumber, foundOf, blockOf, blockAt, blockNumber, blockAnswer, lengthOf};
+ghost use Rattle.frd.specs.Header.{numbersOf, signatureIn, headNumber, headerOf, noHeader, headAnswer, signaturePart};
+ghost use Rattle.frd.specs.Blocks.{blockLen, restNumber, foundOf, blockOf, blockAt, blockAnswer, blockResult, lengthOf};
 ghost use Rattle.frd.specs.Log.{logOf, fileLog, tallyOf};
 ghost use Rattle.frd.specs.Writers.{headerBytes, headerNumber, dataBytes, dataNumber, timeBytes, roomNumber};
-ghost use Rattle.frd.specs.RoundTrip.{HeaderBack, DataBack, TimeBack, BlockAlone, LogBack, LogSame};
+ghost use Rattle.frd.specs.RoundTrip.{HeaderBack, DataBack, TimeBack, BlockAlone, LogBack, LogPlaces, LogSame};
 
 // A header's numbers: version, time, data begin and output length.
 pub struct Header {
@@ -62,7 +63,7 @@ fn head_number(file: &[u8]) -> u8
 
 // The header of a file.
 pub fn read_header(file: &[u8]) -> Head
-    ensures { λ r. ⌜ (r ≡ headerOf (now (file .entry))) × (headAnswer r .number ≡ headNumber (now (file .entry))) ⌝ }
+    ensures { λ r. ⌜ (r ≡ headerOf (now (file .entry))) × (headAnswer r ≡ result noHeader (headNumber (now (file .entry))) (numbersOf (now (file .entry)))) ⌝ }
 {
     let number = head_number(file);
     if number != 0 {
@@ -193,7 +194,7 @@ fn block_of(t: &[u8], size: u16, expected: u8, at: usize) -> Block
 
 // The block at a place of a log of the given output length, after the given number of blocks.
 pub fn read_block(file: &[u8], size: u16, earlier: u64, at: usize) -> Block
-    ensures { λ r. ⌜ (r ≡ blockAt size earlier (now (file .entry)) at) × (blockAnswer r .number ≡ blockNumber size (now (file .entry)) at) ⌝ }
+    ensures { λ r. ⌜ (r ≡ blockAt size earlier (now (file .entry)) at) × (blockAnswer r ≡ blockResult size earlier (now (file .entry)) at) ⌝ }
     ensures alone { λ r. ⌜ BlockAlone ⌝ }
 {
     if file.len() < at {
@@ -228,11 +229,11 @@ pub fn length_of(b: Block, size: u16) -> usize
     }
 }
 
-// How many blocks a file has, and what stands after them: its place, and 0 for the end or the number of its refusal.
-// A refused header gives its number, and no blocks.
+// How many blocks a file has, and how they ended: 0 at the file's end, else the number that refuses what stands at `place`.
+// A refused header gives no blocks, its number, and place 0.
 pub struct Tally {
     pub blocks: u64,
-    pub number: u8,
+    pub ending: u8,
     pub place: usize,
 }
 
@@ -278,7 +279,7 @@ fn count_from(file: &[u8], size: u16, begin: usize) -> Tally
         else {
             return Tally {
                 blocks: n,
-                number: stop_number(b),
+                ending: stop_number(b),
                 place: at,
             };
         };
@@ -289,7 +290,7 @@ fn count_from(file: &[u8], size: u16, begin: usize) -> Tally
 
 // The number that refuses a header, or 0.
 fn refusal(head: Head) -> u8
-    ensures { λ r. ⌜ r ≡ headAnswer head .number ⌝ }
+    ensures { λ r. ⌜ r ≡ headAnswer head .0 ⌝ }
 {
     match head {
         Head::Is(_) => 0,
@@ -300,12 +301,13 @@ fn refusal(head: Head) -> u8
 // Counts the blocks of a file.
 pub fn count_blocks(file: &[u8]) -> Tally
     ensures { λ r. ⌜ r ≡ tallyOf (fileLog (now (file .entry))) ⌝ }
+    ensures places { λ _. ⌜ LogPlaces (now (file .entry)) ⌝ }
 {
     let head = read_header(file);
     let Head::Is(h) = head else {
         return Tally {
             blocks: 0,
-            number: refusal(head),
+            ending: refusal(head),
             place: 0,
         };
     };

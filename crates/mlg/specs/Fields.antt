@@ -35,7 +35,7 @@ namesNumber base area d =
 
 -- one field
 unfoldable pub fieldNumber : ℕ → List ℕ → List ℕ → ℕ
-fieldNumber base area d = typeNumber d orElse textsNumber d orElse namesNumber base area d
+fieldNumber base area d = typeNumber (typeOf d) (bitsOf d) orElse textsNumber d orElse namesNumber base area d
 
 -- "each field in turn": the first n fields of the bytes t, in version v's layout
 abbrev pub fieldsNumber : ℕ → ℕ → List ℕ → ℕ → List ℕ → ℕ

@@ -101,7 +101,7 @@ pub(crate) fn field_number(version: u16, base: usize, names: &[u8], info: &[u8],
     requires { ⌜ length (now d) ≡ fieldLen version ⌝ }
     ensures { λ r. ⌜ r ≡ fieldNumber base (areaOf (now (names .entry)) (now (info .entry))) (now (d .entry)) ⌝ }
 {
-    let a = field::type_number(d);
+    let a = field::type_number(d[0], d[51]);
     if a != 0 {
         return a;
     }

@@ -77,3 +77,13 @@ bytes-back n l e h = let k : 0 + length l ≡ n = omega arith in rw k at (bytes-
 pub part-back : (n : ℕ) (f : List ℕ) (at : ℕ) → at + n ≤ length f → Bytes f → bytesOf n (beOf (take n (drop at f))) ≡ take n (drop at f)
 part-back n f at h b =
     bytes-back n (take n (drop at f)) (length-take-le n (drop at f) (rw (length-drop at f) (omega arith))) (bytes-take n (drop at f) (bytes-drop at f b))
+
+-- bytes after i bytes keep a number below 2 to the bits that they all have
+from-below : (i a : ℕ) (b : List ℕ) → a < 2 ^ (8 * i) → Bytes b → beFrom a b < 2 ^ (8 * (i + length b))
+from-below i a [] h g = let e : i + 0 ≡ i = omega arith in rw e h
+from-below i a (x ∷ b) h g =
+    let e : i + length (x ∷ b) ≡ i + 1 + length b = omega arith in
+    rw e (from-below (i + 1) (a * 256 + x) b (more-bytes a x i h (g 0)) (bytes-tail x b g))
+
+pub be-below : (b : List ℕ) → Bytes b → beOf b < 2 ^ (8 * length b)
+be-below b g = let e : 0 + length b ≡ length b = omega arith in rw e at (from-below 0 0 b (omega arith) g)

@@ -9,6 +9,7 @@ use mir.ValLaws.{toZ-ofZ, toZ-pos}
 use Rattle.field.specs.Types.{sizeOf}
 use Rattle.field.proofs.Types.{size-at, size-plain}
 use Rattle.field.proofs.Raws.{raw-signed, raw-plain, whole, single}
+use Rattle.field.specs.Raw.{signedType}
 
 byte-at-requires : tie.Need-byte-at-requires
 byte-at-requires c κs = search needs
@@ -17,7 +18,7 @@ s08-requires : tie.Need-s08-requires
 s08-requires c κs = search needs
 
 returns : tie.Need-returns
-unfolding sizeOf
+unfolding sizeOf signedType
 returns c = toZ-ofZ w64 _ (record { sfits = c .s08 .ok }) ∙ c .s08 .ensures ∙ raw-signed _ 1 _ _ (c .before .before .if1 .taken) refl (c .before .byte-at .ensures ∙ single (c .before .before .before .before .args .raw .now) (c .before .before .before .before .pre ∙ size-at (c .before .before .before .before .args .kind) 1 1 (c .before .before .if1 .taken) refl))
 
 be16-requires : tie.Need-be16-requires
@@ -27,7 +28,7 @@ s16-requires : tie.Need-s16-requires
 s16-requires c κs = search needs
 
 returns-2 : tie.Need-returns-2
-unfolding sizeOf
+unfolding sizeOf signedType
 returns-2 c = toZ-ofZ w64 _ (record { sfits = c .s16 .ok }) ∙ c .s16 .ensures ∙ raw-signed _ 3 _ _ (c .before .before .if2 .taken) refl (c .before .be16 .ensures ∙ whole 2 (c .before .before .before .before .before .args .raw .now) (omega (arith, c .before .before .before .before .before .pre, size-at (c .before .before .before .before .before .args .kind) 3 2 (c .before .before .if2 .taken) refl)))
 
 be32-requires : tie.Need-be32-requires
@@ -37,7 +38,7 @@ s32-requires : tie.Need-s32-requires
 s32-requires c κs = search needs
 
 returns-3 : tie.Need-returns-3
-unfolding sizeOf
+unfolding sizeOf signedType
 returns-3 c = toZ-ofZ w64 _ (record { sfits = c .s32 .ok }) ∙ c .s32 .ensures ∙ raw-signed _ 5 _ _ (c .before .before .if3 .taken) refl (c .before .be32 .ensures ∙ whole 4 (c .before .before .before .before .before .before .args .raw .now) (omega (arith, c .before .before .before .before .before .before .pre, size-at (c .before .before .before .before .before .before .args .kind) 5 4 (c .before .before .if3 .taken) refl)))
 
 number-requires : tie.Need-number-requires
@@ -47,7 +48,7 @@ s64-requires : tie.Need-s64-requires
 s64-requires c κs = search needs
 
 returns-4 : tie.Need-returns-4
-unfolding sizeOf
+unfolding sizeOf signedType
 returns-4 c = toZ-ofZ w64 _ (record { sfits = c .s64 .ok }) ∙ c .s64 .ensures ∙ raw-signed _ 6 _ _ (c .before .before .if4 .taken) refl (c .before .number .ensures ∙ whole 8 (c .before .before .before .before .before .before .before .args .raw .now) (omega (arith, c .before .before .before .before .before .before .before .pre, size-at (c .before .before .before .before .before .before .before .args .kind) 6 8 (c .before .before .if4 .taken) refl)))
 
 be32-requires-2 : tie.Need-be32-requires-2

@@ -4,20 +4,24 @@ use Rattle.field.proofs.scaling_in.Tie as tie
 use mathlib.Core.Path.{refl}
 use Rattle.field.proofs.Finite.{no-nan}
 use Rattle.field.proofs.Scalings.{parts-stand}
+use Rattle.field.specs.Shown.{scalingIn}
 
 be32-requires : tie.Need-be32-requires
 be32-requires c κs = search needs
 
 float-from-bits-t3 : tie.Need-float-from-bits-t3
+unfolding scalingIn
 float-from-bits-t3 c = rw (c .be32 .ensures) (no-nan _ (parts-stand _ (c .before .before .pre) .1 .1))
 
 be32-requires-2 : tie.Need-be32-requires-2
 be32-requires-2 c κs = search needs
 
 float-from-bits-t5 : tie.Need-float-from-bits-t5
+unfolding scalingIn
 float-from-bits-t5 c = rw (c .be322 .ensures) (no-nan _ (parts-stand _ (c .before .before .before .pre) .1 .0))
 
 returns : tie.Need-returns
+unfolding scalingIn
 returns c = rw (c .before .be32 .ensures, c .be322 .ensures) refl
 
 pub scaling-in-spec : {M : Type 1} → statement M

@@ -6,43 +6,28 @@ use Rattle.wire.proofs.Orders.{order}
 use Rattle.field.specs.Field.{typeNumber}
 use Rattle.field.proofs.Types.{size-most}
 
-byte-at-requires : tie.Need-byte-at-requires
-byte-at-requires c κs = search needs
-
 size-of-requires : tie.Need-size-of-requires
 size-of-requires c κs = search needs
 
 returns : tie.Need-returns
 unfolding typeNumber
-returns c = rw (← c .before .before .byte-at .ensures, ← c .before .size-of .ensures) (search order depth 12)
+returns c = rw (← c .before .size-of .ensures) (search order depth 12)
 
 returns-2 : tie.Need-returns-2
 unfolding typeNumber
-returns-2 c = rw (← c .before .before .before .byte-at .ensures, ← c .before .before .size-of .ensures) (search order depth 12)
+returns-2 c = rw (← c .before .before .size-of .ensures) (search order depth 12)
 
 mul-if3 : tie.Need-mul-if3
-mul-if3 c = omega (arith, size-most (c .before .before .before .byte-at .result))
-
-byte-at-requires-2 : tie.Need-byte-at-requires-2
-byte-at-requires-2 c κs = search needs
+mul-if3 c = omega (arith, size-most (c .before .before .before .args .kind))
 
 returns-3 : tie.Need-returns-3
 unfolding typeNumber
-returns-3 c = rw (← c .before .before .before .before .before .byte-at .ensures, ← c .before .before .before .before .size-of .ensures, ← c .before .byte-at2 .ensures) (search order depth 12)
+returns-3 c = rw (← c .before .before .before .size-of .ensures) (search order depth 12)
 
 returns-4 : tie.Need-returns-4
 unfolding typeNumber
-returns-4 c = rw (← c .before .before .before .before .before .byte-at .ensures, ← c .before .before .before .before .size-of .ensures, ← c .before .byte-at2 .ensures) (search order depth 12)
+returns-4 c = rw (← c .before .before .before .size-of .ensures) (search order depth 12)
 
 pub type-number-spec : {M : Type 1} → statement M
 type-number-spec =
-    tie.close
-    (tie.spec
-    byte-at-requires
-    size-of-requires
-    returns
-    returns-2
-    mul-if3
-    byte-at-requires-2
-    returns-3
-    returns-4)
+    tie.close (tie.spec size-of-requires returns returns-2 mul-if3 returns-3 returns-4)

@@ -23,15 +23,19 @@ enum-told-4 : tie.Need-enum-told-4
 enum-told-4 c = search needs
 
 returns : tie.Need-returns
+unfolding lengthOf
 returns c = c .block-len .ensures ∙ sym (ap (lengthOf _) (c .before .enum-told .given .1))
 
 returns-2 : tie.Need-returns-2
+unfolding lengthOf
 returns-2 c = c .block-len2 .ensures ∙ sym (ap (lengthOf _) (c .before .enum-told2 .given .1))
 
 returns-3 : tie.Need-returns-3
+unfolding lengthOf
 returns-3 c = search needs
 
 returns-4 : tie.Need-returns-4
+unfolding lengthOf
 returns-4 c = search needs
 
 pub length-of-spec : {M : Type 1} → statement M

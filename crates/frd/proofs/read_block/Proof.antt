@@ -3,11 +3,11 @@ use Rattle.frd.proofs.read_block.Statement.{statement}
 use Rattle.frd.proofs.read_block.Tie as tie
 use mathlib.Core.Path.{sym, _∙_}
 use Rattle.wire.proofs.Parts.{tail-part}
-use Rattle.frd.proofs.Cases.{at-past, at-within, block-read}
+use Rattle.frd.proofs.Cases.{at-past, at-within, block-means}
 use Rattle.frd.proofs.Alone.{block-alone}
 
 returns : tie.Need-returns
-returns c = (block-read _ _ _ _ _ (at-past _ _ _ _ (c .if1 .taken)), block-alone)
+returns c = (block-means _ _ _ _ _ (at-past _ _ _ _ (c .if1 .taken)), block-alone)
 
 sub-block-of : tie.Need-sub-block-of
 sub-block-of c = search needs
@@ -25,7 +25,7 @@ block-of-requires : tie.Need-block-of-requires
 block-of-requires c κs = search needs
 
 returns-2 : tie.Need-returns-2
-returns-2 c = (block-read _ _ _ _ _ ((rw (c .before .counter-of .ensures, tail-part) at (c .block-of .ensures)) ∙ sym (at-within _ _ _ _ (c .before .before .before .if1 .left))), block-alone)
+returns-2 c = (block-means _ _ _ _ _ ((rw (c .before .counter-of .ensures, tail-part) at (c .block-of .ensures)) ∙ sym (at-within _ _ _ _ (c .before .before .before .if1 .left))), block-alone)
 
 pub read-block-spec : {M : Type 1} → statement M
 read-block-spec =

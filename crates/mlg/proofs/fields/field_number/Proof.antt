@@ -6,8 +6,14 @@ use Rattle.mlg.specs.Fields.{fieldNumber}
 use Rattle.wire.proofs.Orders.{order}
 use Rattle.field.proofs.Layouts.{field-least}
 
+shared-slice-read-type-number : tie.Need-shared-slice-read-type-number
+shared-slice-read-type-number c = omega (arith, field-least (c .before .before .before .before .args .version))
+
+shared-slice-read-type-number-2 : tie.Need-shared-slice-read-type-number-2
+shared-slice-read-type-number-2 c = omega (arith, field-least (c .before .before .before .before .before .args .version))
+
 type-number-requires : tie.Need-type-number-requires
-type-number-requires c κs = omega (arith, field-least (c .before .before .before .args .version))
+type-number-requires c κs = search needs
 
 returns : tie.Need-returns
 unfolding fieldNumber
@@ -21,7 +27,7 @@ unfolding fieldNumber
 returns-2 c = search order depth 9
 
 names-number-requires : tie.Need-names-number-requires
-names-number-requires c κs = omega (arith, field-least (c .before .before .before .before .before .before .before .args .version))
+names-number-requires c κs = omega (arith, field-least (c .before .before .before .before .before .before .before .before .before .args .version))
 
 returns-3 : tie.Need-returns-3
 unfolding fieldNumber
@@ -31,6 +37,8 @@ pub field-number-spec : {M : Type 1} → statement M
 field-number-spec =
     tie.close
     (tie.spec
+    shared-slice-read-type-number
+    shared-slice-read-type-number-2
     type-number-requires
     returns
     texts-number-requires
