@@ -36,7 +36,7 @@ fn part(file: &[u8], start: usize, n: usize) {
 }
 
 // n bytes of a file in hexadecimal.
-fn record(file: &[u8], start: usize, n: u16) {
+pub(crate) fn record(file: &[u8], start: usize, n: u16) {
     if start <= file.len() {
         bytes(&file[start..], 0, n as usize);
     }

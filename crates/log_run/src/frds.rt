@@ -1,6 +1,7 @@
 // Headers and blocks of FRD, sound and damaged, and its writers.
 use crate::blocks::counter_mark;
-use crate::output::bytes;
+use crate::blocks::record;
+use crate::blocks::refused;
 use crate::output::labelled;
 use crate::output::number;
 use crate::output::text;
@@ -94,12 +95,6 @@ pub(crate) fn headers() {
     );
 }
 
-fn record(file: &[u8], start: usize, n: u16) {
-    if start <= file.len() {
-        bytes(&file[start..], 0, n as usize);
-    }
-}
-
 // What stands at a place, after the given number of earlier blocks.
 fn block_in(label: &[u8], file: &[u8], earlier: u64, at: usize) {
     text(label);
@@ -125,7 +120,7 @@ fn block_in(label: &[u8], file: &[u8], earlier: u64, at: usize) {
             counter_mark(right);
         }
         Block::End => text(b"end\n"),
-        Block::Refused { number, place } => crate::blocks::refused(number, place),
+        Block::Refused { number, place } => refused(number, place),
     }
 }
 
