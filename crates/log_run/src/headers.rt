@@ -147,9 +147,7 @@ pub(crate) fn faults() {
     fields_wrong();
 }
 
-// Two faults: the earlier number is given.
-pub(crate) fn orders() {
-    text(b"MLG header, two faults\n");
+fn numbers_order() {
     cut(b"20 of 23 bytes, before 21 wrong name: ", NAME, 78, 23);
     two(
         b"21 wrong name, before 22 version 1: ",
@@ -166,6 +164,9 @@ pub(crate) fn orders() {
         201,
     );
     two(b"23 info start, before 24 type: ", INFO_START, 213, TYPE, 8);
+}
+
+fn fields_order() {
     two(b"24 type, before 28 name: ", TYPE, 8, NAME_END, 120);
     two(b"24 bits, before 28 name: ", BITS, 9, BIT_NAME_END, 120);
     two(
@@ -203,4 +204,11 @@ pub(crate) fn orders() {
         INFO_END,
         120,
     );
+}
+
+// Two faults: the earlier number is given.
+pub(crate) fn orders() {
+    text(b"MLG header, two faults\n");
+    numbers_order();
+    fields_order();
 }

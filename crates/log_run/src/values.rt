@@ -175,6 +175,9 @@ fn shown_refused() {
     shown(b"30 S32: ", 5, b"\x3f\x80\0\0", b"", b"\0\0\0\x0a");
     shown(b"30 S64: ", 6, b"\x3f\x80\0\0", b"", b"\0\0\0\0\0\0\0\x0a");
     shown(b"30 8-bit field: ", 10, b"", b"", b"\x0a");
+}
+
+fn shown_not_finite() {
     shown(
         b"30 raw infinite: ",
         7,
@@ -218,4 +221,5 @@ pub(crate) fn shows() {
     text(b"shown values\n");
     shown_values();
     shown_refused();
+    shown_not_finite();
 }
