@@ -119,9 +119,7 @@ module _ (d : Directory) (m : List ℕ) (f g : Frame) (same-id : g .id ≡ f .id
 
   reply-same : (i : ℕ) (bs cs : List ℕ) → requestAt g i ≡ requestAt f i → bs ≡ cs → replyTo d g (requestAt g i) bs ≡ replyTo d f (requestAt f i) cs
   unfolding replyTo
-  reply-same i bs cs e h =
-      ap₂ (λ (x : ℕ) (q : Request). answerWith (frameOf (idOf (q .offset) rsp (d .own) (idFrom x) (q .table)) bs)) same-id e
-      ∙ ap (replyTo d f (requestAt f i)) h
+  reply-same i bs cs e h = cc
 
   -- frames that are not refused do the same
   act-same : serveNumber d (length m) f ≡ 0 → (actOf d m g ≡ actOf d m f) × (memoryAct d m g ≡ memoryAct d m f)
