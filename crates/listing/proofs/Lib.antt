@@ -2,3 +2,5 @@ pub mod Putting
 pub mod Digits
 pub mod Showing
 pub mod Integers
+pub mod Parts
+pub mod Rows

@@ -54,3 +54,19 @@ put-bytes out at bs after r e l n = record { counted = n; same = l; written = λ
 -- the same text under another name
 pub puts-as : {out after : List ℕ} {at r : ℕ} {s : List ℕ} (t : List ℕ) → s ≡ t → Puts out at s after r → Puts out at t after r
 puts-as t e p = rw e at p
+
+-- what is left of a text: whoever puts the rest has put all
+abbrev pub Completes : List ℕ → ℕ → List ℕ → List ℕ → ℕ → List ℕ → Type 0
+Completes out₀ at₀ all out at rest = (after : List ℕ) (r : ℕ) → Puts out at rest after r → Puts out₀ at₀ all after r
+
+pub whole : (out : List ℕ) (at : ℕ) (all : List ℕ) → Completes out at all out at all
+whole out at all = λ after r p. p
+
+pub onward : {out₀ all out mid s t u : List ℕ} {at₀ at m : ℕ} → Completes out₀ at₀ all out at u → u ≡ s ++ t → Puts out at s mid m → Completes out₀ at₀ all mid m t
+onward {t = t} k e q = λ after r p. k after r (rw e (then q p))
+
+pub complete : {out₀ all out rest : List ℕ} {at₀ at : ℕ} → Completes out₀ at₀ all out at rest → rest ≡ [] → Puts out₀ at₀ all out at
+complete {out = out} {at = at} k e = k out at (rw e (nothing out at))
+
+pub whole-as : (out : List ℕ) (at : ℕ) (all rest : List ℕ) → rest ≡ all → Completes out at all out at rest
+whole-as out at all rest e = λ after r p. rw e at p

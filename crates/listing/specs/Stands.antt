@@ -3,7 +3,7 @@ use Prim.Native.Nat.{ℕ, zero, suc, _+_, _≤_}
 use mathlib.Core.Path.{_≡_}
 use mathlib.Core.List.{List}
 use lib.ListN.{length, take, drop}
-use Rattle.field.specs.Layout.{fieldLen}
+use Rattle.field.specs.Layout.{headerLen, fieldLen}
 use Rattle.field.specs.Field.{fieldSize}
 use Rattle.field.specs.Raw.{valueNumber}
 use Rattle.mlg.specs.Header.{fieldsFrom}
@@ -19,7 +19,9 @@ Valued v (suc n) t b =
     × Valued v n (drop (fieldLen v) t) (drop (fieldSize (take (fieldLen v) t)) b)
 
 abbrev pub Stands : Header → List ℕ → Block → Type 0
-Stands h f (Data c m s r) = (s + h .size ≤ length f) × Valued (h .version) (h .count) (fieldsFrom f h) (take (h .size) (drop s f))
+Stands h f (Data c m s r) =
+    (headerLen (h .version) ≤ length f) × (s + h .size ≤ length f)
+    × Valued (h .version) (h .count) (fieldsFrom f h) (take (h .size) (drop s f))
 Stands h f (Mark c m s k r) = (s + k ≤ length f) × (k ≤ 50)
 Stands h f End = Unit
 Stands h f (Refused x place) = Unit

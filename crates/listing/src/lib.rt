@@ -1,4 +1,5 @@
 // The listing of an MLG as text.
+mod lines;
 mod text;
 
 ghost use mathlib.Core.Path.{_≡_};
