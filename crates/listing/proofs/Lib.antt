@@ -1,0 +1,6 @@
+pub mod Putting
+pub mod Digits
+pub mod Showing
+pub mod Integers
+pub mod Parts
+pub mod Rows

@@ -1,0 +1,45 @@
+use borrow.Author.Needs.{needs}
+use Rattle.listing.proofs.lines.put_end_line.Statement.{statement}
+use Rattle.listing.proofs.lines.put_end_line.Tie as tie
+use Rattle.listing.proofs.lines.put_end_line.Reads as reads
+use Rattle.listing.proofs.lines.put_end_line.Lts as lts
+use Rattle.listing.proofs.text.put_bytes.Reads as put-bytes-reads
+use Rattle.listing.proofs.text.put_decimal.Reads as put-decimal-reads
+use native.Mathlib.Omega.{arith}
+use mathlib.Core.Path.{_≡_, refl, sym, _∙_, ap}
+use Rattle.listing.specs.Lines.{headerLine, fieldLine, valueText, rightText, blockLine}
+use Rattle.listing.proofs.Putting.{puts-as, then, nothing}
+
+slice-aggregate-put-bytes : tie.Need-slice-aggregate-put-bytes
+slice-aggregate-put-bytes c = search needs
+
+put-bytes-requires : tie.Need-put-bytes-requires
+put-bytes-requires c κs = search needs
+
+put-decimal-requires : tie.Need-put-decimal-requires
+put-decimal-requires c κs = search needs
+
+slice-aggregate-put-bytes-2 : tie.Need-slice-aggregate-put-bytes-2
+slice-aggregate-put-bytes-2 c = search needs
+
+put-bytes-requires-2 : tie.Need-put-bytes-requires-2
+put-bytes-requires-2 c κs = search needs
+
+same-length : tie.Need-same-length
+same-length c = search needs
+
+returns : tie.Need-returns
+unfolding blockLine
+returns c = ((λ h f. then (then (c .before .before .before .before .before .before .before .before .before .before .before .put-bytes .ensures) (c .before .before .before .before .before .before .before .put-decimal .ensures .0)) (c .before .before .put-bytes2 .ensures)), omega arith)
+
+pub put-end-line-spec : {M : Type 1} → statement M
+put-end-line-spec =
+    tie.close
+    (tie.spec
+    slice-aggregate-put-bytes
+    put-bytes-requires
+    put-decimal-requires
+    slice-aggregate-put-bytes-2
+    put-bytes-requires-2
+    same-length
+    returns)

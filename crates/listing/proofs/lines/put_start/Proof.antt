@@ -1,0 +1,48 @@
+use borrow.Author.Needs.{needs}
+use Rattle.listing.proofs.lines.put_start.Statement.{statement}
+use Rattle.listing.proofs.lines.put_start.Tie as tie
+use Rattle.listing.proofs.lines.put_start.Reads as reads
+use Rattle.listing.proofs.lines.put_start.Lts as lts
+use Rattle.listing.proofs.text.put_bytes.Reads as put-bytes-reads
+use Rattle.listing.proofs.text.put_decimal.Reads as put-decimal-reads
+use native.Mathlib.Omega.{arith}
+use mathlib.Core.Path.{_≡_, refl, sym, _∙_, ap}
+use Rattle.listing.specs.Lines.{headerLine, fieldLine, valueText, rightText, blockLine}
+use Rattle.listing.proofs.Putting.{puts-as, then, nothing}
+
+put-decimal-requires : tie.Need-put-decimal-requires
+put-decimal-requires c κs = search needs
+
+put-bytes-requires : tie.Need-put-bytes-requires
+put-bytes-requires c κs = search needs
+
+put-decimal-requires-2 : tie.Need-put-decimal-requires-2
+put-decimal-requires-2 c κs = search needs
+
+slice-aggregate-put-bytes : tie.Need-slice-aggregate-put-bytes
+slice-aggregate-put-bytes c = search needs
+
+put-bytes-requires-2 : tie.Need-put-bytes-requires-2
+put-bytes-requires-2 c κs = search needs
+
+put-decimal-requires-3 : tie.Need-put-decimal-requires-3
+put-decimal-requires-3 c κs = search needs
+
+same-length : tie.Need-same-length
+same-length c = search needs
+
+returns : tie.Need-returns
+returns c = (then (then (then (then (c .before .before .before .before .before .before .before .before .before .before .before .before .before .before .before .before .before .before .before .put-decimal .ensures .0) (c .before .before .before .before .before .before .before .before .before .before .before .before .before .before .before .put-bytes .ensures)) (c .before .before .before .before .before .before .before .before .before .before .before .put-decimal2 .ensures .0)) (c .before .before .before .before .before .before .put-bytes2 .ensures)) (c .before .before .put-decimal3 .ensures .0), omega arith)
+
+pub put-start-spec : {M : Type 1} → statement M
+put-start-spec =
+    tie.close
+    (tie.spec
+    put-decimal-requires
+    put-bytes-requires
+    put-decimal-requires-2
+    slice-aggregate-put-bytes
+    put-bytes-requires-2
+    put-decimal-requires-3
+    same-length
+    returns)

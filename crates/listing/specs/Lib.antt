@@ -1,0 +1,5 @@
+pub mod Text
+pub mod Lines
+pub mod Listing
+pub mod Puts
+pub mod Stands

@@ -1,0 +1,37 @@
+-- The listing of a file. 01: "The program `loglist` reads an MLG of at most 65,536 bytes from standard input (longer: it prints `too long`)."
+use Prim.Native.Nat.{ℕ, _+_}
+use mathlib.Core.Bool.{cond}
+use mathlib.Core.List.{List, _++_}
+use lib.Dec.{ltb}
+use lib.ListN.{length}
+use Rattle.wire.specs.Order.{_if_else_}
+use Rattle.mlg.specs.Header.{headerOf, fieldsFrom}
+use Rattle.mlg.specs.Log.{Log, logOf}
+use Rattle.mlg.specs.declared.Header.{Header}
+use Rattle.mlg.specs.declared.Head.{Head}
+use Rattle.mlg.specs.declared.Head.the-variants.{Is, Refused}
+use Rattle.mlg.specs.declared.Block.the-variants as block
+use Rattle.listing.specs.Lines.{headerLine, fieldLines, blockLine, blockLines, tooLong}
+
+-- the blocks of a log after n earlier ones, one by one, then what ends it: the end or a refusal
+unfoldable pub logLines : Header → List ℕ → ℕ → Log → List ℕ
+logLines h f n log = blockLines h f n (log .blocks) ++ blockLine h f (n + length (log .blocks)) (log .ending)
+
+-- a header's line, its fields' and its log's
+unfoldable pub headedLines : Header → List ℕ → List ℕ
+headedLines h f =
+    headerLine h
+    ++ fieldLines (h .version) 0 (h .count) (fieldsFrom f h)
+    ++ logLines h f 0 (logOf (h .size) f (h .begin))
+
+-- what a whole file lists; a header's refusal stands at place 0, alone
+unfoldable pub headLines : List ℕ → Head → List ℕ
+headLines f (Is h) = headedLines h f
+headLines f (Refused x) = blockLine (record { version = 0; time = 0; info = 0; begin = 0; size = 0; count = 0 }) f 0 (block.Refused x 0)
+
+unfoldable pub listingOf : List ℕ → List ℕ
+listingOf f = cond (ltb 65536 (length f)) tooLong (headLines f (headerOf f))
+
+-- a listing that does not fit its output is 27
+unfoldable pub listingNumber : List ℕ → ℕ → ℕ
+listingNumber f room = 27 if ltb room (length (listingOf f)) else 0

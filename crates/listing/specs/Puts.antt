@@ -1,0 +1,11 @@
+-- What a function does that puts a text at a place of its output, where it fits, and hands back the place after the text.
+use Prim.Native.Nat.{ℕ, _+_, _≤_}
+use mathlib.Core.Path.{_≡_}
+use mathlib.Core.List.{List}
+use lib.ListN.{length}
+use Rattle.wire.specs.Put.{putAt}
+
+pub record Puts (out : List ℕ) (at : ℕ) (text : List ℕ) (after : List ℕ) (next : ℕ) : Type 0 where
+  pub counted : next ≡ at + length text
+  pub same : length after ≡ length out
+  pub written : at + length text ≤ length out → after ≡ putAt out at text

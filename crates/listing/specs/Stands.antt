@@ -1,0 +1,27 @@
+-- What the line of a block relies on: its parts lie within the file, and its raw values are not refused.
+use Prim.Native.Nat.{ℕ, zero, suc, _+_, _≤_}
+use mathlib.Core.Path.{_≡_}
+use mathlib.Core.List.{List}
+use lib.ListN.{length, take, drop}
+use Rattle.field.specs.Layout.{headerLen, fieldLen}
+use Rattle.field.specs.Field.{fieldSize}
+use Rattle.field.specs.Raw.{valueNumber}
+use Rattle.mlg.specs.Header.{fieldsFrom}
+use Rattle.mlg.specs.declared.Header.{Header}
+use Rattle.mlg.specs.declared.Block.{Block}
+use Rattle.mlg.specs.declared.Block.the-variants.{Data, Mark, End, Refused}
+
+-- n fields, whose bytes begin t and whose raw bytes begin b
+abbrev pub Valued : ℕ → ℕ → List ℕ → List ℕ → Type 0
+Valued v zero t b = Unit
+Valued v (suc n) t b =
+    (valueNumber 2 (take (fieldLen v) t) (take (fieldSize (take (fieldLen v) t)) b) ≡ 0)
+    × Valued v n (drop (fieldLen v) t) (drop (fieldSize (take (fieldLen v) t)) b)
+
+abbrev pub Stands : Header → List ℕ → Block → Type 0
+Stands h f (Data c m s r) =
+    (headerLen (h .version) ≤ length f) × (s + h .size ≤ length f)
+    × Valued (h .version) (h .count) (fieldsFrom f h) (take (h .size) (drop s f))
+Stands h f (Mark c m s k r) = (s + k ≤ length f) × (k ≤ 50)
+Stands h f End = Unit
+Stands h f (Refused x place) = Unit

@@ -1,0 +1,205 @@
+// The lines of a listing.
+use crate::text::put_bytes;
+use crate::text::put_decimal;
+use crate::text::put_integer;
+use crate::text::put_shown;
+use field::RawValue;
+use mlg::Block;
+use mlg::Header;
+ghost use mathlib.Core.Path.{_≡_};
+ghost use mathlib.Core.List.{List, _++_};
+ghost use Prim.Native.Nat.{ℕ, _+_, _*_, _≤_, _^_};
+ghost use lib.ListN.{length, take, drop};
+ghost use Rattle.field.specs.Layout.{fieldLen};
+ghost use Rattle.field.specs.Raw.{valueNumber};
+ghost use Rattle.mlg.specs.Header.{fieldsFrom};
+ghost use Rattle.mlg.specs.declared.Header.{Header};
+ghost use Rattle.mlg.specs.declared.Block.the-variants.{Data, Mark, End, Refused};
+ghost use Rattle.listing.specs.Text.{decimal, shown};
+ghost use Rattle.listing.specs.Lines.{space, headerLine, nameOf, fieldLine, fieldLines, valueText, valuesText, rightText, blockLine};
+ghost use Rattle.listing.specs.Puts.{Puts};
+ghost use Rattle.listing.specs.Stands.{Valued, Stands};
+
+// `fields N record L`
+pub fn put_header_line(out: &mut [u8], at: usize, h: Header) -> usize
+    requires { ⌜ at ≤ 2 ^ 60 ⌝ }
+    ensures { λ r. ⌜ Puts (now (out .entry)) at (headerLine h) (now (out .exit)) r × (r ≤ at + 100) ⌝ }
+{
+    let a = put_bytes(out, at, b"fields ");
+    let b = put_decimal(out, a, h.count as u64);
+    let c = put_bytes(out, b, b" record ");
+    let d = put_decimal(out, c, h.size as u64);
+    put_bytes(out, d, b"\n")
+}
+
+// A field's name, as it is shown.
+fn put_name(out: &mut [u8], at: usize, field: &[u8]) -> usize
+    requires { ⌜ (at ≤ 2 ^ 60) × (35 ≤ length (now field)) ⌝ }
+    ensures { λ r. ⌜ Puts (now (out .entry)) at (shown (nameOf (now (field .entry)))) (now (out .exit)) r × (r ≤ at + 50) ⌝ }
+{
+    let len = wire::text_len(&field[1..35]);
+    put_shown(out, at, &field[1..1 + len])
+}
+
+// `field I T NAME`
+fn put_field_line(out: &mut [u8], at: usize, index: u16, field: &[u8]) -> usize
+    requires { ⌜ (at ≤ 2 ^ 59) × (35 ≤ length (now field)) ⌝ }
+    ensures { λ r. ⌜ Puts (now (out .entry)) at (fieldLine index (now (field .entry))) (now (out .exit)) r × (r ≤ at + 100) ⌝ }
+{
+    let kind = field[0] as u64;
+    let a = put_bytes(out, at, b"field ");
+    let b = put_decimal(out, a, index as u64);
+    let c = put_bytes(out, b, b" ");
+    let d = put_decimal(out, c, kind);
+    let e = put_bytes(out, d, b" ");
+    let f = put_name(out, e, field);
+    put_bytes(out, f, b"\n")
+}
+
+// The lines of the first fields of these bytes.
+pub fn put_field_lines(out: &mut [u8], at: usize, version: u16, count: u16, fields: &[u8]) -> usize
+    requires { ⌜ (at ≤ 2 ^ 50) × (fieldLen version * count ≤ length (now fields)) ⌝ }
+    ensures { λ r. ⌜ Puts (now (out .entry)) at (fieldLines version 0 count (now (fields .entry))) (now (out .exit)) r × (r ≤ at + 6553500) ⌝ }
+{
+    let layout = field::layout_of(version);
+    let len = layout.field;
+    let mut place: usize = 0;
+    let mut index: u16 = 0;
+    let mut next = at;
+    while index < count {
+        next = put_field_line(out, next, index, &fields[place..place + len]);
+        place += len;
+        index += 1;
+    }
+    next
+}
+
+// A space and a raw value.
+fn put_value(out: &mut [u8], at: usize, field: &[u8], raw: &[u8]) -> usize
+    requires { ⌜ (at ≤ 2 ^ 60) × (valueNumber 2 (now field) (now raw) ≡ 0) ⌝ }
+    ensures { λ r. ⌜ Puts (now (out .entry)) at (valueText (now (field .entry)) (now (raw .entry))) (now (out .exit)) r × (r ≤ at + 22) ⌝ }
+{
+    let value = field::raw_value(field, raw);
+    let RawValue::Is(z) = value else {
+        return at;
+    };
+    let a = put_bytes(out, at, b" ");
+    put_integer(out, a, z)
+}
+
+// The raw values of the first fields of these bytes.
+fn put_values(out: &mut [u8], at: usize, version: u16, count: u16, fields: &[u8], bytes: &[u8]) -> usize
+    requires { ⌜ (at ≤ 2 ^ 50) × Valued version count (now fields) (now bytes) ⌝ }
+    ensures { λ r. ⌜ Puts (now (out .entry)) at (valuesText version count (now (fields .entry)) (now (bytes .entry))) (now (out .exit)) r × (r ≤ at + 1441770) ⌝ }
+{
+    let layout = field::layout_of(version);
+    let len = layout.field;
+    let mut place: usize = 0;
+    let mut start: usize = 0;
+    let mut left = count;
+    let mut next = at;
+    while left != 0 {
+        let d = &fields[place..place + len];
+        let size = field::size_of(d[0]) as usize;
+        next = put_value(out, next, d, &bytes[start..start + size]);
+        place += len;
+        start += size;
+        left -= 1;
+    }
+    next
+}
+
+// ` !` for a wrong counter.
+fn put_right(out: &mut [u8], at: usize, right: bool) -> usize
+    requires { ⌜ at ≤ 2 ^ 60 ⌝ }
+    ensures { λ r. ⌜ Puts (now (out .entry)) at (rightText right) (now (out .exit)) r × (r ≤ at + 2) ⌝ }
+{
+    if right {
+        return at;
+    }
+    put_bytes(out, at, b" !")
+}
+
+// A block's number, kind, counter and time.
+fn put_start(out: &mut [u8], at: usize, n: u64, kind: &[u8], counter: u8, time: u16) -> usize
+    requires { ⌜ (at ≤ 2 ^ 55) × (length (now kind) ≤ 6) ⌝ }
+    ensures { λ r. ⌜ Puts (now (out .entry)) at (decimal n ++ now (kind .entry) ++ decimal counter ++ space ++ decimal time) (now (out .exit)) r × (r ≤ at + 100) ⌝ }
+{
+    let a = put_decimal(out, at, n);
+    let b = put_bytes(out, a, kind);
+    let c = put_decimal(out, b, counter as u64);
+    let d = put_bytes(out, c, b" ");
+    put_decimal(out, d, time as u64)
+}
+
+// `N data C T VALUES`
+fn put_data_line(out: &mut [u8], at: usize, file: &[u8], h: Header, n: u64, counter: u8, time: u16, start: usize, right: bool) -> usize
+    requires { ⌜ (at ≤ 2 ^ 49) × Stands h (now file) (Data counter time start right) ⌝ }
+    ensures { λ r. ⌜ Puts (now (out .entry)) at (blockLine h (now (file .entry)) n (Data counter time start right)) (now (out .exit)) r × (r ≤ at + 2000000) ⌝ }
+{
+    let layout = field::layout_of(h.version);
+    let fields = layout.header;
+    let size = h.size as usize;
+    let a = put_start(out, at, n, b" data ", counter, time);
+    let b = put_values(out, a, h.version, h.count, &file[fields..], &file[start..start + size]);
+    let c = put_right(out, b, right);
+    put_bytes(out, c, b"\n")
+}
+
+// `N mark C T TEXT`
+fn put_mark_line(out: &mut [u8], at: usize, file: &[u8], h: Header, n: u64, counter: u8, time: u16, start: usize, len: usize, right: bool) -> usize
+    requires { ⌜ (at ≤ 2 ^ 49) × Stands h (now file) (Mark counter time start len right) ⌝ }
+    ensures { λ r. ⌜ Puts (now (out .entry)) at (blockLine h (now (file .entry)) n (Mark counter time start len right)) (now (out .exit)) r × (r ≤ at + 2000000) ⌝ }
+{
+    let a = put_start(out, at, n, b" mark ", counter, time);
+    let b = put_bytes(out, a, b" ");
+    let c = put_shown(out, b, &file[start..start + len]);
+    let d = put_right(out, c, right);
+    put_bytes(out, d, b"\n")
+}
+
+// `end N`
+fn put_end_line(out: &mut [u8], at: usize, n: u64) -> usize
+    requires { ⌜ at ≤ 2 ^ 49 ⌝ }
+    ensures { λ r. ⌜ ((h : Header) (f : List ℕ) → Puts (now (out .entry)) at (blockLine h f n End) (now (out .exit)) r) × (r ≤ at + 100) ⌝ }
+{
+    let a = put_bytes(out, at, b"end ");
+    let b = put_decimal(out, a, n);
+    put_bytes(out, b, b"\n")
+}
+
+// `refused N at PLACE`
+pub fn put_refused_line(out: &mut [u8], at: usize, number: u8, place: usize) -> usize
+    requires { ⌜ at ≤ 2 ^ 49 ⌝ }
+    ensures { λ r. ⌜ ((h : Header) (f : List ℕ) (n : ℕ) → Puts (now (out .entry)) at (blockLine h f n (Refused number place)) (now (out .exit)) r) × (r ≤ at + 100) ⌝ }
+{
+    let a = put_bytes(out, at, b"refused ");
+    let b = put_decimal(out, a, number as u64);
+    let c = put_bytes(out, b, b" at ");
+    let d = put_decimal(out, c, place as u64);
+    put_bytes(out, d, b"\n")
+}
+
+// The line of a block, of the end or of a refusal.
+pub fn put_block_line(out: &mut [u8], at: usize, file: &[u8], h: Header, n: u64, b: Block) -> usize
+    requires { ⌜ (at ≤ 2 ^ 49) × Stands h (now file) b ⌝ }
+    ensures { λ r. ⌜ Puts (now (out .entry)) at (blockLine h (now (file .entry)) n b) (now (out .exit)) r × (r ≤ at + 2000000) ⌝ }
+{
+    match b {
+        Block::Data {
+            counter,
+            time,
+            start,
+            right,
+        } => put_data_line(out, at, file, h, n, counter, time, start, right),
+        Block::Mark {
+            counter,
+            time,
+            start,
+            len,
+            right,
+        } => put_mark_line(out, at, file, h, n, counter, time, start, len, right),
+        Block::End => put_end_line(out, at, n),
+        Block::Refused { number, place } => put_refused_line(out, at, number, place),
+    }
+}
