@@ -16,11 +16,11 @@ use Rattle.wire.proofs.Texts.{text-most}
 use Rattle.wire.proofs.Parts.{take-length-le}
 use Rattle.field.specs.Field.{typeOf, nameAt, nameLen}
 use Rattle.field.specs.Raw.{valueNumber, rawOf, rawAt}
-use Rattle.field.specs.Answer.{answer}
+use Rattle.wire.specs.Answer.{answer}
 use Rattle.field.specs.declared.RawValue.{RawValue}
 use Rattle.field.specs.declared.RawValue.the-variants as R
 use Rattle.field.proofs.RawValue.{the-type}
-use Rattle.field.proofs.Answers.{stands}
+use Rattle.wire.proofs.Answers.{stands}
 use Rattle.mlg.specs.declared.Block.{Block}
 use Rattle.mlg.specs.declared.Block.the-variants.{Data, Mark, End, Refused}
 use Rattle.mlg.proofs.Block as block

@@ -21,7 +21,7 @@ ghost use Rattle.listing.specs.Puts.{Puts};
 ghost use Rattle.listing.specs.Stands.{Valued, Stands};
 
 // `fields N record L`
-pub fn put_header_line(out: &mut [u8], at: usize, h: Header) -> usize
+pub(crate) fn put_header_line(out: &mut [u8], at: usize, h: Header) -> usize
     requires { ⌜ at ≤ 2 ^ 60 ⌝ }
     ensures { λ r. ⌜ Puts (now (out .entry)) at (headerLine h) (now (out .exit)) r × (r ≤ at + 100) ⌝ }
 {
@@ -57,7 +57,13 @@ fn put_field_line(out: &mut [u8], at: usize, index: u16, field: &[u8]) -> usize
 }
 
 // The lines of the first fields of these bytes.
-pub fn put_field_lines(out: &mut [u8], at: usize, version: u16, count: u16, fields: &[u8]) -> usize
+pub(crate) fn put_field_lines(
+    out: &mut [u8],
+    at: usize,
+    version: u16,
+    count: u16,
+    fields: &[u8],
+) -> usize
     requires { ⌜ (at ≤ 2 ^ 50) × (fieldLen version * count ≤ length (now fields)) ⌝ }
     ensures { λ r. ⌜ Puts (now (out .entry)) at (fieldLines version 0 count (now (fields .entry))) (now (out .exit)) r × (r ≤ at + 6553500) ⌝ }
 {
@@ -88,7 +94,14 @@ fn put_value(out: &mut [u8], at: usize, field: &[u8], raw: &[u8]) -> usize
 }
 
 // The raw values of the first fields of these bytes.
-fn put_values(out: &mut [u8], at: usize, version: u16, count: u16, fields: &[u8], bytes: &[u8]) -> usize
+fn put_values(
+    out: &mut [u8],
+    at: usize,
+    version: u16,
+    count: u16,
+    fields: &[u8],
+    bytes: &[u8],
+) -> usize
     requires { ⌜ (at ≤ 2 ^ 50) × Valued version count (now fields) (now bytes) ⌝ }
     ensures { λ r. ⌜ Puts (now (out .entry)) at (valuesText version count (now (fields .entry)) (now (bytes .entry))) (now (out .exit)) r × (r ≤ at + 1441770) ⌝ }
 {
@@ -133,7 +146,17 @@ fn put_start(out: &mut [u8], at: usize, n: u64, kind: &[u8], counter: u8, time: 
 }
 
 // `N data C T VALUES`
-fn put_data_line(out: &mut [u8], at: usize, file: &[u8], h: Header, n: u64, counter: u8, time: u16, start: usize, right: bool) -> usize
+fn put_data_line(
+    out: &mut [u8],
+    at: usize,
+    file: &[u8],
+    h: Header,
+    n: u64,
+    counter: u8,
+    time: u16,
+    start: usize,
+    right: bool,
+) -> usize
     requires { ⌜ (at ≤ 2 ^ 49) × Stands h (now file) (Data counter time start right) ⌝ }
     ensures { λ r. ⌜ Puts (now (out .entry)) at (blockLine h (now (file .entry)) n (Data counter time start right)) (now (out .exit)) r × (r ≤ at + 2000000) ⌝ }
 {
@@ -141,13 +164,31 @@ fn put_data_line(out: &mut [u8], at: usize, file: &[u8], h: Header, n: u64, coun
     let fields = layout.header;
     let size = h.size as usize;
     let a = put_start(out, at, n, b" data ", counter, time);
-    let b = put_values(out, a, h.version, h.count, &file[fields..], &file[start..start + size]);
+    let b = put_values(
+        out,
+        a,
+        h.version,
+        h.count,
+        &file[fields..],
+        &file[start..start + size],
+    );
     let c = put_right(out, b, right);
     put_bytes(out, c, b"\n")
 }
 
 // `N mark C T TEXT`
-fn put_mark_line(out: &mut [u8], at: usize, file: &[u8], h: Header, n: u64, counter: u8, time: u16, start: usize, len: usize, right: bool) -> usize
+fn put_mark_line(
+    out: &mut [u8],
+    at: usize,
+    file: &[u8],
+    h: Header,
+    n: u64,
+    counter: u8,
+    time: u16,
+    start: usize,
+    len: usize,
+    right: bool,
+) -> usize
     requires { ⌜ (at ≤ 2 ^ 49) × Stands h (now file) (Mark counter time start len right) ⌝ }
     ensures { λ r. ⌜ Puts (now (out .entry)) at (blockLine h (now (file .entry)) n (Mark counter time start len right)) (now (out .exit)) r × (r ≤ at + 2000000) ⌝ }
 {
@@ -169,7 +210,7 @@ fn put_end_line(out: &mut [u8], at: usize, n: u64) -> usize
 }
 
 // `refused N at PLACE`
-pub fn put_refused_line(out: &mut [u8], at: usize, number: u8, place: usize) -> usize
+pub(crate) fn put_refused_line(out: &mut [u8], at: usize, number: u8, place: usize) -> usize
     requires { ⌜ at ≤ 2 ^ 49 ⌝ }
     ensures { λ r. ⌜ ((h : Header) (f : List ℕ) (n : ℕ) → Puts (now (out .entry)) at (blockLine h f n (Refused number place)) (now (out .exit)) r) × (r ≤ at + 100) ⌝ }
 {
@@ -181,7 +222,14 @@ pub fn put_refused_line(out: &mut [u8], at: usize, number: u8, place: usize) -> 
 }
 
 // The line of a block, of the end or of a refusal.
-pub fn put_block_line(out: &mut [u8], at: usize, file: &[u8], h: Header, n: u64, b: Block) -> usize
+pub(crate) fn put_block_line(
+    out: &mut [u8],
+    at: usize,
+    file: &[u8],
+    h: Header,
+    n: u64,
+    b: Block,
+) -> usize
     requires { ⌜ (at ≤ 2 ^ 49) × Stands h (now file) b ⌝ }
     ensures { λ r. ⌜ Puts (now (out .entry)) at (blockLine h (now (file .entry)) n b) (now (out .exit)) r × (r ≤ at + 2000000) ⌝ }
 {

@@ -7,7 +7,7 @@ ghost use Rattle.listing.specs.Text.{decimal, integer, shownByte, shown}
 ghost use Rattle.listing.specs.Puts.{Puts};
 
 // Puts bytes at a place, where they fit, and hands back the place after them.
-pub fn put_bytes(out: &mut [u8], at: usize, bytes: &[u8]) -> usize
+pub(crate) fn put_bytes(out: &mut [u8], at: usize, bytes: &[u8]) -> usize
     requires { ⌜ at + length (now bytes) < 2 ^ 64 ⌝ }
     ensures { λ r. ⌜ Puts (now (out .entry)) at (now (bytes .entry)) (now (out .exit)) r ⌝ }
 {
@@ -16,7 +16,7 @@ pub fn put_bytes(out: &mut [u8], at: usize, bytes: &[u8]) -> usize
 }
 
 // Puts a number in decimal digits.
-pub fn put_decimal(out: &mut [u8], at: usize, x: u64) -> usize
+pub(crate) fn put_decimal(out: &mut [u8], at: usize, x: u64) -> usize
     requires { ⌜ at ≤ 2 ^ 62 ⌝ }
     ensures { λ r. ⌜ Puts (now (out .entry)) at (decimal x) (now (out .exit)) r × (r ≤ at + 20) ⌝ }
 {
@@ -44,7 +44,7 @@ fn magnitude(z: i64) -> u64
 }
 
 // Puts an integer, with `-` before a negative one.
-pub fn put_integer(out: &mut [u8], at: usize, z: i64) -> usize
+pub(crate) fn put_integer(out: &mut [u8], at: usize, z: i64) -> usize
     requires { ⌜ at ≤ 2 ^ 61 ⌝ }
     ensures { λ r. ⌜ Puts (now (out .entry)) at (integer z) (now (out .exit)) r × (r ≤ at + 21) ⌝ }
 {
@@ -84,7 +84,7 @@ fn shown_text(text: &[u8]) -> [u8; 50]
 }
 
 // Puts a text of at most 50 bytes as it is shown.
-pub fn put_shown(out: &mut [u8], at: usize, text: &[u8]) -> usize
+pub(crate) fn put_shown(out: &mut [u8], at: usize, text: &[u8]) -> usize
     requires { ⌜ (at ≤ 2 ^ 62) × (length (now text) ≤ 50) ⌝ }
     ensures { λ r. ⌜ Puts (now (out .entry)) at (shown (now (text .entry))) (now (out .exit)) r × (r ≤ at + 50) ⌝ }
 {
