@@ -6,3 +6,4 @@ pub mod Parts
 pub mod Rows
 pub mod Heads
 pub mod LogLines
+pub mod Listed

@@ -19,10 +19,10 @@ put-put out at s t h =
     let a : length (take at out) ≡ at = length-take-le at out (omega arith) in
     let p : length (take at out ++ s) ≡ at + length s = length-append (take at out) s ∙ ap (λ (n : ℕ). n + length s) a in
     let d : drop (at + length s + length t) (take at out ++ s ++ drop (at + length s) out) ≡ drop (at + length (s ++ t)) out =
-            ap (λ (n : ℕ). drop (n + length t) (take at out ++ s ++ drop (at + length s) out)) (sym p)
-            ∙ drop-append-add (take at out ++ s) (drop (at + length s) out) (length t)
-            ∙ drop-drop (length t) (at + length s) out
-            ∙ ap (λ (n : ℕ). drop n out) k in
+    ap (λ (n : ℕ). drop (n + length t) (take at out ++ s ++ drop (at + length s) out)) (sym p)
+    ∙ drop-append-add (take at out ++ s) (drop (at + length s) out) (length t)
+    ∙ drop-drop (length t) (at + length s) out
+    ∙ ap (λ (n : ℕ). drop n out) k in
     rw (take-at (take at out ++ s) (drop (at + length s) out) (at + length s) p, d, append-assoc (take at out) s t)
 
 -- putting a text, then another
@@ -33,10 +33,10 @@ then {out} {mid} {after} {at} {m} {r} {s} {t} p q =
       counted = omega (arith, p .counted, q .counted);
       same = q .same ∙ p .same;
       written =
-        λ (h : at + length (s ++ t) ≤ length out).
-        let w : mid ≡ putAt out at s = p .written (omega arith) in
-        let x : after ≡ putAt mid m t = q .written (omega (arith, p .counted, p .same)) in
-        x ∙ rw (w, p .counted) (put-put out at s t h);
+          λ (h : at + length (s ++ t) ≤ length out).
+          let w : mid ≡ putAt out at s = p .written (omega arith) in
+          let x : after ≡ putAt mid m t = q .written (omega (arith, p .counted, p .same)) in
+          x ∙ rw (w, p .counted) (put-put out at s t h);
     }
 
 put-nothing : (out : List ℕ) (at : ℕ) → at + 0 ≤ length out → out ≡ putAt out at []

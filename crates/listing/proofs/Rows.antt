@@ -53,7 +53,7 @@ module _ (v n : ℕ) (t b : List ℕ) (h : n ≡ 0 → ⊥) where
 
 -- at places of the fields' bytes and the record's
 module _ (v n : ℕ) (fields bytes : List ℕ) (place start len size : ℕ) (h : n ≡ 0 → ⊥) (l : len ≡ fieldLen v)
-  (s : size ≡ fieldSize (take (place + len - place) (drop place fields))) where
+    (s : size ≡ fieldSize (take (place + len - place) (drop place fields))) where
   field-part : take (place + len - place) (drop place fields) ≡ take (fieldLen v) (drop place fields)
   field-part = part-is fields place len (fieldLen v) l
 

@@ -88,7 +88,14 @@ fn put_value(out: &mut [u8], at: usize, field: &[u8], raw: &[u8]) -> usize
 }
 
 // The raw values of the first fields of these bytes.
-fn put_values(out: &mut [u8], at: usize, version: u16, count: u16, fields: &[u8], bytes: &[u8]) -> usize
+fn put_values(
+    out: &mut [u8],
+    at: usize,
+    version: u16,
+    count: u16,
+    fields: &[u8],
+    bytes: &[u8],
+) -> usize
     requires { ⌜ (at ≤ 2 ^ 50) × Valued version count (now fields) (now bytes) ⌝ }
     ensures { λ r. ⌜ Puts (now (out .entry)) at (valuesText version count (now (fields .entry)) (now (bytes .entry))) (now (out .exit)) r × (r ≤ at + 1441770) ⌝ }
 {
@@ -133,7 +140,17 @@ fn put_start(out: &mut [u8], at: usize, n: u64, kind: &[u8], counter: u8, time: 
 }
 
 // `N data C T VALUES`
-fn put_data_line(out: &mut [u8], at: usize, file: &[u8], h: Header, n: u64, counter: u8, time: u16, start: usize, right: bool) -> usize
+fn put_data_line(
+    out: &mut [u8],
+    at: usize,
+    file: &[u8],
+    h: Header,
+    n: u64,
+    counter: u8,
+    time: u16,
+    start: usize,
+    right: bool,
+) -> usize
     requires { ⌜ (at ≤ 2 ^ 49) × Stands h (now file) (Data counter time start right) ⌝ }
     ensures { λ r. ⌜ Puts (now (out .entry)) at (blockLine h (now (file .entry)) n (Data counter time start right)) (now (out .exit)) r × (r ≤ at + 2000000) ⌝ }
 {
@@ -141,13 +158,31 @@ fn put_data_line(out: &mut [u8], at: usize, file: &[u8], h: Header, n: u64, coun
     let fields = layout.header;
     let size = h.size as usize;
     let a = put_start(out, at, n, b" data ", counter, time);
-    let b = put_values(out, a, h.version, h.count, &file[fields..], &file[start..start + size]);
+    let b = put_values(
+        out,
+        a,
+        h.version,
+        h.count,
+        &file[fields..],
+        &file[start..start + size],
+    );
     let c = put_right(out, b, right);
     put_bytes(out, c, b"\n")
 }
 
 // `N mark C T TEXT`
-fn put_mark_line(out: &mut [u8], at: usize, file: &[u8], h: Header, n: u64, counter: u8, time: u16, start: usize, len: usize, right: bool) -> usize
+fn put_mark_line(
+    out: &mut [u8],
+    at: usize,
+    file: &[u8],
+    h: Header,
+    n: u64,
+    counter: u8,
+    time: u16,
+    start: usize,
+    len: usize,
+    right: bool,
+) -> usize
     requires { ⌜ (at ≤ 2 ^ 49) × Stands h (now file) (Mark counter time start len right) ⌝ }
     ensures { λ r. ⌜ Puts (now (out .entry)) at (blockLine h (now (file .entry)) n (Mark counter time start len right)) (now (out .exit)) r × (r ≤ at + 2000000) ⌝ }
 {
