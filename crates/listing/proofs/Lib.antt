@@ -4,3 +4,6 @@ pub mod Showing
 pub mod Integers
 pub mod Parts
 pub mod Rows
+pub mod Heads
+pub mod LogLines
+pub mod Listed

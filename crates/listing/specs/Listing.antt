@@ -5,7 +5,7 @@ use mathlib.Core.List.{List, _++_}
 use lib.Dec.{ltb}
 use lib.ListN.{length}
 use Rattle.wire.specs.Order.{_if_else_}
-use Rattle.mlg.specs.Header.{headerOf, fieldsFrom}
+use Rattle.mlg.specs.Header.{headerOf, fieldsFrom, noHeader}
 use Rattle.mlg.specs.Log.{Log, logOf}
 use Rattle.mlg.specs.declared.Header.{Header}
 use Rattle.mlg.specs.declared.Head.{Head}
@@ -27,7 +27,7 @@ headedLines h f =
 -- what a whole file lists; a header's refusal stands at place 0, alone
 unfoldable pub headLines : List ℕ → Head → List ℕ
 headLines f (Is h) = headedLines h f
-headLines f (Refused x) = blockLine (record { version = 0; time = 0; info = 0; begin = 0; size = 0; count = 0 }) f 0 (block.Refused x 0)
+headLines f (Refused x) = blockLine noHeader f 0 (block.Refused x 0)
 
 unfoldable pub listingOf : List ℕ → List ℕ
 listingOf f = cond (ltb 65536 (length f)) tooLong (headLines f (headerOf f))
