@@ -9,26 +9,22 @@ use borrow.Author.Tests.{eqb-true, eq-eqb, not-false}
 use lib.Dec.{eqb}
 use lib.ListN.{length, take, drop, length-take, length-drop}
 use lib.Seq.{length-take-le}
+use Rattle.wire.proofs.Answers.{answered}
 use Rattle.wire.proofs.Orders.{order, if-zero, else-zero}
 use Rattle.field.specs.Layout.{layoutOf, headerLen, fieldLen}
-use Rattle.field.specs.Field.{fieldSize, typeNumber}
+use Rattle.field.specs.Field.{fieldSize, typeOf, bitsOf, typeNumber}
 use Rattle.field.specs.Raw.{valueFieldNumber, valueNumber}
 use Rattle.mlg.specs.Fields.{fieldNumber, fieldsNumber, sizes}
-use Rattle.mlg.specs.Header.{numbersOf, fieldsEnd, lastNumber, bodyNumber, fieldsFrom, areaIn, headNumber, headJudged, headerOf}
+use Rattle.mlg.specs.Header.{numbersOf, fieldsEnd, lastNumber, bodyNumber, fieldsFrom, areaIn, headNumber, headerOf}
 use Rattle.mlg.specs.declared.Header.{Header}
-use Rattle.mlg.specs.declared.Head.the-variants.{Is}
+use Rattle.mlg.specs.declared.Head.the-variants.{Is, Refused}
 use Rattle.mlg.proofs.Places.{Placed}
 use Rattle.mlg.proofs.Spans.{placed-in}
 use Rattle.listing.specs.Stands.{Valued}
 
-judged-is : (n : ℕ) (g h : Header) → headJudged n g ≡ Is h → (n ≡ 0) × (g ≡ h)
-unfolding headJudged
-judged-is zero g h e = (refl, cc)
-judged-is (suc n) g h e = absurd (let w : _≡_ {A = ℕ} 0 1 = cc in omega arith)
-
 pub header-stands : (f : List ℕ) (h : Header) → headerOf f ≡ Is h → (headNumber f ≡ 0) × (numbersOf f ≡ h)
 unfolding headerOf
-header-stands f h e = judged-is (headNumber f) (numbersOf f) h e
+header-stands f h e = answered Is Refused (λ n y q. let v : _≡_ {A = ℕ} 0 1 = cc in omega arith) (λ x y q. cc) (headNumber f) (numbersOf f) h e
 
 pub header-placed : (f : List ℕ) (h : Header) → headerOf f ≡ Is h → Placed (length f) h
 header-placed f h e = let s = header-stands f h e in rw (s .1) at (placed-in f (s .0))
@@ -42,7 +38,7 @@ pub fields-after : (f : List ℕ) (h : Header) (at : ℕ) → headerOf f ≡ Is 
 fields-after f h at e k = simp (length-take, length-drop) (omega (arith, fields-in f h e))
 
 -- one field's value
-value-stands : (d b : List ℕ) → length d ≡ fieldLen 2 → typeNumber d ≡ 0 → length b ≡ fieldSize d → valueNumber 2 d b ≡ 0
+value-stands : (d b : List ℕ) → length d ≡ fieldLen 2 → typeNumber (typeOf d) (bitsOf d) ≡ 0 → length b ≡ fieldSize d → valueNumber 2 d b ≡ 0
 unfolding valueNumber valueFieldNumber
 value-stands d b l t s = sym (search order depth 12)
 

@@ -91,7 +91,7 @@ fn put_headed_lines(out: &mut [u8], file: &[u8], h: Header) -> usize
 }
 
 // The listing of a file.
-pub fn put_listing(out: &mut [u8], file: &[u8]) -> usize
+pub(crate) fn put_listing(out: &mut [u8], file: &[u8]) -> usize
     ensures { λ r. ⌜ Puts (now (out .entry)) 0 (listingOf (now (file .entry))) (now (out .exit)) r ⌝ }
 {
     if 65536 < file.len() {
