@@ -8,6 +8,7 @@ mod reading;
 mod whole;
 mod writing;
 
+use blocks::block_len;
 use blocks::block_of;
 use blocks::counter_of;
 use layout::field_len;
@@ -31,7 +32,7 @@ ghost use Prim.Native.Nat.{_+_, _≤_};
 ghost use lib.ListN.{length};
 ghost use Rattle.mlg.specs.Header.{numbersOf, headNumber, headerOf, noHeader, headAnswer};
 ghost use Rattle.mlg.specs.Block.{counterOf, blockAt, blockAnswer, blockResult};
-ghost use Rattle.mlg.specs.Log.{tallyIn};
+ghost use Rattle.mlg.specs.Log.{lengthOf, tallyIn};
 ghost use Rattle.mlg.specs.Parts.{fieldSpan, namesSpan, infoSpan};
 ghost use Rattle.mlg.specs.RoundTrip.{DataBack, MarkBack, BlockAlone, LogPlaced, BlockSame, HeaderBack, LogBack, LogSame};
 ghost use Rattle.wire.specs.Answer.{result};
@@ -114,6 +115,32 @@ pub fn read_block(file: &[u8], size: u16, earlier: u64, at: usize) -> Block
         };
     }
     block_of(&file[at..], size, counter_of(earlier), at)
+}
+
+// How many bytes of the log a block takes; none for the end and for a refusal.
+pub fn length_of(b: Block, size: u16) -> usize
+    ensures { λ r. ⌜ r ≡ lengthOf size b ⌝ }
+{
+    match b {
+        Block::Data {
+            counter: _,
+            time: _,
+            start: _,
+            right: _,
+        } => block_len(0, size),
+        Block::Mark {
+            counter: _,
+            time: _,
+            start: _,
+            len: _,
+            right: _,
+        } => block_len(1, size),
+        Block::End => 0,
+        Block::Refused {
+            number: _,
+            place: _,
+        } => 0,
+    }
 }
 
 // How many blocks a file has, and how they ended; a refused header gives no blocks, its number, and place 0.

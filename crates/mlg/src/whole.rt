@@ -3,37 +3,12 @@ ghost use mathlib.Core.Path.{_≡_};
 ghost use Prim.Native.Nat.{ℕ};
 ghost use Rattle.mlg.specs.Header.{headAnswer};
 ghost use Rattle.mlg.specs.Block.{blockAnswer};
-ghost use Rattle.mlg.specs.Log.{lengthOf, logOf, tallyOf};
+ghost use Rattle.mlg.specs.Log.{logOf, tallyOf};
 use crate::Block;
 use crate::Head;
 use crate::Tally;
-use crate::blocks::block_len;
+use crate::length_of;
 use crate::read_block;
-
-pub(crate) fn length_of(b: Block, size: u16) -> usize
-    ensures { λ r. ⌜ r ≡ lengthOf size b ⌝ }
-{
-    match b {
-        Block::Data {
-            counter: _,
-            time: _,
-            start: _,
-            right: _,
-        } => block_len(0, size),
-        Block::Mark {
-            counter: _,
-            time: _,
-            start: _,
-            len: _,
-            right: _,
-        } => block_len(1, size),
-        Block::End => 0,
-        Block::Refused {
-            number: _,
-            place: _,
-        } => 0,
-    }
-}
 
 pub(crate) fn stop_number(b: Block) -> u8
     ensures { λ r. ⌜ ((l : ℕ) → r ≡ blockAnswer l b .number) ⌝ }

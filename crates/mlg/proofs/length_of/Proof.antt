@@ -1,6 +1,6 @@
 use borrow.Author.Needs.{needs}
-use Rattle.mlg.proofs.whole.length_of.Statement.{statement}
-use Rattle.mlg.proofs.whole.length_of.Tie as tie
+use Rattle.mlg.proofs.length_of.Statement.{statement}
+use Rattle.mlg.proofs.length_of.Tie as tie
 use mathlib.Core.Path.{sym, _∙_, ap}
 use Rattle.mlg.specs.Log.{lengthOf}
 
