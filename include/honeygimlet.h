@@ -1,0 +1,419 @@
+/*
+ * Honeygimlet: the 29-bit CAN protocol of Megasquirt controllers, a bridge for long reads and writes, and the log formats
+ * MLG (MLVLG 2) and FRD 1. Link libcapi.a (`rt staticlib capi`); it needs nothing else. For C11 and C++11, x86-64 Linux.
+ *
+ * Every call judges its arguments: any number in any argument is allowed, and a refusal carries one of the numbers below,
+ * changes nothing that it was lent and yields no frame; every other number in its answer is 0 (save a block's place).
+ * What a caller must see to, since no call can: a pointer is not null (not even with length 0), points to as many bytes as
+ * the length beside it says, fewer than 2^63, and memory that a call may write overlaps no other memory lent to that call.
+ *
+ * "Numbers" in the comments are the refusals in the order in which they are judged; 0, done, is left out.
+ */
+#ifndef HONEYGIMLET_H
+#define HONEYGIMLET_H
+
+#include <stddef.h>
+#include <stdint.h>
+
+#ifdef __cplusplus
+#define HG_SIZE(type, size) static_assert(sizeof(type) == (size), "size of " #type)
+extern "C" {
+#else
+#define HG_SIZE(type, size) _Static_assert(sizeof(type) == (size), "size of " #type)
+#endif
+
+/* ---- Numbers handed back ---- */
+
+enum {
+    HG_DONE = 0,
+    HG_ID_TOO_LARGE = 1,     /* identifier 2^29 or more */
+    HG_SPARE_BITS = 2,       /* spare bits set */
+    HG_FRAME_TOO_LONG = 3,   /* frame length over 8 */
+    HG_OTHER_DEVICE = 4,     /* to another device */
+    HG_TYPE = 5,             /* type not served */
+    HG_REQUEST_BITS = 6,     /* length or reserved request bits wrong */
+    HG_NO_RIGHT = 7,         /* table empty, or lacks the right; device or table out of range */
+    HG_RANGE = 8,            /* range past the table's end */
+    HG_COUNT = 9,            /* count not allowed */
+    HG_MEMORY_LENGTH = 10,   /* lent memory of wrong length */
+    HG_UNSOUND = 11,         /* directory, state or own number unsound */
+    HG_NO_SLOT = 12,         /* no free slot */
+    HG_NO_TICKET = 13,       /* tickets used up */
+    HG_UNKNOWN_TICKET = 14,  /* ticket unknown */
+    HG_NOT_FINISHED = 15,    /* not finished */
+    HG_GAVE_UP = 16,         /* gave up */
+    HG_NO_MATCH = 17,        /* reply matches no waiting read */
+    HG_CUT_SHORT = 20,       /* file or block cut short */
+    HG_WRONG_NAME = 21,      /* wrong name */
+    HG_VERSION = 22,         /* version not served */
+    HG_DISAGREE = 23,        /* header numbers or lengths disagree */
+    HG_FIELD_TYPE = 24,      /* field type or bit count bad */
+    HG_BLOCK_TYPE = 25,      /* block type unknown */
+    HG_SUM = 26,             /* sum wrong */
+    HG_OUTPUT_TOO_SMALL = 27,/* output too small */
+    HG_TEXT = 28,            /* text lacks its zero, holds a forbidden one, or is too long */
+    HG_NO_SHOWN_VALUE = 30   /* no shown value */
+};
+
+/* ---- Identifiers, frames and requests ---- */
+
+/* Types of frames: the `kind` of an identifier. */
+enum { HG_CMD = 0, HG_REQ = 1, HG_RSP = 2, HG_XTND = 7 };
+
+/* The parts of an identifier. */
+typedef struct {
+    uint16_t offset; /* 0..2047 */
+    uint8_t kind;    /* 0..7 */
+    uint8_t from;    /* 0..15 */
+    uint8_t to;      /* 0..15 */
+    uint8_t table;   /* 0..31 */
+} hg_parts;
+HG_SIZE(hg_parts, 6);
+
+typedef struct {
+    uint32_t id;
+    uint8_t number;
+} hg_packed;
+HG_SIZE(hg_packed, 8);
+
+typedef struct {
+    hg_parts parts;
+    uint8_t number;
+} hg_unpacked;
+HG_SIZE(hg_unpacked, 8);
+
+/* A frame. Bytes past its length are ignored in frames handed in, and 0 in frames handed back. */
+typedef struct {
+    uint32_t id;
+    uint8_t len; /* 0..8 */
+    uint8_t bytes[8];
+} hg_frame;
+HG_SIZE(hg_frame, 16);
+
+/* What request bytes ask for: a count of bytes, to a table and an offset of the sender. */
+typedef struct {
+    uint8_t table;   /* 0..31 */
+    uint8_t count;   /* 0..15 */
+    uint16_t offset; /* 0..2047 */
+} hg_request;
+HG_SIZE(hg_request, 4);
+
+typedef struct {
+    hg_request request;
+    uint8_t number;
+} hg_asked;
+HG_SIZE(hg_asked, 6);
+
+typedef struct {
+    uint8_t number;
+    uint8_t bytes[3];
+} hg_request_bytes;
+HG_SIZE(hg_request_bytes, 4);
+
+/* The identifier of parts. Numbers: 5 (kind over 7), 7 (from, to or table out of range), 8 (offset over 2,047). */
+hg_packed hg_pack(hg_parts parts);
+
+/* The parts of an identifier. Numbers: 1, 2. */
+hg_unpacked hg_unpack(uint32_t id);
+
+/* The request in three bytes. Number: 6 (a reserved bit is set). */
+hg_asked hg_read_request(uint8_t first, uint8_t second, uint8_t third);
+
+/* The three bytes of a request. Numbers: 7 (table over 31), 9 (count over 15), 8 (offset over 2,047). */
+hg_request_bytes hg_request_bytes_of(hg_request request);
+
+/* ---- Table holder ---- */
+
+/* 32 tables lie back to back in memory; table k starts at the sum of the sizes before it. The sum of all is at most 32,768. */
+typedef struct {
+    uint16_t sizes[32];     /* 0..2056 */
+    uint8_t rights[32];     /* 0 none, 1 read, 2 read and write */
+    uint16_t table_blocking;
+    uint16_t write_blocking;
+    uint8_t own;            /* own number, 0..15 */
+} hg_directory;
+HG_SIZE(hg_directory, 102);
+
+/* An answer: a number, how many frames it has (0 or 1), and the frame, all 0 where there is none. */
+typedef struct {
+    uint8_t number;
+    uint8_t answers;
+    hg_frame frame;
+} hg_served;
+HG_SIZE(hg_served, 20);
+
+/*
+ * What a holder of tables does with a frame. `len` is the sum of the sizes.
+ * CMD (length 1..8, right 2) stores its bytes at the offset of the table and has no answer; REQ (length 3, count 1..8, right 1
+ * or 2) answers with an RSP of the table's bytes; XTND with the first byte 0x80 (length 4, count 1 or 5) answers with the
+ * protocol's version, or that and the two blocking factors.
+ * Numbers: 11, 10, 1, 2, 3, 4, 5, 6, 7, 9, 8, save that XTND of length 0 is 6.
+ * Changes the addressed bytes of memory for a CMD answered 0, and nothing else.
+ */
+hg_served hg_serve(hg_directory directory, uint8_t *memory, size_t len, hg_frame frame);
+
+/* Judges a directory as hg_serve does. Number: 11. */
+uint8_t hg_directory_number(hg_directory directory);
+
+/* Judges a directory and the length of its memory as hg_serve does. Numbers: 11, 10. */
+uint8_t hg_memory_number(hg_directory directory, size_t len);
+
+/* ---- Bridge ---- */
+
+/* Phases of a slot, and kinds of transfers. */
+enum { HG_FREE = 0, HG_READY = 1, HG_WAITING = 2, HG_FINISHED = 3, HG_FAILED = 4 };
+enum { HG_READ = 0, HG_WRITE = 1 };
+
+/* A slot: free (all 0), or held by a transfer. Only the calls write it; a state that they cannot make is refused with 11. */
+typedef struct {
+    uint32_t ticket;
+    uint16_t offset;
+    uint8_t phase;
+    uint8_t kind;
+    uint8_t device;
+    uint8_t table;
+    uint8_t count;    /* bytes of the transfer, 1..128 */
+    uint8_t progress; /* bytes of it that are done */
+    uint8_t sends;    /* sends of the current request */
+    uint8_t left;     /* turns until a waiting read is ready again */
+} hg_slot;
+HG_SIZE(hg_slot, 16);
+
+/* A bridge. Any content will do before the first hg_reset. Its buffer has HG_BUFFER bytes, 128 for each slot; nobody else writes it. */
+typedef struct {
+    hg_slot slots[4];
+    uint32_t tickets; /* the last ticket given */
+    uint8_t own;
+    uint8_t last;     /* the slot last served */
+} hg_bridge;
+HG_SIZE(hg_bridge, 72);
+
+enum { HG_BUFFER = 512, HG_MOST = 128 };
+
+typedef struct {
+    hg_bridge bridge;
+    uint32_t ticket;
+    uint8_t number;
+} hg_opened;
+HG_SIZE(hg_opened, 80);
+
+typedef struct {
+    hg_bridge bridge;
+    hg_served answer;
+} hg_stepped;
+HG_SIZE(hg_stepped, 92);
+
+typedef struct {
+    hg_bridge bridge;
+    uint8_t number;
+} hg_changed;
+HG_SIZE(hg_changed, 76);
+
+/* A part of a buffer or of a file: where it starts and how many bytes it has, both 0 where the number is not 0. */
+typedef struct {
+    uint8_t number;
+    size_t start;
+    size_t count;
+} hg_span;
+HG_SIZE(hg_span, 24);
+
+/* Calls by value hand back the bridge as they leave it; a refusal hands back the bridge that it was given. */
+
+/* The fresh bridge of an own number, whatever b is. Number: 11 (own over 15). */
+hg_changed hg_reset(hg_bridge b, uint8_t own);
+
+/*
+ * Opens a read of `count` bytes at an offset of a device's table. Takes the lowest free slot and the next ticket.
+ * Numbers: 11, 10, 7 (device over 15, table over 31), 9 (count not 1..128), 8 (offset + count over 2,048), 12, 13.
+ * The buffer is not changed.
+ */
+hg_opened hg_open_read(hg_bridge b, const uint8_t *buffer, size_t len, uint8_t device, uint8_t table, uint16_t offset, size_t count);
+
+/*
+ * Opens a write of the given bytes, which are copied into the slot's part of the buffer; nothing else of it changes.
+ * Numbers: as hg_open_read.
+ */
+hg_opened hg_open_write(hg_bridge b, uint8_t *buffer, size_t len, uint8_t device, uint8_t table, uint16_t offset, const uint8_t *bytes, size_t count);
+
+/*
+ * A turn: every waiting read gets one turn older (20 turns after a send it is ready again, or after its third send has
+ * given up); then the first ready slot after the one last served sends its next frame. `answers` is 0 where none is ready.
+ * Numbers: 11, 10. The buffer is not changed.
+ */
+hg_stepped hg_turn(hg_bridge b, const uint8_t *buffer, size_t len);
+
+/*
+ * An incoming frame. Its bytes are stored in the buffer for the waiting read that awaits it; `answers` is always 0.
+ * Numbers: 11, 10, 1, 2, 3, 4, 5 (not RSP), 17. Changes the bytes that the frame brings, and nothing else of the buffer.
+ */
+hg_stepped hg_frame_in(hg_bridge b, uint8_t *buffer, size_t len, hg_frame frame);
+
+/* How a transfer stands: 0 done, 15 not finished, 16 gave up. Numbers: 11, then 14. A done write was sent, no more. */
+uint8_t hg_status(hg_bridge b, uint32_t ticket);
+
+/*
+ * Where a done read's bytes lie in the buffer; a done write has count 0. Start and count are 0 where the number is not 0.
+ * Numbers: 11, 10, then hg_status's. Nothing is changed.
+ */
+hg_span hg_span_of(hg_bridge b, const uint8_t *buffer, size_t len, uint32_t ticket);
+
+/* Frees the slot of a ticket, in any phase. Numbers: 11, 14. */
+hg_changed hg_close(hg_bridge b, uint32_t ticket);
+
+/* The same turn, incoming frame and closing, which change the bridge where it stands; a refusal leaves it as it was. */
+hg_served hg_turn_in_place(hg_bridge *b, const uint8_t *buffer, size_t len);
+hg_served hg_frame_in_place(hg_bridge *b, uint8_t *buffer, size_t len, hg_frame frame);
+uint8_t hg_close_in_place(hg_bridge *b, uint32_t ticket);
+
+/* ---- MLG ---- */
+
+typedef struct {
+    uint32_t time;
+    uint32_t info;  /* where the info text starts, 0 for none */
+    uint32_t begin; /* where the blocks begin */
+    uint16_t size;  /* record length */
+    uint16_t count; /* number of fields */
+    uint16_t version;
+    uint8_t number;
+} hg_mlg_header;
+HG_SIZE(hg_mlg_header, 20);
+
+/* Kinds of blocks. */
+enum { HG_BLOCK_DATA = 0, HG_BLOCK_MARK = 1, HG_BLOCK_TIME = 1, HG_BLOCK_END = 2, HG_BLOCK_REFUSED = 3 };
+
+typedef struct {
+    size_t place; /* a refusal's: where the block stands */
+    size_t start; /* where the record or the text starts */
+    size_t count; /* length of the record, or of the text before its zero */
+    uint16_t time;
+    uint8_t number;
+    uint8_t kind;
+    uint8_t counter;
+    uint8_t right; /* 1 if the counter is the expected one */
+} hg_mlg_block;
+HG_SIZE(hg_mlg_block, 32);
+
+/* What a writer hands back: how many bytes it wrote. The rest of its output stays as found. */
+typedef struct {
+    size_t len;
+    uint8_t number;
+} hg_written;
+HG_SIZE(hg_written, 16);
+
+/* A file's header. Numbers: 20, 21, 22, 20 (fields cut), 23; for each field 24, 28, 23, 28; then 23, 28. */
+hg_mlg_header hg_mlg_read_header(const uint8_t *file, size_t len);
+
+/*
+ * What stands at a place of a file whose records have length `size`, after `earlier` blocks. A data block takes size + 5
+ * bytes, a mark 54; the next block stands after it. A place equal to the length is the end.
+ * Numbers: 23 (place past the file), 25, 20, 28 (mark) or 26 (data).
+ */
+hg_mlg_block hg_mlg_read_block(const uint8_t *file, size_t len, uint16_t size, uint64_t earlier, size_t place);
+
+/*
+ * How many blocks a log has, and how they ended: `ending` is 0 at the file's end, else the number that refuses what stands at
+ * `place`. A refused header gives no blocks, its number, and place 0.
+ */
+typedef struct {
+    uint64_t blocks;
+    uint8_t ending;
+    size_t place;
+} hg_tally;
+HG_SIZE(hg_tally, 24);
+
+/* Counts the blocks of a file. */
+hg_tally hg_mlg_count_blocks(const uint8_t *file, size_t len);
+
+/*
+ * Parts of a file: the 89 bytes of field `index`, counted from 0; the names area, from the fields' end to the info or to data
+ * begin; the info text without its zero (no bytes where there is none).
+ * Numbers: as hg_mlg_read_header, then 23 for a field that is not there.
+ */
+hg_span hg_mlg_field_span(const uint8_t *file, size_t len, uint16_t index);
+hg_span hg_mlg_names_span(const uint8_t *file, size_t len);
+hg_span hg_mlg_info_span(const uint8_t *file, size_t len);
+
+/*
+ * Writes the listing of a file, as the program loglist prints it: a refused file too has a listing, and one of over 65,536
+ * bytes the line `too long`. Number: 27.
+ */
+hg_written hg_list(uint8_t *out, size_t len, const uint8_t *file, size_t file_len);
+
+/*
+ * Writes a header: fields of 89 bytes each, the names area, and the info text without its zero (empty: none).
+ * Numbers: 23 (fields not a multiple of 89 bytes or over 65,535, sizes summing over 65,535, over 2^32-1 bytes), 28 (zero in
+ * info), then the reader's for the fields, then 27.
+ */
+hg_written hg_mlg_write_header(uint8_t *out, size_t len, uint32_t time, const uint8_t *fields, size_t fields_len, const uint8_t *names, size_t names_len, const uint8_t *info, size_t info_len);
+
+/* Writes a data block after `earlier` blocks. Numbers: 23 (record not of length `size`), 27. */
+hg_written hg_mlg_write_data(uint8_t *out, size_t len, uint16_t size, uint64_t earlier, uint16_t time, const uint8_t *record, size_t record_len);
+
+/* Writes a mark after `earlier` blocks. Numbers: 28 (text over 49 bytes, or holding a zero), 27. */
+hg_written hg_mlg_write_mark(uint8_t *out, size_t len, uint64_t earlier, uint16_t time, const uint8_t *text, size_t text_len);
+
+typedef struct {
+    int64_t value;
+    uint8_t number;
+} hg_raw;
+HG_SIZE(hg_raw, 16);
+
+typedef struct {
+    float value;
+    uint8_t number;
+} hg_shown;
+HG_SIZE(hg_shown, 8);
+
+/* A raw value by its field's 89 bytes and its raw bytes; an F32's is its bits. Numbers: 23 (not 89), 24, 23 (raw length). */
+hg_raw hg_raw_value(const uint8_t *field, size_t field_len, const uint8_t *raw, size_t raw_len);
+
+/* A shown value: raw plus transform, times scale, each rounded to f32. Numbers: 23, 24, 23, 30. */
+hg_shown hg_shown_value(const uint8_t *field, size_t field_len, const uint8_t *raw, size_t raw_len);
+
+/* ---- FRD ---- */
+
+typedef struct {
+    uint32_t time;
+    uint16_t size; /* output length */
+    uint8_t number;
+} hg_frd_header;
+HG_SIZE(hg_frd_header, 8);
+
+typedef struct {
+    size_t place; /* a refusal's: where the block stands */
+    size_t start; /* where the bytes of a data block start */
+    size_t count;
+    uint32_t time;
+    uint8_t number;
+    uint8_t kind;
+    uint8_t counter;
+    uint8_t right; /* 1 if the counter is the expected one */
+} hg_frd_block;
+HG_SIZE(hg_frd_block, 32);
+
+/* A file's header; the blocks begin at 81. Numbers: 20, 21, 22, 23. */
+hg_frd_header hg_frd_read_header(const uint8_t *file, size_t len);
+
+/* What stands at a place; a data block takes size + 2 bytes, a time block 6. Numbers: 23 (place past the file), 25, 20. */
+hg_frd_block hg_frd_read_block(const uint8_t *file, size_t len, uint16_t size, uint64_t earlier, size_t place);
+
+/* Counts the blocks of a file. */
+hg_tally hg_frd_count_blocks(const uint8_t *file, size_t len);
+
+/* The 63 bytes of the signature. Numbers: as hg_frd_read_header. */
+hg_span hg_frd_signature_span(const uint8_t *file, size_t len);
+
+/* Writes a header. Numbers: 23 (signature not of 63 bytes), 27. */
+hg_written hg_frd_write_header(uint8_t *out, size_t len, uint32_t time, const uint8_t *signature, size_t signature_len, uint16_t size);
+
+/* Writes a data block after `earlier` blocks. Numbers: 23 (record not of length `size`), 27. */
+hg_written hg_frd_write_data(uint8_t *out, size_t len, uint16_t size, uint64_t earlier, const uint8_t *record, size_t record_len);
+
+/* Writes a time block after `earlier` blocks. Number: 27. */
+hg_written hg_frd_write_time(uint8_t *out, size_t len, uint64_t earlier, uint32_t time);
+
+#ifdef __cplusplus
+}
+#endif
+
+#endif
