@@ -1,9 +1,10 @@
 -- Laws of raw values.
-use Prim.Native.Nat.{ℕ, zero, suc, _*_, _^_, _≤_, _<_}
-use mathlib.Core.Path.{_≡_, refl, ap}
-use mathlib.Core.Bool.{Bool, true, false}
+use Prim.Native.Nat.{ℕ, zero, suc, _*_, _-_, _^_, _≤_, _<_}
+use mathlib.Core.Path.{_≡_, refl, ap, _∙_}
+use mathlib.Core.Bool.{Bool, true, false, cond}
 use mathlib.Core.List.{List, [], _∷_}
 use native.Mathlib.Omega.{arith}
+use native.Mathlib.Nat.{pow-suc}
 use borrow.Author.Tests.{ltb-true, ltb-false, ne-eqb, eqb-true, not-false}
 use lib.Dec.{ltb, T, le→leb, lt→ltb}
 use lib.ListN.{length, getD, take}
@@ -60,13 +61,28 @@ twos-by half x h false k = rw (twos-high half x (ltb-false x half k) h) (omega (
 twos-mag : (half x : ℕ) → x < 2 * half → mag (twos half x) < 2 * half
 twos-mag half x h = twos-by half x h (ltb x half) refl
 
--- a raw value of a type of at most 16 bits
+-- a raw value lies within the width of its bytes
+raw-by : (signed : Bool) (k : ℕ) (b : List ℕ) → length b ≡ k → Bytes b → mag (cond signed (signedOf (8 * k) (beOf b)) (pos (beOf b))) < 2 ^ (8 * k)
+unfolding twos
+raw-by false k b e g = rw e at (be-below b g)
+raw-by true zero [] e g = omega arith
+raw-by true zero (x ∷ b) e g = absurd (omega arith)
+raw-by true (suc k) b e g =
+    let w : 8 * suc k ≡ suc (8 * suc k - 1) = omega arith in
+    let p : 2 ^ (8 * suc k) ≡ 2 * 2 ^ (8 * suc k - 1) = ap (λ (n : ℕ). 2 ^ n) w ∙ pow-suc 2 (8 * suc k - 1) ∙ omega arith in
+    omega (arith, p, twos-mag (2 ^ (8 * suc k - 1)) (beOf b) (omega (arith, p, rw e at (be-below b g))))
+
+pub raw-below : (t : ℕ) (b : List ℕ) → length b ≡ sizeOf t → Bytes b → mag (rawOf t b) < 2 ^ (8 * sizeOf t)
+unfolding rawOf
+raw-below t b e g = raw-by (signedType t) (sizeOf t) b e g
+
+-- and that of a type of at most 16 bits
 pub raw-small : (t : ℕ) (b : List ℕ) → t < 4 → length b ≡ sizeOf t → Bytes b → mag (rawOf t b) < 65536
-unfolding rawOf sizeOf signedType
-raw-small zero b h e g = omega (arith, rw e at (be-below b g))
-raw-small (suc zero) b h e g = omega (arith, twos-mag (2 ^ 7) (beOf b) (rw e at (be-below b g)))
-raw-small (suc (suc zero)) b h e g = omega (arith, rw e at (be-below b g))
-raw-small (suc (suc (suc zero))) b h e g = omega (arith, twos-mag (2 ^ 15) (beOf b) (rw e at (be-below b g)))
+unfolding sizeOf
+raw-small zero b h e g = omega (arith, raw-below 0 b e g)
+raw-small (suc zero) b h e g = omega (arith, raw-below 1 b e g)
+raw-small (suc (suc zero)) b h e g = omega (arith, raw-below 2 b e g)
+raw-small (suc (suc (suc zero))) b h e g = omega (arith, raw-below 3 b e g)
 raw-small (suc (suc (suc (suc t)))) b h e g = absurd (omega arith)
 
 -- and so it is an f32 exactly

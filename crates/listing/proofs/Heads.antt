@@ -34,6 +34,14 @@ pub fields-in : (f : List ℕ) (h : Header) → headerOf f ≡ Is h → headerLe
 unfolding fieldsEnd
 fields-in f h e = header-placed f h e .fields
 
+-- the blocks begin in the file, after the fields
+pub begin-in : (f : List ℕ) (h : Header) → headerOf f ≡ Is h → h .begin ≤ length f
+begin-in f h e = header-placed f h e .data-begins
+
+pub begin-after : (f : List ℕ) (h : Header) → headerOf f ≡ Is h → 24 + 89 * h .count ≤ h .begin
+unfolding fieldsEnd layoutOf
+begin-after f h e = header-placed f h e .after-fields
+
 pub fields-after : (f : List ℕ) (h : Header) (at : ℕ) → headerOf f ≡ Is h → at ≡ headerLen (h .version) → fieldLen (h .version) * h .count ≤ length (take (length f - at) (drop at f))
 fields-after f h at e k = simp (length-take, length-drop) (omega (arith, fields-in f h e))
 

@@ -7,3 +7,4 @@ pub mod Rows
 pub mod Heads
 pub mod LogLines
 pub mod Listed
+pub mod Lengths

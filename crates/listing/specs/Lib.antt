@@ -3,3 +3,4 @@ pub mod Lines
 pub mod Listing
 pub mod Puts
 pub mod Stands
+pub mod Most

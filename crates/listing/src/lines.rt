@@ -8,7 +8,7 @@ use mlg::Block;
 use mlg::Header;
 ghost use mathlib.Core.Path.{_≡_};
 ghost use mathlib.Core.List.{List, _++_};
-ghost use Prim.Native.Nat.{ℕ, _+_, _*_, _≤_, _^_};
+ghost use Prim.Native.Nat.{ℕ, _+_, _*_, _≤_, _<_, _^_};
 ghost use lib.ListN.{length, take, drop};
 ghost use Rattle.field.specs.Layout.{fieldLen};
 ghost use Rattle.field.specs.Raw.{valueNumber};
@@ -19,11 +19,12 @@ ghost use Rattle.listing.specs.Text.{decimal, shown};
 ghost use Rattle.listing.specs.Lines.{space, headerLine, nameOf, fieldLine, fieldLines, valueText, valuesText, rightText, blockLine};
 ghost use Rattle.listing.specs.Puts.{Puts};
 ghost use Rattle.listing.specs.Stands.{Valued, Stands};
+ghost use Rattle.listing.specs.Most.{mostOf};
 
 // `fields N record L`
 pub(crate) fn put_header_line(out: &mut [u8], at: usize, h: Header) -> usize
     requires { ⌜ at ≤ 2 ^ 60 ⌝ }
-    ensures { λ r. ⌜ Puts (now (out .entry)) at (headerLine h) (now (out .exit)) r × (r ≤ at + 100) ⌝ }
+    ensures { λ r. ⌜ Puts (now (out .entry)) at (headerLine h) (now (out .exit)) r × (r ≤ at + 56) ⌝ }
 {
     let a = put_bytes(out, at, b"fields ");
     let b = put_decimal(out, a, h.count as u64);
@@ -65,7 +66,7 @@ pub(crate) fn put_field_lines(
     fields: &[u8],
 ) -> usize
     requires { ⌜ (at ≤ 2 ^ 50) × (fieldLen version * count ≤ length (now fields)) ⌝ }
-    ensures { λ r. ⌜ Puts (now (out .entry)) at (fieldLines version 0 count (now (fields .entry))) (now (out .exit)) r × (r ≤ at + 6553500) ⌝ }
+    ensures { λ r. ⌜ Puts (now (out .entry)) at (fieldLines version 0 count (now (fields .entry))) (now (out .exit)) r × (r ≤ at + 100 * count) ⌝ }
 {
     let layout = field::layout_of(version);
     let len = layout.field;
@@ -83,7 +84,7 @@ pub(crate) fn put_field_lines(
 // A space and a raw value.
 fn put_value(out: &mut [u8], at: usize, field: &[u8], raw: &[u8]) -> usize
     requires { ⌜ (at ≤ 2 ^ 60) × (valueNumber 2 (now field) (now raw) ≡ 0) ⌝ }
-    ensures { λ r. ⌜ Puts (now (out .entry)) at (valueText (now (field .entry)) (now (raw .entry))) (now (out .exit)) r × (r ≤ at + 22) ⌝ }
+    ensures { λ r. ⌜ Puts (now (out .entry)) at (valueText (now (field .entry)) (now (raw .entry))) (now (out .exit)) r × (r ≤ at + 22) × (r ≤ at + 5 * length (now (raw .entry))) ⌝ }
 {
     let value = field::raw_value(field, raw);
     let RawValue::Is(z) = value else {
@@ -103,7 +104,7 @@ fn put_values(
     bytes: &[u8],
 ) -> usize
     requires { ⌜ (at ≤ 2 ^ 50) × Valued version count (now fields) (now bytes) ⌝ }
-    ensures { λ r. ⌜ Puts (now (out .entry)) at (valuesText version count (now (fields .entry)) (now (bytes .entry))) (now (out .exit)) r × (r ≤ at + 1441770) ⌝ }
+    ensures { λ r. ⌜ Puts (now (out .entry)) at (valuesText version count (now (fields .entry)) (now (bytes .entry))) (now (out .exit)) r × (r ≤ at + 1441770) × (r ≤ at + 5 * length (now (bytes .entry))) ⌝ }
 {
     let layout = field::layout_of(version);
     let len = layout.field;
@@ -135,8 +136,8 @@ fn put_right(out: &mut [u8], at: usize, right: bool) -> usize
 
 // A block's number, kind, counter and time.
 fn put_start(out: &mut [u8], at: usize, n: u64, kind: &[u8], counter: u8, time: u16) -> usize
-    requires { ⌜ (at ≤ 2 ^ 55) × (length (now kind) ≤ 6) ⌝ }
-    ensures { λ r. ⌜ Puts (now (out .entry)) at (decimal n ++ now (kind .entry) ++ decimal counter ++ space ++ decimal time) (now (out .exit)) r × (r ≤ at + 100) ⌝ }
+    requires { ⌜ (at ≤ 2 ^ 55) × (length (now kind) ≤ 6) × (n < 10 ^ 5) ⌝ }
+    ensures { λ r. ⌜ Puts (now (out .entry)) at (decimal n ++ now (kind .entry) ++ decimal counter ++ space ++ decimal time) (now (out .exit)) r × (r ≤ at + 22) ⌝ }
 {
     let a = put_decimal(out, at, n);
     let b = put_bytes(out, a, kind);
@@ -157,8 +158,8 @@ fn put_data_line(
     start: usize,
     right: bool,
 ) -> usize
-    requires { ⌜ (at ≤ 2 ^ 49) × Stands h (now file) (Data counter time start right) ⌝ }
-    ensures { λ r. ⌜ Puts (now (out .entry)) at (blockLine h (now (file .entry)) n (Data counter time start right)) (now (out .exit)) r × (r ≤ at + 2000000) ⌝ }
+    requires { ⌜ (at ≤ 2 ^ 49) × Stands h (now file) (Data counter time start right) × (n < 10 ^ 5) ⌝ }
+    ensures { λ r. ⌜ Puts (now (out .entry)) at (blockLine h (now (file .entry)) n (Data counter time start right)) (now (out .exit)) r × (r ≤ at + 5 * (h .size + 5)) ⌝ }
 {
     let layout = field::layout_of(h.version);
     let fields = layout.header;
@@ -189,8 +190,8 @@ fn put_mark_line(
     len: usize,
     right: bool,
 ) -> usize
-    requires { ⌜ (at ≤ 2 ^ 49) × Stands h (now file) (Mark counter time start len right) ⌝ }
-    ensures { λ r. ⌜ Puts (now (out .entry)) at (blockLine h (now (file .entry)) n (Mark counter time start len right)) (now (out .exit)) r × (r ≤ at + 2000000) ⌝ }
+    requires { ⌜ (at ≤ 2 ^ 49) × Stands h (now file) (Mark counter time start len right) × (n < 10 ^ 5) ⌝ }
+    ensures { λ r. ⌜ Puts (now (out .entry)) at (blockLine h (now (file .entry)) n (Mark counter time start len right)) (now (out .exit)) r × (r ≤ at + 5 * 54) ⌝ }
 {
     let a = put_start(out, at, n, b" mark ", counter, time);
     let b = put_bytes(out, a, b" ");
@@ -202,7 +203,7 @@ fn put_mark_line(
 // `end N`
 fn put_end_line(out: &mut [u8], at: usize, n: u64) -> usize
     requires { ⌜ at ≤ 2 ^ 49 ⌝ }
-    ensures { λ r. ⌜ ((h : Header) (f : List ℕ) → Puts (now (out .entry)) at (blockLine h f n End) (now (out .exit)) r) × (r ≤ at + 100) ⌝ }
+    ensures { λ r. ⌜ ((h : Header) (f : List ℕ) → Puts (now (out .entry)) at (blockLine h f n End) (now (out .exit)) r) × (r ≤ at + 53) ⌝ }
 {
     let a = put_bytes(out, at, b"end ");
     let b = put_decimal(out, a, n);
@@ -212,7 +213,7 @@ fn put_end_line(out: &mut [u8], at: usize, n: u64) -> usize
 // `refused N at PLACE`
 pub(crate) fn put_refused_line(out: &mut [u8], at: usize, number: u8, place: usize) -> usize
     requires { ⌜ at ≤ 2 ^ 49 ⌝ }
-    ensures { λ r. ⌜ ((h : Header) (f : List ℕ) (n : ℕ) → Puts (now (out .entry)) at (blockLine h f n (Refused number place)) (now (out .exit)) r) × (r ≤ at + 100) ⌝ }
+    ensures { λ r. ⌜ ((h : Header) (f : List ℕ) (n : ℕ) → Puts (now (out .entry)) at (blockLine h f n (Refused number place)) (now (out .exit)) r) × (r ≤ at + 53) ⌝ }
 {
     let a = put_bytes(out, at, b"refused ");
     let b = put_decimal(out, a, number as u64);
@@ -230,8 +231,8 @@ pub(crate) fn put_block_line(
     n: u64,
     b: Block,
 ) -> usize
-    requires { ⌜ (at ≤ 2 ^ 49) × Stands h (now file) b ⌝ }
-    ensures { λ r. ⌜ Puts (now (out .entry)) at (blockLine h (now (file .entry)) n b) (now (out .exit)) r × (r ≤ at + 2000000) ⌝ }
+    requires { ⌜ (at ≤ 2 ^ 49) × Stands h (now file) b × (n < 10 ^ 5) ⌝ }
+    ensures { λ r. ⌜ Puts (now (out .entry)) at (blockLine h (now (file .entry)) n b) (now (out .exit)) r × (r ≤ at + mostOf (h .size) b) ⌝ }
 {
     match b {
         Block::Data {

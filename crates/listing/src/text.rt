@@ -18,7 +18,7 @@ pub(crate) fn put_bytes(out: &mut [u8], at: usize, bytes: &[u8]) -> usize
 // Puts a number in decimal digits.
 pub(crate) fn put_decimal(out: &mut [u8], at: usize, x: u64) -> usize
     requires { ⌜ at ≤ 2 ^ 62 ⌝ }
-    ensures { λ r. ⌜ Puts (now (out .entry)) at (decimal x) (now (out .exit)) r × (r ≤ at + 20) ⌝ }
+    ensures { λ r. ⌜ Puts (now (out .entry)) at (decimal x) (now (out .exit)) r × (r ≤ at + 20) × (x < 10 ^ 5 → r ≤ at + 5) ⌝ }
 {
     let mut d = [48u8; 20];
     let mut i: usize = 19;

@@ -8,13 +8,14 @@ use mlg::Block;
 use mlg::Head;
 use mlg::Header;
 ghost use mathlib.Core.Path.{_≡_};
-ghost use Prim.Native.Nat.{_+_, _≤_, _^_};
+ghost use Prim.Native.Nat.{_+_, _*_, _≤_, _^_};
 ghost use lib.ListN.{length};
 ghost use Rattle.mlg.specs.Header.{headerOf};
 ghost use Rattle.mlg.specs.Log.{lengthOf, logOf};
 ghost use Rattle.mlg.specs.declared.Head.the-variants.{Is};
 ghost use Rattle.listing.specs.Listing.{logLines, headedLines, listingOf};
 ghost use Rattle.listing.specs.Puts.{Puts};
+ghost use Rattle.listing.specs.Most.{longest};
 
 // How many bytes a block takes; none for the end and for a refusal.
 fn block_len(b: Block, size: u16) -> usize
@@ -45,7 +46,7 @@ fn block_len(b: Block, size: u16) -> usize
 // The lines of a log's blocks, and of what ends it.
 fn put_log_lines(out: &mut [u8], at: usize, file: &[u8], h: Header) -> usize
     requires { ⌜ (at ≤ 2 ^ 40) × (length (now file) ≤ 65536) × (headerOf (now file) ≡ Is h) ⌝ }
-    ensures { λ r. ⌜ Puts (now (out .entry)) at (logLines h (now (file .entry)) 0 (logOf (h .size) (now (file .entry)) (h .begin))) (now (out .exit)) r × (r ≤ at + 2 ^ 40) ⌝ }
+    ensures { λ r. ⌜ Puts (now (out .entry)) at (logLines h (now (file .entry)) 0 (logOf (h .size) (now (file .entry)) (h .begin))) (now (out .exit)) r × (r + 5 * h .begin ≤ at + 5 * length (now (file .entry)) + 53) ⌝ }
 {
     let size = h.size;
     let mut left = file.len() + 1;
@@ -81,7 +82,7 @@ fn put_log_lines(out: &mut [u8], at: usize, file: &[u8], h: Header) -> usize
 // The lines of a file whose header stands.
 fn put_headed_lines(out: &mut [u8], file: &[u8], h: Header) -> usize
     requires { ⌜ (length (now file) ≤ 65536) × (headerOf (now file) ≡ Is h) ⌝ }
-    ensures { λ r. ⌜ Puts (now (out .entry)) 0 (headedLines h (now (file .entry))) (now (out .exit)) r ⌝ }
+    ensures { λ r. ⌜ Puts (now (out .entry)) 0 (headedLines h (now (file .entry))) (now (out .exit)) r × (r ≤ 5 * length (now (file .entry))) ⌝ }
 {
     let layout = field::layout_of(h.version);
     let fields = layout.header;
@@ -92,7 +93,7 @@ fn put_headed_lines(out: &mut [u8], file: &[u8], h: Header) -> usize
 
 // The listing of a file.
 pub(crate) fn put_listing(out: &mut [u8], file: &[u8]) -> usize
-    ensures { λ r. ⌜ Puts (now (out .entry)) 0 (listingOf (now (file .entry))) (now (out .exit)) r ⌝ }
+    ensures { λ r. ⌜ Puts (now (out .entry)) 0 (listingOf (now (file .entry))) (now (out .exit)) r × (r ≤ longest) ⌝ }
 {
     if 65536 < file.len() {
         return put_bytes(out, 0, b"too long\n");

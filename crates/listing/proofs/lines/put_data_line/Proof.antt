@@ -9,6 +9,9 @@ use Rattle.listing.proofs.lines.put_start.Reads as put-start-reads
 use Rattle.listing.proofs.lines.put_values.Reads as put-values-reads
 use Rattle.listing.proofs.text.put_bytes.Reads as put-bytes-reads
 use native.Mathlib.Omega.{arith}
+use Prim.Native.Nat.{_+_, _-_}
+use lib.ListN.{drop}
+use Rattle.wire.proofs.Parts.{take-length-le}
 use mathlib.Core.Path.{_≡_, refl, sym, _∙_, ap}
 use Rattle.listing.specs.Text.{shown}
 use Rattle.listing.specs.Lines.{blockLine}
@@ -66,7 +69,7 @@ same-length c = search needs
 
 returns : tie.Need-returns
 unfolding blockLine
-returns c = (then (then (then (c .before .before .before .before .before .before .before .before .before .before .before .before .before .before .before .before .before .put-start .ensures .0) (puts-as _ (cut-values (c .before .before .before .before .before .before .before .before .before .before .before .before .before .before .before .before .before .before .before .before .before .before .before .before .args .h .version) (c .before .before .before .before .before .before .before .before .before .before .before .before .before .before .before .before .before .before .before .before .before .before .before .before .args .h .count) (c .before .before .before .before .before .before .before .before .before .before .before .before .before .before .before .before .before .before .before .before .before .before .before .before .args .file .now) _ (c .before .before .before .before .before .before .before .before .before .before .before .before .before .before .before .before .before .before .before .before .before .before .before .before .args .start) (c .before .before .before .before .before .before .before .before .before .before .before .before .before .before .before .before .before .before .before .before .before .before .before .before .args .h .size) (ap (λ (l : Layout). l .header) (c .before .before .before .before .before .before .before .before .before .before .before .before .before .before .before .before .before .before .before .before .before .layout-of .ensures))) (c .before .before .before .before .before .before .before .before .before .before .before .put-values .ensures .0))) (c .before .before .before .before .before .before .before .put-right .ensures .0)) (c .before .before .put-bytes .ensures), omega (arith, c .before .before .before .before .before .before .before .before .before .before .before .before .before .before .before .before .before .put-start .ensures .1, c .before .before .before .before .before .before .before .before .before .before .before .put-values .ensures .1, c .before .before .before .before .before .before .before .put-right .ensures .1, c .before .before .put-bytes .ensures .counted))
+returns c = (then (then (then (c .before .before .before .before .before .before .before .before .before .before .before .before .before .before .before .before .before .put-start .ensures .0) (puts-as _ (cut-values (c .before .before .before .before .before .before .before .before .before .before .before .before .before .before .before .before .before .before .before .before .before .before .before .before .args .h .version) (c .before .before .before .before .before .before .before .before .before .before .before .before .before .before .before .before .before .before .before .before .before .before .before .before .args .h .count) (c .before .before .before .before .before .before .before .before .before .before .before .before .before .before .before .before .before .before .before .before .before .before .before .before .args .file .now) _ (c .before .before .before .before .before .before .before .before .before .before .before .before .before .before .before .before .before .before .before .before .before .before .before .before .args .start) (c .before .before .before .before .before .before .before .before .before .before .before .before .before .before .before .before .before .before .before .before .before .before .before .before .args .h .size) (ap (λ (l : Layout). l .header) (c .before .before .before .before .before .before .before .before .before .before .before .before .before .before .before .before .before .before .before .before .before .layout-of .ensures))) (c .before .before .before .before .before .before .before .before .before .before .before .put-values .ensures .0))) (c .before .before .before .before .before .before .before .put-right .ensures .0)) (c .before .before .put-bytes .ensures), omega (arith, c .before .before .before .before .before .before .before .before .before .before .before .before .before .before .before .before .before .put-start .ensures .1, c .before .before .before .before .before .before .before .before .before .before .before .put-values .ensures .2, take-length-le (c .before .before .before .before .before .before .before .before .before .before .before .before .before .before .before .before .before .before .before .before .before .before .before .before .args .start + c .before .before .before .before .before .before .before .before .before .before .before .before .before .before .before .before .before .before .before .before .before .before .before .before .args .h .size - c .before .before .before .before .before .before .before .before .before .before .before .before .before .before .before .before .before .before .before .before .before .before .before .before .args .start) (drop (c .before .before .before .before .before .before .before .before .before .before .before .before .before .before .before .before .before .before .before .before .before .before .before .before .args .start) (c .before .before .before .before .before .before .before .before .before .before .before .before .before .before .before .before .before .before .before .before .before .before .before .before .args .file .now)), c .before .before .before .before .before .before .before .put-right .ensures .1, c .before .before .put-bytes .ensures .counted))
 
 pub put-data-line-spec : {M : Type 1} → statement M
 put-data-line-spec =

@@ -32,7 +32,7 @@ same-length : tie.Need-same-length
 same-length c = search needs
 
 returns : tie.Need-returns
-returns c = (then (then (then (then (c .before .before .before .before .before .before .before .before .before .before .before .before .before .before .before .before .before .before .before .put-decimal .ensures .0) (c .before .before .before .before .before .before .before .before .before .before .before .before .before .before .before .put-bytes .ensures)) (c .before .before .before .before .before .before .before .before .before .before .before .put-decimal2 .ensures .0)) (c .before .before .before .before .before .before .put-bytes2 .ensures)) (c .before .before .put-decimal3 .ensures .0), omega arith)
+returns c = (then (then (then (then (c .before .before .before .before .before .before .before .before .before .before .before .before .before .before .before .before .before .before .before .put-decimal .ensures .0) (c .before .before .before .before .before .before .before .before .before .before .before .before .before .before .before .put-bytes .ensures)) (c .before .before .before .before .before .before .before .before .before .before .before .put-decimal2 .ensures .0)) (c .before .before .before .before .before .before .put-bytes2 .ensures)) (c .before .before .put-decimal3 .ensures .0), omega (arith, c .before .before .before .before .before .before .before .before .before .before .before .before .before .before .before .before .before .before .before .put-decimal .ensures .2 (omega arith), c .before .before .before .before .before .before .before .before .before .before .before .before .before .before .before .put-bytes .ensures .counted, c .before .before .before .before .before .before .before .before .before .before .before .put-decimal2 .ensures .2 (omega arith), c .before .before .before .before .before .before .put-bytes2 .ensures .counted, c .before .before .put-decimal3 .ensures .2 (omega arith)))
 
 pub put-start-spec : {M : Type 1} → statement M
 put-start-spec =

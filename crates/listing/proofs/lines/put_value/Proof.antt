@@ -7,6 +7,7 @@ use Rattle.field.proofs.raw_value.Reads as raw-value-reads
 use Rattle.listing.proofs.text.put_bytes.Reads as put-bytes-reads
 use Rattle.listing.proofs.text.put_integer.Reads as put-integer-reads
 use native.Mathlib.Omega.{arith}
+use Rattle.listing.proofs.Lengths.{value-short}
 use mathlib.Core.Path.{_≡_, refl, sym, _∙_, ap}
 use Rattle.listing.specs.Lines.{headerLine, fieldLine, valueText, rightText, blockLine}
 use Rattle.listing.proofs.Putting.{puts-as, then, nothing}
@@ -43,7 +44,9 @@ same-length c = search needs
 
 returns-2 : tie.Need-returns-2
 unfolding valueText
-returns-2 c = (then (c .before .before .before .before .before .before .put-bytes .ensures) (puts-as (integer (rawOf (typeOf (c .before .before .before .before .before .before .before .before .before .before .before .before .before .before .before .before .args .field .now)) (c .before .before .before .before .before .before .before .before .before .before .before .before .before .before .before .before .args .raw .now))) (ap integer (toZ-ofZ w64 (c .before .before .before .before .before .before .before .before .before .before .value .given .0 .0) (search needs) ∙ raw-is 2 (c .before .before .before .before .before .before .before .before .before .before .before .before .before .before .before .before .args .field .now) (c .before .before .before .before .before .before .before .before .before .before .before .before .before .before .before .before .args .raw .now) (c .before .before .before .before .before .before .before .before .before .before .before .before .raw-value .result) _ (c .before .before .before .before .before .before .before .before .before .before .before .before .before .before .before .before .pre .1) (c .before .before .before .before .before .before .before .before .before .before .before .before .raw-value .ensures .0) (c .before .before .before .before .before .before .before .before .before .before .value .given .1))) (c .before .before .put-integer .ensures .0)), omega arith)
+returns-2 c =
+    let p = then (c .before .before .before .before .before .before .put-bytes .ensures) (puts-as (integer (rawOf (typeOf (c .before .before .before .before .before .before .before .before .before .before .before .before .before .before .before .before .args .field .now)) (c .before .before .before .before .before .before .before .before .before .before .before .before .before .before .before .before .args .raw .now))) (ap integer (toZ-ofZ w64 (c .before .before .before .before .before .before .before .before .before .before .value .given .0 .0) (search needs) ∙ raw-is 2 (c .before .before .before .before .before .before .before .before .before .before .before .before .before .before .before .before .args .field .now) (c .before .before .before .before .before .before .before .before .before .before .before .before .before .before .before .before .args .raw .now) (c .before .before .before .before .before .before .before .before .before .before .before .before .raw-value .result) _ (c .before .before .before .before .before .before .before .before .before .before .before .before .before .before .before .before .pre .1) (c .before .before .before .before .before .before .before .before .before .before .before .before .raw-value .ensures .0) (c .before .before .before .before .before .before .before .before .before .before .value .given .1))) (c .before .before .put-integer .ensures .0)) in
+    (p, omega arith, omega (arith, p .counted, value-short 2 (c .before .before .before .before .before .before .before .before .before .before .before .before .before .before .before .before .args .field .now) (c .before .before .before .before .before .before .before .before .before .before .before .before .before .before .before .before .args .raw .now) (c .before .before .before .before .before .before .before .before .before .before .before .before .before .before .before .before .pre .1) (λ i. omega (arith, c .before .before .before .before .before .before .before .before .before .before .before .before .before .shared-slice-known2 .given i))))
 
 pub put-value-spec : {M : Type 1} → statement M
 put-value-spec =

@@ -7,6 +7,7 @@ use Rattle.field.proofs.size_of.Reads as size-of-reads
 use Rattle.listing.proofs.lines.put_value.Reads as put-value-reads
 use borrow.Author.Needs.{needs}
 use native.Mathlib.Omega.{arith}
+use Rattle.wire.proofs.Parts.{take-length-le}
 use mathlib.Core.Path.{_≡_, refl, sym, _∙_, ap}
 use Rattle.listing.specs.Lines.{fieldLine, fieldLines, valueText, valuesText}
 use Rattle.listing.proofs.Putting.{Completes, whole, whole-as, onward, complete}
@@ -19,7 +20,7 @@ use Rattle.listing.proofs.Rows.{value-asked, value-rest, value-then, fi
 
 abbrev Inv-loop : tie.InvT-loop
 Inv-loop out₀ at version count fields bytes len place₀ start₀ left₀ next₀ out place start left next =
-    (len ≡ fieldLen version) × (place ≤ length fields) × (start ≤ length bytes) × (left ≤ count) × (next + 22 * left ≤ at + 22 * count) × (length out ≡ length out₀) × Valued version left (drop place fields) (drop start bytes) × Completes out₀ at (valuesText version count fields bytes) out next (valuesText version left (drop place fields) (drop start bytes))
+    (len ≡ fieldLen version) × (place ≤ length fields) × (start ≤ length bytes) × (left ≤ count) × (next + 22 * left ≤ at + 22 * count) × (length out ≡ length out₀) × Valued version left (drop place fields) (drop start bytes) × Completes out₀ at (valuesText version count fields bytes) out next (valuesText version left (drop place fields) (drop start bytes)) × (next ≤ at + 5 * start)
 
 abbrev μ-loop : tie.MeasureT-loop
 μ-loop out₀ at version count fields bytes len place₀ start₀ left₀ next₀ out place start left next =
@@ -29,7 +30,7 @@ layout-of-requires : tie.Need-layout-of-requires Inv-loop μ-loop
 layout-of-requires c κs = tt
 
 loop-holds : tie.Need-loop-holds Inv-loop μ-loop
-loop-holds c = (ap (λ (l : Layout). l .field) (c .layout-of .ensures), omega arith, omega arith, omega arith, omega arith, refl, c .before .before .before .before .pre .1, whole _ _ _)
+loop-holds c = (ap (λ (l : Layout). l .field) (c .layout-of .ensures), omega arith, omega arith, omega arith, omega arith, refl, c .before .before .before .before .pre .1, whole _ _ _, omega arith)
 
 add-d : tie.Need-add-d Inv-loop μ-loop
 add-d c = omega (arith, field-within (c .before .before .before .before .before .before .args .version) (c .before .loop .left) (c .before .before .before .before .before .before .args .fields .now) (c .before .before .before .before .before .before .args .bytes .now) (c .before .loop .place) (c .before .loop .start) _ (c .loop-test .taken) (c .before .loop .inv .0) (c .before .loop .inv .1) (c .before .loop .inv .6))
@@ -80,13 +81,13 @@ loop-less : tie.Need-loop-less Inv-loop μ-loop
 loop-less c = search needs
 
 loop-again : tie.Need-loop-again Inv-loop μ-loop
-loop-again c = (c .before .before .before .before .before .before .before .before .before .loop .inv .0, field-within (c .before .before .before .before .before .before .before .before .before .before .before .before .before .before .args .version) (c .before .before .before .before .before .before .before .before .before .loop .left) (c .before .before .before .before .before .before .before .before .before .before .before .before .before .before .args .fields .now) (c .before .before .before .before .before .before .before .before .before .before .before .before .before .before .args .bytes .now) (c .before .before .before .before .before .before .before .before .before .loop .place) (c .before .before .before .before .before .before .before .before .before .loop .start) _ (c .before .before .before .before .before .before .before .before .loop-test .taken) (c .before .before .before .before .before .before .before .before .before .loop .inv .0) (c .before .before .before .before .before .before .before .before .before .loop .inv .1) (c .before .before .before .before .before .before .before .before .before .loop .inv .6), raw-within (c .before .before .before .before .before .before .before .before .before .before .before .before .before .before .args .version) (c .before .before .before .before .before .before .before .before .before .loop .left) (c .before .before .before .before .before .before .before .before .before .before .before .before .before .before .args .fields .now) (c .before .before .before .before .before .before .before .before .before .before .before .before .before .before .args .bytes .now) (c .before .before .before .before .before .before .before .before .before .loop .place) (c .before .before .before .before .before .before .before .before .before .loop .start) _ _ (c .before .before .before .before .before .before .before .before .loop-test .taken) (c .before .before .before .before .before .before .before .before .before .loop .inv .0) (c .before .before .before .before .before .size-of .ensures) (c .before .before .before .before .before .before .before .before .before .loop .inv .2) (c .before .before .before .before .before .before .before .before .before .loop .inv .6), omega arith, omega (arith, c .before .before .put-value .ensures .1), c .before .before .put-value .ensures .0 .same ∙ c .before .before .before .before .before .before .before .before .before .loop .inv .5, value-rest (c .before .before .before .before .before .before .before .before .before .before .before .before .before .before .args .version) (c .before .before .before .before .before .before .before .before .before .loop .left) (c .before .before .before .before .before .before .before .before .before .before .before .before .before .before .args .fields .now) (c .before .before .before .before .before .before .before .before .before .before .before .before .before .before .args .bytes .now) (c .before .before .before .before .before .before .before .before .before .loop .place) (c .before .before .before .before .before .before .before .before .before .loop .start) _ _ (c .before .before .before .before .before .before .before .before .loop-test .taken) (c .before .before .before .before .before .before .before .before .before .loop .inv .0) (c .before .before .before .before .before .size-of .ensures) (c .before .before .before .before .before .before .before .before .before .loop .inv .6), onward (c .before .before .before .before .before .before .before .before .before .loop .inv .7) (value-then (c .before .before .before .before .before .before .before .before .before .before .before .before .before .before .args .version) (c .before .before .before .before .before .before .before .before .before .loop .left) (c .before .before .before .before .before .before .before .before .before .before .before .before .before .before .args .fields .now) (c .before .before .before .before .before .before .before .before .before .before .before .before .before .before .args .bytes .now) (c .before .before .before .before .before .before .before .before .before .loop .place) (c .before .before .before .before .before .before .before .before .before .loop .start) _ _ (c .before .before .before .before .before .before .before .before .loop-test .taken) (c .before .before .before .before .before .before .before .before .before .loop .inv .0) (c .before .before .before .before .before .size-of .ensures)) (c .before .before .put-value .ensures .0))
+loop-again c = (c .before .before .before .before .before .before .before .before .before .loop .inv .0, field-within (c .before .before .before .before .before .before .before .before .before .before .before .before .before .before .args .version) (c .before .before .before .before .before .before .before .before .before .loop .left) (c .before .before .before .before .before .before .before .before .before .before .before .before .before .before .args .fields .now) (c .before .before .before .before .before .before .before .before .before .before .before .before .before .before .args .bytes .now) (c .before .before .before .before .before .before .before .before .before .loop .place) (c .before .before .before .before .before .before .before .before .before .loop .start) _ (c .before .before .before .before .before .before .before .before .loop-test .taken) (c .before .before .before .before .before .before .before .before .before .loop .inv .0) (c .before .before .before .before .before .before .before .before .before .loop .inv .1) (c .before .before .before .before .before .before .before .before .before .loop .inv .6), raw-within (c .before .before .before .before .before .before .before .before .before .before .before .before .before .before .args .version) (c .before .before .before .before .before .before .before .before .before .loop .left) (c .before .before .before .before .before .before .before .before .before .before .before .before .before .before .args .fields .now) (c .before .before .before .before .before .before .before .before .before .before .before .before .before .before .args .bytes .now) (c .before .before .before .before .before .before .before .before .before .loop .place) (c .before .before .before .before .before .before .before .before .before .loop .start) _ _ (c .before .before .before .before .before .before .before .before .loop-test .taken) (c .before .before .before .before .before .before .before .before .before .loop .inv .0) (c .before .before .before .before .before .size-of .ensures) (c .before .before .before .before .before .before .before .before .before .loop .inv .2) (c .before .before .before .before .before .before .before .before .before .loop .inv .6), omega arith, omega (arith, c .before .before .put-value .ensures .1), c .before .before .put-value .ensures .0 .same ∙ c .before .before .before .before .before .before .before .before .before .loop .inv .5, value-rest (c .before .before .before .before .before .before .before .before .before .before .before .before .before .before .args .version) (c .before .before .before .before .before .before .before .before .before .loop .left) (c .before .before .before .before .before .before .before .before .before .before .before .before .before .before .args .fields .now) (c .before .before .before .before .before .before .before .before .before .before .before .before .before .before .args .bytes .now) (c .before .before .before .before .before .before .before .before .before .loop .place) (c .before .before .before .before .before .before .before .before .before .loop .start) _ _ (c .before .before .before .before .before .before .before .before .loop-test .taken) (c .before .before .before .before .before .before .before .before .before .loop .inv .0) (c .before .before .before .before .before .size-of .ensures) (c .before .before .before .before .before .before .before .before .before .loop .inv .6), onward (c .before .before .before .before .before .before .before .before .before .loop .inv .7) (value-then (c .before .before .before .before .before .before .before .before .before .before .before .before .before .before .args .version) (c .before .before .before .before .before .before .before .before .before .loop .left) (c .before .before .before .before .before .before .before .before .before .before .before .before .before .before .args .fields .now) (c .before .before .before .before .before .before .before .before .before .before .before .before .before .before .args .bytes .now) (c .before .before .before .before .before .before .before .before .before .loop .place) (c .before .before .before .before .before .before .before .before .before .loop .start) _ _ (c .before .before .before .before .before .before .before .before .loop-test .taken) (c .before .before .before .before .before .before .before .before .before .loop .inv .0) (c .before .before .before .before .before .size-of .ensures)) (c .before .before .put-value .ensures .0), omega (arith, c .before .before .put-value .ensures .2, c .before .before .before .before .before .before .before .before .before .loop .inv .8, take-length-le (c .before .before .before .before .before .before .before .before .before .loop .start + c .before .before .before .before .before .size-of .result - c .before .before .before .before .before .before .before .before .before .loop .start) (drop (c .before .before .before .before .before .before .before .before .before .loop .start) (c .before .before .before .before .before .before .before .before .before .before .before .before .before .before .args .bytes .now))))
 
 same-length : tie.Need-same-length Inv-loop μ-loop
 same-length c = search needs
 
 returns : tie.Need-returns Inv-loop μ-loop
-returns c = (complete (c .before .loop .inv .7) (values-none _ _ _ _ (c .loop-test .left)), omega arith)
+returns c = (complete (c .before .loop .inv .7) (values-none _ _ _ _ (c .loop-test .left)), omega arith, omega (arith, c .before .loop .inv .2, c .before .loop .inv .8))
 
 pub put-values-spec : {M : Type 1} → statement M
 put-values-spec =

@@ -8,6 +8,7 @@ use Prim.Native.Nat.{_≤_, _<_, _+_, _^_, _/_}
 use mathlib.Core.Path.{_≡_, refl}
 use mathlib.Core.List.{_++_}
 use native.Mathlib.Omega.{arith}
+use Rattle.listing.proofs.Lengths.{decimal-short}
 use lib.ListN.{length, drop, length-drop}
 use Rattle.listing.specs.Text.{decimal}
 use Rattle.listing.proofs.Putting.{puts-as}
@@ -65,7 +66,9 @@ same-length : tie.Need-same-length Inv-loop μ-loop
 same-length c = search needs
 
 returns : tie.Need-returns Inv-loop μ-loop
-returns c = (puts-as (decimal (c .before .before .before .before .before .before .before .before .before .args .x)) (done (c .before .before .before .before .before .before .before .before .before .args .x) (c .before .before .before .before .before .before .before .loop .rest) (c .before .before .before .before .before .before .before .loop .d) (c .before .before .before .before .before .before .before .loop .i) (c .before .before .before .before .before .before .before .loop .inv .1) (c .before .before .before .before .before .before .before .loop .inv .3) (c .before .before .before .before .before .before .loop-test .left)) (c .before .before .put-bytes .ensures), omega arith)
+returns c =
+    let p = puts-as (decimal (c .before .before .before .before .before .before .before .before .before .args .x)) (done (c .before .before .before .before .before .before .before .before .before .args .x) (c .before .before .before .before .before .before .before .loop .rest) (c .before .before .before .before .before .before .before .loop .d) (c .before .before .before .before .before .before .before .loop .i) (c .before .before .before .before .before .before .before .loop .inv .1) (c .before .before .before .before .before .before .before .loop .inv .3) (c .before .before .before .before .before .before .loop-test .left)) (c .before .before .put-bytes .ensures) in
+    (p, omega arith, λ h. omega (arith, p .counted, decimal-short (c .before .before .before .before .before .before .before .before .before .args .x) 4 h))
 
 pub put-decimal-spec : {M : Type 1} → statement M
 put-decimal-spec =

@@ -12,7 +12,7 @@ use mathlib.Core.Path.{_≡_, refl, sym, _∙_, ap}
 use Rattle.field.specs.declared.Layout.{Layout}
 use Rattle.listing.specs.Listing.{headedLines}
 use Rattle.listing.proofs.Putting.{puts-as, then}
-use Rattle.listing.proofs.Heads.{fields-in, fields-after}
+use Rattle.listing.proofs.Heads.{fields-in, begin-after, fields-after}
 use Rattle.listing.proofs.Listed.{cut-lines}
 
 layout-of-requires : tie.Need-layout-of-requires
@@ -41,7 +41,7 @@ same-length c = search needs
 
 returns : tie.Need-returns
 unfolding headedLines
-returns c = then (then (c .before .before .before .before .before .before .before .before .before .before .before .put-header-line .ensures .0) (puts-as _ (cut-lines (c .before .before .before .before .before .before .before .before .before .before .before .before .before .before .before .before .args .h .version) (c .before .before .before .before .before .before .before .before .before .before .before .before .before .before .before .before .args .h .count) (c .before .before .before .before .before .before .before .before .before .before .before .before .before .before .before .before .args .file .now) _ (ap (λ (l : Layout). l .header) (c .before .before .before .before .before .before .before .before .before .before .before .before .before .layout-of .ensures))) (c .before .before .before .before .before .before .put-field-lines .ensures .0))) (c .before .before .put-log-lines .ensures .0)
+returns c = (then (then (c .before .before .before .before .before .before .before .before .before .before .before .put-header-line .ensures .0) (puts-as _ (cut-lines (c .before .before .before .before .before .before .before .before .before .before .before .before .before .before .before .before .args .h .version) (c .before .before .before .before .before .before .before .before .before .before .before .before .before .before .before .before .args .h .count) (c .before .before .before .before .before .before .before .before .before .before .before .before .before .before .before .before .args .file .now) _ (ap (λ (l : Layout). l .header) (c .before .before .before .before .before .before .before .before .before .before .before .before .before .layout-of .ensures))) (c .before .before .before .before .before .before .put-field-lines .ensures .0))) (c .before .before .put-log-lines .ensures .0), omega (arith, c .before .before .before .before .before .before .before .before .before .before .before .put-header-line .ensures .1, c .before .before .before .before .before .before .put-field-lines .ensures .1, c .before .before .put-log-lines .ensures .1, begin-after (c .before .before .before .before .before .before .before .before .before .before .before .before .before .before .before .before .args .file .now) (c .before .before .before .before .before .before .before .before .before .before .before .before .before .before .before .before .args .h) (c .before .before .before .before .before .before .before .before .before .before .before .before .before .before .before .before .pre .1)))
 
 pub put-headed-lines-spec : {M : Type 1} → statement M
 put-headed-lines-spec =
