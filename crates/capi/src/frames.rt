@@ -1,0 +1,90 @@
+// Identifiers, request bytes, and the table holder.
+use crate::Asked;
+use crate::Packed;
+use crate::Unpacked;
+ghost use mathlib.Core.Path.{_≡_};
+ghost use Rattle.bus.specs.Ident.{packOf, unpackOf};
+ghost use Rattle.bus.specs.Request.{readRequestOf, requestBytesOf};
+ghost use Rattle.bus.specs.Holder.{directoryNumber, memoryNumber, serveOf, memoryOf};
+ghost use Rattle.capi.specs.Answers.{packedOut, unpackedOut, askedOut};
+
+#[no_mangle]
+pub extern "C" fn hg_pack(parts: bus::Parts) -> Packed
+    ensures { λ r. ⌜ r ≡ packedOut (packOf parts) ⌝ }
+{
+    let p = bus::ident::pack(parts);
+    match p {
+        bus::Packed::Is(id) => Packed { id, number: 0 },
+        bus::Packed::Refused(number) => Packed { id: 0, number },
+    }
+}
+
+#[no_mangle]
+pub extern "C" fn hg_unpack(id: u32) -> Unpacked
+    ensures { λ r. ⌜ r ≡ unpackedOut (unpackOf id) ⌝ }
+{
+    let u = bus::ident::unpack(id);
+    match u {
+        bus::Unpacked::Is(parts) => Unpacked { parts, number: 0 },
+        bus::Unpacked::Refused(number) => Unpacked {
+            parts: bus::Parts {
+                offset: 0,
+                kind: 0,
+                from: 0,
+                to: 0,
+                table: 0,
+            },
+            number,
+        },
+    }
+}
+
+#[no_mangle]
+pub extern "C" fn hg_read_request(first: u8, second: u8, third: u8) -> Asked
+    ensures { λ r. ⌜ r ≡ askedOut (readRequestOf first second third) ⌝ }
+{
+    let q = bus::requests::read_request(first, second, third);
+    match q {
+        bus::Asked::Is(request) => Asked { request, number: 0 },
+        bus::Asked::Refused(number) => Asked {
+            request: bus::Request {
+                table: 0,
+                count: 0,
+                offset: 0,
+            },
+            number,
+        },
+    }
+}
+
+#[no_mangle]
+pub extern "C" fn hg_request_bytes_of(request: bus::Request) -> bus::RequestBytes
+    ensures { λ r. ⌜ r ≡ requestBytesOf request ⌝ }
+{
+    bus::requests::request_bytes(request)
+}
+
+#[no_mangle]
+pub extern "C" fn hg_directory_number(directory: bus::Directory) -> u8
+    ensures { λ r. ⌜ r ≡ directoryNumber directory ⌝ }
+{
+    bus::holder::directory_number(directory)
+}
+
+#[no_mangle]
+pub extern "C" fn hg_memory_number(directory: bus::Directory, len: usize) -> u8
+    ensures { λ r. ⌜ r ≡ memoryNumber directory len ⌝ }
+{
+    bus::holder::memory_number(directory, len)
+}
+
+#[no_mangle]
+pub extern "C" fn hg_serve(
+    directory: bus::Directory,
+    memory: &mut [u8],
+    frame: bus::Frame,
+) -> bus::Served
+    ensures { λ r. ⌜ (r ≡ serveOf directory (now (memory .entry)) frame) × (now (memory .exit) ≡ memoryOf directory (now (memory .entry)) frame) ⌝ }
+{
+    bus::holder::serve(directory, memory, frame)
+}
