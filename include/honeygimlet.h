@@ -152,6 +152,12 @@ HG_SIZE(hg_served, 20);
  */
 hg_served hg_serve(hg_directory directory, uint8_t *memory, size_t len, hg_frame frame);
 
+/* Judges a directory as hg_serve does. Number: 11. */
+uint8_t hg_directory_number(hg_directory directory);
+
+/* Judges a directory and the length of its memory as hg_serve does. Numbers: 11, 10. */
+uint8_t hg_memory_number(hg_directory directory, size_t len);
+
 /* ---- Bridge ---- */
 
 /* Phases of a slot, and kinds of transfers. */
@@ -203,6 +209,7 @@ typedef struct {
 } hg_changed;
 HG_SIZE(hg_changed, 76);
 
+/* A part of a buffer or of a file: where it starts and how many bytes it has, both 0 where the number is not 0. */
 typedef struct {
     uint8_t number;
     size_t start;
@@ -304,6 +311,35 @@ hg_mlg_header hg_mlg_read_header(const uint8_t *file, size_t len);
 hg_mlg_block hg_mlg_read_block(const uint8_t *file, size_t len, uint16_t size, uint64_t earlier, size_t place);
 
 /*
+ * How many blocks a log has, and how they ended: `ending` is 0 at the file's end, else the number that refuses what stands at
+ * `place`. A refused header gives no blocks, its number, and place 0.
+ */
+typedef struct {
+    uint64_t blocks;
+    uint8_t ending;
+    size_t place;
+} hg_tally;
+HG_SIZE(hg_tally, 24);
+
+/* Counts the blocks of a file. */
+hg_tally hg_mlg_count_blocks(const uint8_t *file, size_t len);
+
+/*
+ * Parts of a file: the 89 bytes of field `index`, counted from 0; the names area, from the fields' end to the info or to data
+ * begin; the info text without its zero (no bytes where there is none).
+ * Numbers: as hg_mlg_read_header, then 23 for a field that is not there.
+ */
+hg_span hg_mlg_field_span(const uint8_t *file, size_t len, uint16_t index);
+hg_span hg_mlg_names_span(const uint8_t *file, size_t len);
+hg_span hg_mlg_info_span(const uint8_t *file, size_t len);
+
+/*
+ * Writes the listing of a file, as the program loglist prints it: a refused file too has a listing, and one of over 65,536
+ * bytes the line `too long`. Number: 27.
+ */
+hg_written hg_list(uint8_t *out, size_t len, const uint8_t *file, size_t file_len);
+
+/*
  * Writes a header: fields of 89 bytes each, the names area, and the info text without its zero (empty: none).
  * Numbers: 23 (fields not a multiple of 89 bytes or over 65,535, sizes summing over 65,535, over 2^32-1 bytes), 28 (zero in
  * info), then the reader's for the fields, then 27.
@@ -366,6 +402,12 @@ hg_frd_header hg_frd_read_header(const uint8_t *file, size_t len);
 
 /* What stands at a place; a data block takes size + 2 bytes, a time block 6. Numbers: 23 (place past the file), 25, 20. */
 hg_frd_block hg_frd_read_block(const uint8_t *file, size_t len, uint16_t size, uint64_t earlier, size_t place);
+
+/* Counts the blocks of a file. */
+hg_tally hg_frd_count_blocks(const uint8_t *file, size_t len);
+
+/* The 63 bytes of the signature. Numbers: as hg_frd_read_header. */
+hg_span hg_frd_signature_span(const uint8_t *file, size_t len);
 
 /* Writes a header. Numbers: 23 (signature not of 63 bytes), 27. */
 hg_written hg_frd_write_header(uint8_t *out, size_t len, uint32_t time, const uint8_t *signature, size_t signature_len, uint16_t size);

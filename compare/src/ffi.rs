@@ -41,9 +41,14 @@ extern "C" {
     fn hg_frd_write_header(out: *mut u8, len: usize, time: u32, signature: *const u8, signature_len: usize, size: u16) -> Written;
     fn hg_frd_write_data(out: *mut u8, len: usize, size: u16, earlier: u64, record: *const u8, record_len: usize) -> Written;
     fn hg_frd_write_time(out: *mut u8, len: usize, earlier: u64, time: u32) -> Written;
+
+    fn hg_list(out: *mut u8, len: usize, file: *const u8, file_len: usize) -> Written;
 }
 
-/// `loglist` is the path of the listing program, where it is to be compared too.
+/// Longer than the listing of any file of 65,536 bytes.
+const LISTING: usize = 1 << 22;
+
+/// `loglist` is the path of the listing program, where that is to be compared and not `hg_list`.
 pub struct Library {
     pub loglist: Option<String>,
 }
@@ -169,9 +174,15 @@ impl Side for Library {
         unsafe { hg_frd_write_time(out.as_mut_ptr(), out.len(), earlier, time) }
     }
 
-    /// Runs the listing program on the file.
+    /// What the listing program writes on the file, or `hg_list` where there is no program.
     fn listing(&self, file: &[u8]) -> Option<Vec<u8>> {
-        let program = self.loglist.as_ref()?;
+        let Some(program) = self.loglist.as_ref() else {
+            let mut out = vec![0; LISTING];
+            let written = unsafe { hg_list(out.as_mut_ptr(), out.len(), file.as_ptr(), file.len()) };
+            assert_eq!(written.number, 0, "hg_list");
+            out.truncate(written.len);
+            return Some(out);
+        };
         let mut child = Command::new(program)
             .stdin(Stdio::piped())
             .stdout(Stdio::piped())

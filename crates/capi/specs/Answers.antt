@@ -1,4 +1,7 @@
 -- What the C structs hold: the paper's number and values of each case of an answer; in a refusal every other number is 0.
+use Prim.Native.Nat.{ℕ}
+use mathlib.Core.Bool.{Bool, true, false}
+use lib.IntN.{pos}
 use Rattle.bus.specs.declared.Packed.{Packed as PackedEnum}
 use Rattle.bus.specs.declared.Packed.the-variants as P
 use Rattle.bus.specs.declared.Unpacked.{Unpacked as UnpackedEnum}
@@ -7,9 +10,29 @@ use Rattle.bus.specs.declared.Asked.{Asked as AskedEnum}
 use Rattle.bus.specs.declared.Asked.the-variants as A
 use Rattle.bus.specs.Ident.{noParts}
 use Rattle.bus.specs.Request.{noRequest}
+use Rattle.mlg.specs.Block.{dataKind, markKind, endKind, refusedKind}
+use Rattle.mlg.specs.declared.Head.{Head as MlgHead}
+use Rattle.mlg.specs.declared.Head.the-variants as MH
+use Rattle.mlg.specs.declared.Block.{Block as MlgEnum}
+use Rattle.mlg.specs.declared.Block.the-variants as MB
+use Rattle.frd.specs.declared.Head.{Head as FrdHead}
+use Rattle.frd.specs.declared.Head.the-variants as FH
+use Rattle.frd.specs.declared.Block.{Block as FrdEnum}
+use Rattle.frd.specs.declared.Block.the-variants as FB
+use Rattle.field.specs.Shown.{zeroFloat}
+use Rattle.field.specs.declared.RawValue.{RawValue}
+use Rattle.field.specs.declared.RawValue.the-variants as R
+use Rattle.field.specs.declared.ShownValue.{ShownValue}
+use Rattle.field.specs.declared.ShownValue.the-variants as S
 use Rattle.capi.specs.declared.Packed.{Packed}
 use Rattle.capi.specs.declared.Unpacked.{Unpacked}
 use Rattle.capi.specs.declared.Asked.{Asked}
+use Rattle.capi.specs.declared.MlgHeader.{MlgHeader}
+use Rattle.capi.specs.declared.MlgBlock.{MlgBlock}
+use Rattle.capi.specs.declared.FrdHeader.{FrdHeader}
+use Rattle.capi.specs.declared.FrdBlock.{FrdBlock}
+use Rattle.capi.specs.declared.Raw.{Raw}
+use Rattle.capi.specs.declared.Shown.{Shown}
 
 abbrev pub packedOut : PackedEnum → Packed
 packedOut (P.Is id) = record { id = id; number = 0 }
@@ -22,3 +45,53 @@ unpackedOut (U.Refused n) = record { parts = noParts; number = n }
 abbrev pub askedOut : AskedEnum → Asked
 askedOut (A.Is q) = record { request = q; number = 0 }
 askedOut (A.Refused n) = record { request = noRequest; number = n }
+
+-- a bool as a number
+abbrev pub flagOf : Bool → ℕ
+flagOf true = 1
+flagOf false = 0
+
+abbrev pub mlgHeader : MlgHead → MlgHeader
+mlgHeader (MH.Is h) =
+    record { time = h .time; info = h .info; begin = h .begin; size = h .size; count = h .count; version = h .version; number = 0 }
+mlgHeader (MH.Refused n) = record { time = 0; info = 0; begin = 0; size = 0; count = 0; version = 0; number = n }
+
+-- no block: the end, or a refusal, which names the block's place
+abbrev pub noMlgBlock : (kind number place : ℕ) → MlgBlock
+noMlgBlock k n p = record { place = p; start = 0; count = 0; time = 0; number = n; kind = k; counter = 0; right = 0 }
+
+-- where records have l bytes
+abbrev pub mlgBlock : ℕ → MlgEnum → MlgBlock
+mlgBlock l (MB.Data c m s r) =
+    record { place = 0; start = s; count = l; time = m; number = 0; kind = dataKind; counter = c; right = flagOf r }
+mlgBlock l (MB.Mark c m s k r) =
+    record { place = 0; start = s; count = k; time = m; number = 0; kind = markKind; counter = c; right = flagOf r }
+mlgBlock l MB.End = noMlgBlock endKind 0 0
+mlgBlock l (MB.Refused n p) = noMlgBlock refusedKind n p
+
+abbrev pub frdHeader : FrdHead → FrdHeader
+frdHeader (FH.Is h) = record { time = h .time; size = h .size; number = 0 }
+frdHeader (FH.Refused n) = record { time = 0; size = 0; number = n }
+
+-- as of an MLG; a time block has a mark's kind
+abbrev pub noFrdBlock : (kind number place : ℕ) → FrdBlock
+noFrdBlock k n p = record { place = p; start = 0; count = 0; time = 0; number = n; kind = k; counter = 0; right = 0 }
+
+abbrev pub timeKind : ℕ
+timeKind = markKind
+
+abbrev pub frdBlock : ℕ → FrdEnum → FrdBlock
+frdBlock l (FB.Data c s r) =
+    record { place = 0; start = s; count = l; time = 0; number = 0; kind = dataKind; counter = c; right = flagOf r }
+frdBlock l (FB.Time c m r) =
+    record { place = 0; start = 0; count = 0; time = m; number = 0; kind = timeKind; counter = c; right = flagOf r }
+frdBlock l FB.End = noFrdBlock endKind 0 0
+frdBlock l (FB.Refused n p) = noFrdBlock refusedKind n p
+
+abbrev pub rawOut : RawValue → Raw
+rawOut (R.Is z) = record { value = z; number = 0 }
+rawOut (R.Refused n) = record { value = pos 0; number = n }
+
+abbrev pub shownOut : ShownValue → Shown
+shownOut (S.Is x) = record { value = x; number = 0 }
+shownOut (S.Refused n) = record { value = zeroFloat; number = n }

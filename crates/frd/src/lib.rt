@@ -73,6 +73,7 @@ pub fn read_header(file: &[u8]) -> Head
 }
 
 // A part of a file: the number that refuses it, or 0, its place and its length.
+#[repr(C)]
 pub struct Part {
     pub number: u8,
     pub start: usize,
@@ -231,6 +232,7 @@ pub fn length_of(b: Block, size: u16) -> usize
 
 // How many blocks a file has, and how they ended: 0 at the file's end, else the number that refuses what stands at `place`.
 // A refused header gives no blocks, its number, and place 0.
+#[repr(C)]
 pub struct Tally {
     pub blocks: u64,
     pub ending: u8,

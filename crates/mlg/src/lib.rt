@@ -78,6 +78,7 @@ pub enum Block {
 }
 
 // How many blocks a log has, and how they ended: 0 at the file's end, else the number that refuses what stands at `place`.
+#[repr(C)]
 pub struct Tally {
     pub blocks: u64,
     pub ending: u8,
@@ -85,6 +86,7 @@ pub struct Tally {
 }
 
 // A part of a file: a number, and where the part starts and how long it is.
+#[repr(C)]
 pub struct Span {
     pub number: u8,
     pub start: usize,

@@ -9,9 +9,10 @@ ghost use Rattle.wire.specs.Text.{textLen, zeros};
 ghost use Rattle.wire.specs.Put.{putAt, putOf};
 
 // What a writer hands back: a number, and how many bytes it wrote (specs/Writer.antt).
+#[repr(C)]
 pub struct Written {
-    pub number: u8,
     pub len: usize,
+    pub number: u8,
 }
 
 fn wide(b: u8) -> u64

@@ -1,0 +1,154 @@
+// FRD files.
+use crate::DATA;
+use crate::END;
+use crate::FrdBlock;
+use crate::FrdHeader;
+use crate::REFUSED;
+use crate::TIME;
+use crate::flag;
+use frd::Block;
+use frd::Head;
+ghost use mathlib.Core.Path.{_≡_};
+ghost use lib.ListN.{length};
+ghost use Rattle.wire.specs.Writer.{wrote, leaves};
+ghost use Rattle.frd.specs.Counter.{counterOf};
+ghost use Rattle.frd.specs.Header.{headNumber, headerOf, signaturePart};
+ghost use Rattle.frd.specs.Blocks.{blockAt};
+ghost use Rattle.frd.specs.Log.{fileLog, tallyOf};
+ghost use Rattle.frd.specs.Writers.{headerBytes, headerNumber, dataBytes, dataNumber, timeBytes, roomNumber};
+ghost use Rattle.capi.specs.Answers.{frdHeader, noFrdBlock, frdBlock};
+
+#[no_mangle]
+pub extern "C" fn hg_frd_read_header(file: &[u8]) -> FrdHeader
+    ensures { λ r. ⌜ r ≡ frdHeader (headerOf (now (file .entry))) ⌝ }
+{
+    let head = frd::read_header(file);
+    match head {
+        Head::Is(h) => FrdHeader {
+            time: h.time,
+            size: h.size,
+            number: 0,
+        },
+        Head::Refused(number) => FrdHeader {
+            time: 0,
+            size: 0,
+            number,
+        },
+    }
+}
+
+// The end or a refusal.
+fn no_block(kind: u8, number: u8, place: usize) -> FrdBlock
+    ensures { λ r. ⌜ r ≡ noFrdBlock kind number place ⌝ }
+{
+    FrdBlock {
+        place,
+        start: 0,
+        count: 0,
+        time: 0,
+        number,
+        kind,
+        counter: 0,
+        right: 0,
+    }
+}
+
+// A block as a struct, where records have the given length.
+fn block_out(b: Block, size: u16) -> FrdBlock
+    ensures { λ r. ⌜ r ≡ frdBlock size b ⌝ }
+{
+    let Block::Data {
+        counter,
+        start,
+        right,
+    } = b
+    else {
+        let Block::Time {
+            counter,
+            time,
+            right,
+        } = b
+        else {
+            let Block::Refused { number, place } = b else {
+                return no_block(END, 0, 0);
+            };
+            return no_block(REFUSED, number, place);
+        };
+        return FrdBlock {
+            place: 0,
+            start: 0,
+            count: 0,
+            time,
+            number: 0,
+            kind: TIME,
+            counter,
+            right: flag(right),
+        };
+    };
+    FrdBlock {
+        place: 0,
+        start,
+        count: size as usize,
+        time: 0,
+        number: 0,
+        kind: DATA,
+        counter,
+        right: flag(right),
+    }
+}
+
+#[no_mangle]
+pub extern "C" fn hg_frd_read_block(file: &[u8], size: u16, earlier: u64, place: usize) -> FrdBlock
+    ensures { λ r. ⌜ r ≡ frdBlock size (blockAt size earlier (now (file .entry)) place) ⌝ }
+{
+    let b = frd::read_block(file, size, earlier, place);
+    block_out(b, size)
+}
+
+#[no_mangle]
+pub extern "C" fn hg_frd_count_blocks(file: &[u8]) -> frd::Tally
+    ensures { λ r. ⌜ r ≡ tallyOf (fileLog (now (file .entry))) ⌝ }
+{
+    frd::count_blocks(file)
+}
+
+#[no_mangle]
+pub extern "C" fn hg_frd_signature_span(file: &[u8]) -> frd::Part
+    ensures { λ r. ⌜ r ≡ signaturePart (headNumber (now (file .entry))) ⌝ }
+{
+    frd::read_signature(file)
+}
+
+#[no_mangle]
+pub extern "C" fn hg_frd_write_header(
+    out: &mut [u8],
+    time: u32,
+    signature: &[u8],
+    size: u16,
+) -> wire::Written
+    ensures { λ r. ⌜ (r ≡ wrote (headerNumber time (now (signature .entry)) size (length (now (out .entry)))) (headerBytes time (now (signature .entry)) size))
+        × (now (out .exit) ≡ leaves (headerNumber time (now (signature .entry)) size (length (now (out .entry)))) (headerBytes time (now (signature .entry)) size) (now (out .entry))) ⌝ }
+{
+    frd::write_header(out, time, signature, size)
+}
+
+#[no_mangle]
+pub extern "C" fn hg_frd_write_data(
+    out: &mut [u8],
+    size: u16,
+    earlier: u64,
+    bytes: &[u8],
+) -> wire::Written
+    ensures { λ r. ⌜ (r ≡ wrote (dataNumber size (counterOf earlier) (now (bytes .entry)) (length (now (out .entry)))) (dataBytes (counterOf earlier) (now (bytes .entry))))
+        × (now (out .exit) ≡ leaves (dataNumber size (counterOf earlier) (now (bytes .entry)) (length (now (out .entry)))) (dataBytes (counterOf earlier) (now (bytes .entry))) (now (out .entry))) ⌝ }
+{
+    frd::write_data(out, size, earlier, bytes)
+}
+
+#[no_mangle]
+pub extern "C" fn hg_frd_write_time(out: &mut [u8], earlier: u64, time: u32) -> wire::Written
+    ensures { λ r. ⌜ (r ≡ wrote (roomNumber (timeBytes (counterOf earlier) time) (length (now (out .entry)))) (timeBytes (counterOf earlier) time))
+        × (now (out .exit) ≡ leaves (roomNumber (timeBytes (counterOf earlier) time) (length (now (out .entry)))) (timeBytes (counterOf earlier) time) (now (out .entry))) ⌝ }
+{
+    frd::write_time(out, earlier, time)
+}

@@ -1,0 +1,197 @@
+// MLG files.
+use crate::DATA;
+use crate::END;
+use crate::MARK;
+use crate::MlgBlock;
+use crate::MlgHeader;
+use crate::REFUSED;
+use crate::flag;
+use mlg::Block;
+use mlg::Head;
+ghost use mathlib.Core.Path.{_≡_};
+ghost use Prim.Native.Nat.{_+_, _≤_};
+ghost use lib.ListN.{length};
+ghost use Rattle.wire.specs.Writer.{wrote, leaves};
+ghost use Rattle.mlg.specs.Header.{headerOf};
+ghost use Rattle.mlg.specs.Block.{counterOf, blockAt};
+ghost use Rattle.mlg.specs.Log.{tallyIn};
+ghost use Rattle.mlg.specs.Parts.{fieldSpan, namesSpan, infoSpan};
+ghost use Rattle.mlg.specs.Writing.{headerBytes, headerNumber, dataBytes, markBytes, dataNumber, markNumber};
+ghost use Rattle.listing.specs.Listing.{listingOf, listingNumber};
+ghost use Rattle.capi.specs.Answers.{mlgHeader, noMlgBlock, mlgBlock};
+
+#[no_mangle]
+pub extern "C" fn hg_mlg_read_header(file: &[u8]) -> MlgHeader
+    ensures { λ r. ⌜ r ≡ mlgHeader (headerOf (now (file .entry))) ⌝ }
+{
+    let head = mlg::read_header(file);
+    match head {
+        Head::Is(h) => MlgHeader {
+            time: h.time,
+            info: h.info,
+            begin: h.begin,
+            size: h.size,
+            count: h.count,
+            version: h.version,
+            number: 0,
+        },
+        Head::Refused(number) => MlgHeader {
+            time: 0,
+            info: 0,
+            begin: 0,
+            size: 0,
+            count: 0,
+            version: 0,
+            number,
+        },
+    }
+}
+
+// The end or a refusal.
+fn no_block(kind: u8, number: u8, place: usize) -> MlgBlock
+    ensures { λ r. ⌜ r ≡ noMlgBlock kind number place ⌝ }
+{
+    MlgBlock {
+        place,
+        start: 0,
+        count: 0,
+        time: 0,
+        number,
+        kind,
+        counter: 0,
+        right: 0,
+    }
+}
+
+// A block as a struct, where records have the given length.
+fn block_out(b: Block, size: u16) -> MlgBlock
+    ensures { λ r. ⌜ r ≡ mlgBlock size b ⌝ }
+{
+    let Block::Data {
+        counter,
+        time,
+        start,
+        right,
+    } = b
+    else {
+        let Block::Mark {
+            counter,
+            time,
+            start,
+            len,
+            right,
+        } = b
+        else {
+            let Block::Refused { number, place } = b else {
+                return no_block(END, 0, 0);
+            };
+            return no_block(REFUSED, number, place);
+        };
+        return MlgBlock {
+            place: 0,
+            start,
+            count: len,
+            time,
+            number: 0,
+            kind: MARK,
+            counter,
+            right: flag(right),
+        };
+    };
+    MlgBlock {
+        place: 0,
+        start,
+        count: size as usize,
+        time,
+        number: 0,
+        kind: DATA,
+        counter,
+        right: flag(right),
+    }
+}
+
+#[no_mangle]
+pub extern "C" fn hg_mlg_read_block(file: &[u8], size: u16, earlier: u64, place: usize) -> MlgBlock
+    ensures { λ r. ⌜ r ≡ mlgBlock size (blockAt size earlier (now (file .entry)) place) ⌝ }
+{
+    let b = mlg::read_block(file, size, earlier, place);
+    block_out(b, size)
+}
+
+#[no_mangle]
+pub extern "C" fn hg_mlg_count_blocks(file: &[u8]) -> mlg::Tally
+    ensures { λ r. ⌜ r ≡ tallyIn (now (file .entry)) ⌝ }
+{
+    mlg::count_blocks(file)
+}
+
+#[no_mangle]
+pub extern "C" fn hg_mlg_field_span(file: &[u8], index: u16) -> mlg::Span
+    ensures { λ r. ⌜ (r ≡ fieldSpan (now (file .entry)) index) × (r .start + r .len ≤ length (now (file .entry))) ⌝ }
+{
+    mlg::field_span(file, index)
+}
+
+#[no_mangle]
+pub extern "C" fn hg_mlg_names_span(file: &[u8]) -> mlg::Span
+    ensures { λ r. ⌜ (r ≡ namesSpan (now (file .entry))) × (r .start + r .len ≤ length (now (file .entry))) ⌝ }
+{
+    mlg::names_span(file)
+}
+
+#[no_mangle]
+pub extern "C" fn hg_mlg_info_span(file: &[u8]) -> mlg::Span
+    ensures { λ r. ⌜ (r ≡ infoSpan (now (file .entry))) × (r .start + r .len ≤ length (now (file .entry))) ⌝ }
+{
+    mlg::info_span(file)
+}
+
+#[no_mangle]
+pub extern "C" fn hg_mlg_write_header(
+    out: &mut [u8],
+    time: u32,
+    fields: &[u8],
+    names: &[u8],
+    info: &[u8],
+) -> wire::Written
+    ensures { λ r. ⌜ (r ≡ wrote (headerNumber 2 time (now (fields .entry)) (now (names .entry)) (now (info .entry)) (length (now (out .entry)))) (headerBytes 2 time (now (fields .entry)) (now (names .entry)) (now (info .entry))))
+        × (now (out .exit) ≡ leaves (headerNumber 2 time (now (fields .entry)) (now (names .entry)) (now (info .entry)) (length (now (out .entry)))) (headerBytes 2 time (now (fields .entry)) (now (names .entry)) (now (info .entry))) (now (out .entry))) ⌝ }
+{
+    mlg::write_header(out, time, fields, names, info)
+}
+
+#[no_mangle]
+pub extern "C" fn hg_mlg_write_data(
+    out: &mut [u8],
+    size: u16,
+    earlier: u64,
+    time: u16,
+    bytes: &[u8],
+) -> wire::Written
+    ensures { λ r. ⌜ (r ≡ wrote (dataNumber size (now (bytes .entry)) (length (now (out .entry)))) (dataBytes (counterOf earlier) time (now (bytes .entry))))
+        × (now (out .exit) ≡ leaves (dataNumber size (now (bytes .entry)) (length (now (out .entry)))) (dataBytes (counterOf earlier) time (now (bytes .entry))) (now (out .entry))) ⌝ }
+{
+    mlg::write_data(out, size, earlier, time, bytes)
+}
+
+#[no_mangle]
+pub extern "C" fn hg_mlg_write_mark(
+    out: &mut [u8],
+    earlier: u64,
+    time: u16,
+    text: &[u8],
+) -> wire::Written
+    ensures { λ r. ⌜ (r ≡ wrote (markNumber (now (text .entry)) (length (now (out .entry)))) (markBytes (counterOf earlier) time (now (text .entry))))
+        × (now (out .exit) ≡ leaves (markNumber (now (text .entry)) (length (now (out .entry)))) (markBytes (counterOf earlier) time (now (text .entry))) (now (out .entry))) ⌝ }
+{
+    mlg::write_mark(out, earlier, time, text)
+}
+
+// The listing of a file.
+#[no_mangle]
+pub extern "C" fn hg_list(out: &mut [u8], file: &[u8]) -> wire::Written
+    ensures { λ r. ⌜ (r ≡ wrote (listingNumber (now (file .entry)) (length (now (out .entry)))) (listingOf (now (file .entry))))
+        × (now (out .exit) ≡ leaves (listingNumber (now (file .entry)) (length (now (out .entry)))) (listingOf (now (file .entry))) (now (out .entry))) ⌝ }
+{
+    listing::list(out, file)
+}
