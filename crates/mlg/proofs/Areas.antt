@@ -2,7 +2,7 @@
 use Prim.Native.Nat.{ℕ, zero, suc, _+_, _-_, _≤_, _<_}
 use mathlib.Core.Path.{_≡_, refl, sym, ap, _∙_}
 use mathlib.Core.Bool.{Bool, true, false}
-use borrow.Author.Tests.{le-leb, lt-leb, ltb-true, ltb-false}
+use borrow.Author.Tests.{le-leb, lt-leb, le-ltb, leb-true, ltb-true, ltb-false}
 use lib.Dec.{ltb, leb}
 use mathlib.Core.List.{List, [], _∷_, _++_, append-nil}
 use native.Mathlib.Omega.{arith}
@@ -55,6 +55,12 @@ area-past n i k h =
 pub area-from : (n i : List ℕ) (k : ℕ) → k ≤ length n → zeros (drop k n) + zeros (ended i) ≡ zeros (drop k (areaOf n i))
 unfolding areaOf
 area-from n i k h = sym (ap zeros (drop-append-le k n (ended i) h) ∙ zeros-append (drop k n) (ended i))
+
+-- zeros enough in the names
+pub area-enough : (l i : List ℕ) (k n : ℕ) → k < length l → leb n (zeros (take (length l - k) (drop k l))) ≡ true → false ≡ ltb (zeros (drop k (areaOf l i))) n
+area-enough l i k n h e =
+    let p : n ≤ zeros (drop k l) = leb-true n (zeros (drop k l)) (ap (λ (t : List ℕ). leb n (zeros t)) (sym (tail-part l k)) ∙ e) in
+    sym (le-ltb (zeros (drop k (areaOf l i))) n (omega (arith, p, area-from l i k (omega arith))))
 
 pub area-bare : (n : List ℕ) → areaOf n [] ≡ n
 unfolding areaOf

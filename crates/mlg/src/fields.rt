@@ -2,7 +2,7 @@
 ghost use mathlib.Core.Path.{_≡_};
 ghost use Prim.Native.Nat.{_+_, _*_, _<_, _≤_, _^_};
 ghost use lib.ListN.{length, take, drop};
-ghost use lib.Dec.{leb};
+ghost use lib.Dec.{leb, ltb};
 ghost use Rattle.wire.specs.Text.{zeros};
 ghost use Rattle.field.specs.Layout.{fieldLen};
 ghost use Rattle.field.specs.Field.{fieldSize};
@@ -70,6 +70,36 @@ pub(crate) fn area_zeros(names: &[u8], info: &[u8], at: usize) -> usize
     wire::zero_count(&names[at..]) + more
 }
 
+// Whether there are at least n zeros.
+pub(crate) fn has_zeros(s: &[u8], n: usize) -> bool
+    ensures { λ r. ⌜ r ≡ leb n (zeros (now (s .entry))) ⌝ }
+{
+    let mut left = n;
+    let mut i = 0;
+    while i < s.len() {
+        if left == 0 {
+            return true;
+        }
+        if s[i] == 0 {
+            left -= 1;
+        }
+        i += 1;
+    }
+    left == 0
+}
+
+// Whether the names and info with its zero have fewer than n zeros from a place of the names on. Most files hold them near that place.
+pub(crate) fn lacks_names(names: &[u8], info: &[u8], at: usize, n: usize) -> bool
+    ensures { λ r. ⌜ r ≡ ltb (zeros (drop at (areaOf (now (names .entry)) (now (info .entry))))) n ⌝ }
+{
+    if at < names.len() {
+        if has_zeros(&names[at..], n) {
+            return false;
+        }
+    }
+    area_zeros(names, info, at) < n
+}
+
 pub(crate) fn names_number(base: usize, names: &[u8], info: &[u8], d: &[u8]) -> u8
     requires { ⌜ 55 ≤ length (now d) ⌝ }
     ensures { λ r. ⌜ r ≡ namesNumber base (areaOf (now (names .entry)) (now (info .entry))) (now (d .entry)) ⌝ }
@@ -90,8 +120,7 @@ pub(crate) fn names_number(base: usize, names: &[u8], info: &[u8], d: &[u8]) -> 
     if past_area(names, info, at) {
         return 23;
     }
-    let count = area_zeros(names, info, at);
-    if count < bits {
+    if lacks_names(names, info, at, bits) {
         return 28;
     }
     0

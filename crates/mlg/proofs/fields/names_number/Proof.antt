@@ -39,16 +39,16 @@ returns-4 : tie.Need-returns-4
 unfolding namesNumber
 returns-4 c = rw (← c .before .before .before .be32 .ensures, ← c .before .past-area .ensures) (search order depth 9)
 
-area-zeros-requires : tie.Need-area-zeros-requires
-area-zeros-requires c κs = search needs
+lacks-names-requires : tie.Need-lacks-names-requires
+lacks-names-requires c κs = search needs
 
 returns-5 : tie.Need-returns-5
 unfolding namesNumber
-returns-5 c = rw (← c .before .before .before .before .before .be32 .ensures, ← c .before .before .before .past-area .ensures, ← c .before .area-zeros .ensures) (search order depth 12)
+returns-5 c = rw (← c .before .before .before .before .before .be32 .ensures, ← c .before .before .before .past-area .ensures, ← c .before .lacks-names .ensures) (search order depth 12)
 
 returns-6 : tie.Need-returns-6
 unfolding namesNumber
-returns-6 c = rw (← c .before .before .before .before .before .be32 .ensures, ← c .before .before .before .past-area .ensures, ← c .before .area-zeros .ensures) (search order depth 12)
+returns-6 c = rw (← c .before .before .before .before .before .be32 .ensures, ← c .before .before .before .past-area .ensures, ← c .before .lacks-names .ensures) (search order depth 12)
 
 pub names-number-spec : {M : Type 1} → statement M
 names-number-spec =
@@ -64,6 +64,6 @@ names-number-spec =
     returns-3
     past-area-requires
     returns-4
-    area-zeros-requires
+    lacks-names-requires
     returns-5
     returns-6)

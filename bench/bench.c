@@ -1,0 +1,480 @@
+/*
+ * Times the library's calls and the plain C version's on the same inputs, after checking that their answers and all that
+ * they were lent are the same. The variants of a test take turns, a batch each; the least time of a batch counts.
+ *
+ *     bench                      a table of times and ratios
+ *     bench count TEST VARIANT   runs one batch in `measured`, for callgrind, and prints its number of operations
+ */
+#define _GNU_SOURCE
+#include "plain.h"
+
+#include <sched.h>
+#include <stdbool.h>
+#include <stdio.h>
+#include <stdlib.h>
+#include <string.h>
+#include <time.h>
+
+#define VARIANTS(X) X(library) X(gcc_O3) X(clang_O3) X(gcc_O2)
+enum { LIBRARY, PLAIN_FIRST, VARIANT_COUNT = 4 };
+static const char *const variant_names[VARIANT_COUNT] = {"library", "gcc -O3", "clang -O3", "gcc -O2"};
+
+PLAIN_DECLARE(gcc_O3_)
+PLAIN_DECLARE(clang_O3_)
+PLAIN_DECLARE(gcc_O2_)
+
+/* The library's calls in the plain version's form. */
+#define LIBRARY_CALL static inline __attribute__((always_inline))
+LIBRARY_CALL hg_unpacked library_unpack(uint32_t id) { return hg_unpack(id); }
+LIBRARY_CALL void library_serve(const hg_directory *d, uint8_t *memory, size_t len, const hg_frame *f, hg_served *out) { *out = hg_serve(*d, memory, len, *f); }
+LIBRARY_CALL void library_turn(hg_bridge *b, const uint8_t *buffer, size_t len, hg_served *out) { *out = hg_turn_in_place(b, buffer, len); }
+LIBRARY_CALL void library_frame(hg_bridge *b, uint8_t *buffer, size_t len, const hg_frame *f, hg_served *out) { *out = hg_frame_in_place(b, buffer, len, *f); }
+LIBRARY_CALL void library_read_header(const uint8_t *file, size_t len, hg_mlg_header *out) { *out = hg_mlg_read_header(file, len); }
+LIBRARY_CALL void library_read_block(const uint8_t *file, size_t len, uint16_t size, uint64_t earlier, size_t place, hg_mlg_block *out) { *out = hg_mlg_read_block(file, len, size, earlier, place); }
+LIBRARY_CALL hg_written library_list(uint8_t *out, size_t len, const uint8_t *file, size_t file_len) { return hg_list(out, len, file, file_len); }
+
+/* ---- Numbers that stand for an answer ---- */
+
+static uint64_t mixed(uint64_t h, uint64_t x) { return (h ^ x) * 1099511628211u; }
+
+static uint64_t mixed_bytes(uint64_t h, const uint8_t *bytes, size_t n)
+{
+    for (size_t i = 0; i < n; i++)
+        h = mixed(h, bytes[i]);
+    return h;
+}
+
+static uint64_t served_digest(uint64_t h, const hg_served *s)
+{
+    h = mixed(mixed(mixed(mixed(h, s->number), s->answers), s->frame.id), s->frame.len);
+    return mixed_bytes(h, s->frame.bytes, 8);
+}
+
+static uint64_t slot_digest(uint64_t h, const hg_slot *s)
+{
+    h = mixed(mixed(mixed(mixed(h, s->ticket), s->offset), s->phase), s->kind);
+    return mixed(mixed(mixed(mixed(mixed(mixed(h, s->device), s->table), s->count), s->progress), s->sends), s->left);
+}
+
+static uint64_t bridge_digest(uint64_t h, const hg_bridge *b)
+{
+    for (int i = 0; i < 4; i++)
+        h = slot_digest(h, &b->slots[i]);
+    return mixed(mixed(mixed(h, b->tickets), b->own), b->last);
+}
+
+static uint64_t block_digest(uint64_t h, const hg_mlg_block *b)
+{
+    h = mixed(mixed(mixed(mixed(h, b->place), b->start), b->count), b->time);
+    return mixed(mixed(mixed(mixed(h, b->number), b->kind), b->counter), b->right);
+}
+
+static uint64_t header_digest(uint64_t h, const hg_mlg_header *m)
+{
+    h = mixed(mixed(mixed(mixed(h, m->time), m->info), m->begin), m->size);
+    return mixed(mixed(mixed(h, m->count), m->version), m->number);
+}
+
+/* ---- Inputs ---- */
+
+static uint32_t random_number(void)
+{
+    static uint64_t x = 88172645463325252u;
+    x ^= x << 13;
+    x ^= x >> 7;
+    x ^= x << 17;
+    return (uint32_t)(x >> 16);
+}
+
+enum { IDS = 4096, FRAMES = 256, BRIDGES = 256, HEADERS = 16, ROOM = 1 << 20 };
+
+static uint32_t ids[IDS];
+static hg_directory directory;
+static uint8_t memory[32768], memory_start[32768];
+static hg_frame commands[FRAMES], requests[FRAMES], replies[BRIDGES];
+static hg_bridge bridges[BRIDGES], turn_start[BRIDGES], frame_start[BRIDGES];
+static uint8_t buffer[HG_BUFFER], buffer_start[HG_BUFFER];
+static uint8_t *logs[2];
+static size_t log_lens[2];
+static const uint16_t log_sizes[2] = {32, 512};
+static uint8_t header_file[65536], list_file[65536], listed[ROOM];
+static size_t header_len, list_len;
+
+static void make_bus_inputs(void)
+{
+    for (int i = 0; i < IDS; i++)
+        ids[i] = random_number() % (1u << 29) / 4 * 4;
+    directory.own = 5;
+    directory.table_blocking = 256;
+    directory.write_blocking = 64;
+    for (int i = 0; i < 32; i++) {
+        directory.sizes[i] = 1024;
+        directory.rights[i] = 2;
+    }
+    for (size_t i = 0; i < sizeof memory_start; i++)
+        memory_start[i] = (uint8_t)random_number();
+    for (int i = 0; i < FRAMES; i++) {
+        hg_parts parts = {(uint16_t)(random_number() % 1016), HG_CMD, 3, 5, (uint8_t)(random_number() % 32)};
+        hg_frame *c = &commands[i], *r = &requests[i];
+        c->id = hg_pack(parts).id;
+        c->len = (uint8_t)(1 + random_number() % 8);
+        for (int k = 0; k < 8; k++)
+            c->bytes[k] = (uint8_t)random_number();
+        parts.kind = HG_REQ;
+        r->id = hg_pack(parts).id;
+        r->len = 3;
+        r->bytes[0] = (uint8_t)(random_number() % 32);
+        r->bytes[1] = (uint8_t)random_number();
+        r->bytes[2] = (uint8_t)(random_number() % 8 * 32 + 1 + random_number() % 8);
+    }
+}
+
+/* Opens transfers in free slots, reads and writes by turns. */
+static void open_some(hg_bridge *b)
+{
+    uint8_t bytes[HG_MOST];
+    for (int i = 0; i < HG_MOST; i++)
+        bytes[i] = (uint8_t)random_number();
+    for (int i = 0; i < 4; i++) {
+        size_t count = 1 + random_number() % HG_MOST;
+        uint16_t offset = (uint16_t)(random_number() % 1900);
+        hg_opened o = random_number() % 2 ? hg_open_read(*b, buffer_start, HG_BUFFER, 5, 7, offset, count)
+                                          : hg_open_write(*b, buffer_start, HG_BUFFER, 5, 7, offset, bytes, count);
+        *b = o.bridge;
+    }
+}
+
+/* The states of a busy bridge, before a turn and before a frame that a read awaits. */
+static void make_bridge_inputs(void)
+{
+    hg_bridge b = hg_reset((hg_bridge){0}, 0).bridge;
+    int turns = 0, frames = 0;
+    while (turns < BRIDGES || frames < BRIDGES) {
+        for (int i = 0; i < 4; i++)
+            if (b.slots[i].phase == HG_FINISHED || b.slots[i].phase == HG_FAILED)
+                b = hg_close(b, b.slots[i].ticket).bridge;
+        open_some(&b);
+        if (turns < BRIDGES)
+            turn_start[turns++] = b;
+        hg_stepped t = hg_turn(b, buffer_start, HG_BUFFER);
+        b = t.bridge;
+        const hg_slot *s = &b.slots[b.last];
+        if (!t.answer.answers || s->kind != HG_READ || random_number() % 4 == 0)
+            continue;
+        unsigned left = s->count - s->progress;
+        hg_parts parts = {(uint16_t)(128 * b.last + s->progress), HG_RSP, s->device, 0, 6};
+        hg_frame f = {hg_pack(parts).id, (uint8_t)(left < 8 ? left : 8), {1, 2, 3, 4, 5, 6, 7, 8}};
+        if (frames < BRIDGES) {
+            replies[frames] = f;
+            frame_start[frames++] = b;
+        }
+        b = hg_frame_in(b, buffer_start, HG_BUFFER, f).bridge;
+    }
+}
+
+/* A log of data blocks and, one in a hundred, marks; without a header. */
+static size_t make_blocks(uint8_t *out, size_t room, uint16_t size)
+{
+    uint8_t record[512];
+    size_t at = 0;
+    for (uint64_t n = 0;; n++) {
+        hg_written w;
+        for (int i = 0; i < size; i++)
+            record[i] = (uint8_t)random_number();
+        if (n % 100 == 99)
+            w = hg_mlg_write_mark(out + at, room - at, n, (uint16_t)n, (const uint8_t *)"lap finished", 12);
+        else
+            w = hg_mlg_write_data(out + at, room - at, size, n, (uint16_t)n, record, size);
+        if (w.number != 0)
+            return at;
+        at += w.len;
+    }
+}
+
+/* Fields of all types with usual texts; every tenth is a bit field of eight names. */
+static size_t make_header(uint8_t *out, size_t room, unsigned count, uint16_t *size)
+{
+    static uint8_t fields[200 * 89];
+    static uint8_t names[200 * 48];
+    static const uint8_t kinds[8] = {0, 1, 2, 3, 4, 5, 6, 7}, lens[8] = {1, 1, 2, 2, 4, 4, 8, 4};
+    size_t names_len = 0;
+    *size = 0;
+    memset(fields, 0, sizeof fields);
+    for (unsigned i = 0; i < count; i++) {
+        uint8_t *d = fields + 89 * i;
+        bool bit_field = i % 10 == 9;
+        d[0] = bit_field ? 10 : kinds[i % 8];
+        *size = (uint16_t)(*size + (bit_field ? 1 : lens[i % 8]));
+        sprintf((char *)d + 1, "Channel %u", i);
+        strcpy((char *)d + 35, "kPa");
+        strcpy((char *)d + 55, "Sensors");
+        if (bit_field) {
+            size_t index = 24 + 89 * count + names_len;
+            d[47] = (uint8_t)(index >> 24);
+            d[48] = (uint8_t)(index >> 16);
+            d[49] = (uint8_t)(index >> 8);
+            d[50] = (uint8_t)index;
+            d[51] = 8;
+            for (int k = 0; k < 8; k++)
+                names_len += (size_t)sprintf((char *)names + names_len, "bit%d", k) + 1;
+        }
+    }
+    hg_written w = hg_mlg_write_header(out, room, 1700000000, fields, 89 * count, names, names_len, (const uint8_t *)"speed test", 10);
+    if (w.number != 0) {
+        printf("the test's header is refused with number %u\n", w.number);
+        exit(1);
+    }
+    return w.len;
+}
+
+static void make_log_inputs(size_t bytes)
+{
+    uint16_t size;
+    for (int i = 0; i < 2; i++) {
+        logs[i] = malloc(bytes);
+        if (logs[i] == NULL)
+            exit(1);
+        log_lens[i] = make_blocks(logs[i], bytes, log_sizes[i]);
+    }
+    header_len = make_header(header_file, sizeof header_file, 200, &size);
+    list_len = make_header(list_file, sizeof list_file, 20, &size);
+    list_len += make_blocks(list_file + list_len, sizeof list_file - list_len, size);
+    memset(list_file + list_len, 7, sizeof list_file - list_len); /* an unknown block ends it: 65,536 bytes */
+    list_len = sizeof list_file;
+}
+
+/* ---- Tests: a batch of calls by each variant. `check` is constant in each copy. ---- */
+
+static volatile uint64_t sink;
+
+static void restore_memory(void) { memcpy(memory, memory_start, sizeof memory); }
+static void restore_turn(void) { memcpy(bridges, turn_start, sizeof bridges); }
+static void restore_frame(void)
+{
+    memcpy(bridges, frame_start, sizeof bridges);
+    memcpy(buffer, buffer_start, sizeof buffer);
+}
+static void restore_list(void) { memset(listed, 0, sizeof listed); }
+static void restore_nothing(void) {}
+
+#define BODY static inline __attribute__((always_inline)) uint64_t
+#define DEFINE_BODIES(V) \
+    BODY unpack_body_##V(bool check) \
+    { \
+        uint64_t a = 0; \
+        for (int i = 0; i < IDS; i++) { \
+            hg_unpacked u = V##_unpack(ids[i]); \
+            a += u.number + u.parts.offset; \
+            if (check) \
+                a = mixed(mixed(mixed(mixed(a, u.parts.kind), u.parts.from), u.parts.to), u.parts.table); \
+        } \
+        return a; \
+    } \
+    BODY serve_frames_##V(const hg_frame *frames, bool check) \
+    { \
+        uint64_t a = 0; \
+        for (int i = 0; i < FRAMES; i++) { \
+            hg_served s; \
+            V##_serve(&directory, memory, sizeof memory, &frames[i], &s); \
+            a += s.number + s.frame.id; \
+            if (check) \
+                a = served_digest(a, &s); \
+        } \
+        return check ? mixed_bytes(a, memory, sizeof memory) : a; \
+    } \
+    BODY command_body_##V(bool check) { return serve_frames_##V(commands, check); } \
+    BODY request_body_##V(bool check) { return serve_frames_##V(requests, check); } \
+    BODY turn_body_##V(bool check) \
+    { \
+        uint64_t a = 0; \
+        for (int i = 0; i < BRIDGES; i++) { \
+            hg_served s; \
+            V##_turn(&bridges[i], buffer_start, HG_BUFFER, &s); \
+            a += s.number + s.frame.id; \
+            if (check) \
+                a = bridge_digest(served_digest(a, &s), &bridges[i]); \
+        } \
+        return a; \
+    } \
+    BODY frame_body_##V(bool check) \
+    { \
+        uint64_t a = 0; \
+        for (int i = 0; i < BRIDGES; i++) { \
+            hg_served s; \
+            V##_frame(&bridges[i], buffer, HG_BUFFER, &replies[i], &s); \
+            a += s.number; \
+            if (check) \
+                a = bridge_digest(served_digest(a, &s), &bridges[i]); \
+        } \
+        return check ? mixed_bytes(a, buffer, sizeof buffer) : a; \
+    } \
+    BODY log_body_##V(int log, bool check) \
+    { \
+        uint64_t a = 0; \
+        size_t at = 0; \
+        for (uint64_t n = 0;; n++) { \
+            hg_mlg_block b; \
+            V##_read_block(logs[log], log_lens[log], log_sizes[log], n, at, &b); \
+            a += b.time; \
+            if (check) \
+                a = block_digest(a, &b); \
+            if (b.kind >= HG_BLOCK_END) \
+                return mixed(a, n); \
+            at += b.kind == HG_BLOCK_DATA ? (size_t)log_sizes[log] + 5 : 54; \
+        } \
+    } \
+    BODY log32_body_##V(bool check) { return log_body_##V(0, check); } \
+    BODY log512_body_##V(bool check) { return log_body_##V(1, check); } \
+    BODY header_body_##V(bool check) \
+    { \
+        uint64_t a = 0; \
+        for (int i = 0; i < HEADERS; i++) { \
+            hg_mlg_header h; \
+            V##_read_header(header_file, header_len, &h); \
+            a += h.number + h.count; \
+            if (check) \
+                a = header_digest(a, &h); \
+        } \
+        return a; \
+    } \
+    BODY list_body_##V(bool check) \
+    { \
+        hg_written w = V##_list(listed, sizeof listed, list_file, list_len); \
+        return check ? mixed_bytes(mixed(w.len, w.number), listed, sizeof listed) : w.len + w.number; \
+    }
+VARIANTS(DEFINE_BODIES)
+
+typedef uint64_t batch(void);
+
+#define DEFINE_BATCHES(TEST, V) \
+    static uint64_t TEST##_run_##V(void) { return TEST##_body_##V(false); } \
+    static uint64_t TEST##_check_##V(void) { return TEST##_body_##V(true); }
+#define DEFINE_TEST_BATCHES(TEST) \
+    DEFINE_BATCHES(TEST, library) DEFINE_BATCHES(TEST, gcc_O3) DEFINE_BATCHES(TEST, clang_O3) DEFINE_BATCHES(TEST, gcc_O2)
+DEFINE_TEST_BATCHES(unpack)
+DEFINE_TEST_BATCHES(command)
+DEFINE_TEST_BATCHES(request)
+DEFINE_TEST_BATCHES(turn)
+DEFINE_TEST_BATCHES(frame)
+DEFINE_TEST_BATCHES(log32)
+DEFINE_TEST_BATCHES(log512)
+DEFINE_TEST_BATCHES(header)
+DEFINE_TEST_BATCHES(list)
+
+typedef struct {
+    const char *key, *name;
+    void (*restore)(void);
+    size_t operations; /* of a batch; 0: the blocks of a log, counted below */
+    int batches;
+    batch *run[VARIANT_COUNT], *check[VARIANT_COUNT];
+} test;
+
+#define RUNS(TEST) {TEST##_run_library, TEST##_run_gcc_O3, TEST##_run_clang_O3, TEST##_run_gcc_O2}
+#define CHECKS(TEST) {TEST##_check_library, TEST##_check_gcc_O3, TEST##_check_clang_O3, TEST##_check_gcc_O2}
+static test tests[] = {
+    {"unpack", "unpack", restore_nothing, IDS, 4000, RUNS(unpack), CHECKS(unpack)},
+    {"command", "serve a CMD", restore_memory, FRAMES, 8000, RUNS(command), CHECKS(command)},
+    {"request", "serve a REQ", restore_memory, FRAMES, 8000, RUNS(request), CHECKS(request)},
+    {"turn", "turn in place", restore_turn, BRIDGES, 8000, RUNS(turn), CHECKS(turn)},
+    {"frame", "frame in place", restore_frame, BRIDGES, 8000, RUNS(frame), CHECKS(frame)},
+    {"log32", "block of 32 bytes", restore_nothing, 0, 25, RUNS(log32), CHECKS(log32)},
+    {"log512", "block of 512 bytes", restore_nothing, 0, 25, RUNS(log512), CHECKS(log512)},
+    {"header", "header, 200 fields", restore_nothing, HEADERS, 3000, RUNS(header), CHECKS(header)},
+    {"list", "listing, 65,536 bytes", restore_list, 1, 300, RUNS(list), CHECKS(list)},
+};
+enum { TESTS = sizeof tests / sizeof tests[0] };
+
+static size_t blocks_in(int log)
+{
+    size_t n = 0;
+    for (size_t at = 0; at < log_lens[log]; n++)
+        at += logs[log][at] == 0 ? (size_t)log_sizes[log] + 5 : 54;
+    return n;
+}
+
+static double seconds(void)
+{
+    struct timespec t;
+    clock_gettime(CLOCK_MONOTONIC, &t);
+    return (double)t.tv_sec + 1e-9 * (double)t.tv_nsec;
+}
+
+/* Exits where a variant's answers are not the library's. */
+static void check(const test *t)
+{
+    uint64_t expected = 0;
+    for (int v = 0; v < VARIANT_COUNT; v++) {
+        t->restore();
+        uint64_t digest = t->check[v]();
+        if (v == LIBRARY)
+            expected = digest;
+        if (digest != expected) {
+            printf("%s: %s does not answer as the library\n", t->name, variant_names[v]);
+            exit(1);
+        }
+    }
+}
+
+static void time_test(const test *t)
+{
+    double least[VARIANT_COUNT] = {1e9, 1e9, 1e9, 1e9};
+    for (int i = 0; i < t->batches; i++) {
+        for (int v = 0; v < VARIANT_COUNT; v++) {
+            t->restore();
+            double start = seconds();
+            sink += t->run[v]();
+            double took = seconds() - start;
+            if (took < least[v])
+                least[v] = took;
+        }
+    }
+    printf("| %-21s |", t->name);
+    for (int v = 0; v < VARIANT_COUNT; v++)
+        printf(" %10.1f |", 1e9 * least[v] / (double)t->operations);
+    for (int v = PLAIN_FIRST; v < VARIANT_COUNT; v++)
+        printf(" %9.2f |", least[LIBRARY] / least[v]);
+    printf("\n");
+    fflush(stdout);
+}
+
+__attribute__((noinline)) void measured(batch *run);
+void measured(batch *run) { sink += run(); }
+
+static int count_one(const char *key, int variant)
+{
+    for (int i = 0; i < TESTS; i++) {
+        if (strcmp(tests[i].key, key) == 0 && variant >= 0 && variant < VARIANT_COUNT) {
+            tests[i].restore();
+            measured(tests[i].run[variant]);
+            printf("%zu\n", tests[i].operations);
+            return 0;
+        }
+    }
+    return 1;
+}
+
+int main(int argc, char **argv)
+{
+    bool counts = argc == 4 && strcmp(argv[1], "count") == 0;
+    cpu_set_t one;
+    CPU_ZERO(&one);
+    CPU_SET(sched_getcpu(), &one);
+    sched_setaffinity(0, sizeof one, &one);
+    make_bus_inputs();
+    make_bridge_inputs();
+    make_log_inputs(counts ? (size_t)1 << 20 : (size_t)64 << 20);
+    for (int i = 0; i < TESTS; i++)
+        if (tests[i].operations == 0)
+            tests[i].operations = blocks_in(strcmp(tests[i].key, "log512") == 0);
+    if (counts)
+        return count_one(argv[2], atoi(argv[3]));
+    printf("| ns an operation       |    library |    gcc -O3 |  clang -O3 |    gcc -O2 | / gcc -O3 | / clang-O3| / gcc -O2 |\n");
+    printf("|---|---|---|---|---|---|---|---|\n");
+    for (int i = 0; i < TESTS; i++) {
+        if (argc == 2 && strcmp(argv[1], tests[i].key) != 0)
+            continue;
+        check(&tests[i]);
+        time_test(&tests[i]);
+    }
+    return 0;
+}
