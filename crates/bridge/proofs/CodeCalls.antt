@@ -11,14 +11,18 @@ use borrow.Author.Tests.{eq-eqb, ne-eqb, eqb-true, not-false}
 use Rattle.wire.specs.Put.{putOf}
 use Rattle.wire.proofs.Puts.{put-sets}
 use Rattle.wire.proofs.Orders.{if-zero, else-zero}
-use Rattle.bridge.specs.Model.{Bridge, Slot, Ask, write, askCount, blank, slot, lowestFree, holderOf, isNone, from, orFour, withSlots, opened}
-use Rattle.bridge.specs.Model.{openRefusal, open′, closeRefusal, close′, ticketNumber, bytesRefusal, spanOf, span′, noSpan}
-use Rattle.bridge.specs.Model.{Span, Changed}
-use Rattle.bridge.specs.Answers.{Opened, openedOf}
-use Rattle.bridge.specs.Model.{sound, asks, partOf, bytes′}
+use Rattle.transfer.specs.declared.Bridge.{Bridge}
+use Rattle.transfer.specs.declared.Slot.{Slot}
+use Rattle.transfer.specs.Model.{Ask, write, askCount, blank, slot, lowestFree, holderOf, isNone, from, orFour, withSlots, opened}
+use Rattle.transfer.specs.Model.{openRefusal, open′, closeRefusal, close′, ticketNumber, bytesRefusal, spanOf, span′, noSpan}
+use Rattle.transfer.specs.declared.Span.{Span}
+use Rattle.transfer.specs.declared.Changed.{Changed}
+use Rattle.transfer.specs.declared.Opened.{Opened}
+use Rattle.transfer.specs.Answers.{openedOf}
+use Rattle.transfer.specs.Model.{sound, asks, partOf, bytes′}
 use Rattle.bridge.proofs.CodeSlots.{free-from, holder-from, holder-small, from-four}
-use Rattle.bridge.proofs.Sound.{SlotOk, okFree, okReady, okWaiting, okDone, okGaveUp, true-sound}
-use Rattle.bridge.proofs.Refusals.{open-facts, lent-ok}
+use Rattle.transfer.proofs.Sound.{SlotOk, okFree, okReady, okWaiting, okDone, okGaveUp, true-sound}
+use Rattle.transfer.proofs.Refusals.{open-facts, lent-ok}
 
 -- ── Opening ────────────────────────────────────────────────────────────────────────────────────────────────────────
 

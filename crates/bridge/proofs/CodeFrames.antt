@@ -25,15 +25,18 @@ use Rattle.bus.specs.declared.Unpacked.the-variants as U
 use Rattle.bus.specs.declared.Request.{Request}
 use Rattle.bus.proofs.IdentLaws.{unpacked-is}
 use Rattle.bus.proofs.FrameLaws.{part-length, head-short}
-use Rattle.bridge.specs.Model.{Frame, Bridge, Slot, slot, sound, isReady, isNone, from, orFour, nextReady, agedBridge, lentRefusal, turn′}
-use Rattle.bridge.specs.Model.{sendFor, chunkLen, outgoing, awaits, awaiting, contentRefusal, replyRefusal, frame′, advanced, withSlots}
-use Rattle.bridge.specs.Model.{waiting, asks, moved, requested, sentSlot}
-use Rattle.bridge.specs.Answers.{Stepped, steppedOf}
-use Rattle.bridge.proofs.Search.{search-some, lowest-some, option-cases}
-use Rattle.bridge.proofs.Sound.{ReadyOk, ready-ok, true-sound, sound-true}
-use Rattle.bridge.proofs.CallKinds.{aged-sound, AwaitsOk, awaits-ok, wait-ok}
-use Rattle.bridge.proofs.FrameLaws.{len-eight, len-inside}
-use Rattle.bridge.proofs.Refusals.{lent-ok}
+use Rattle.transfer.specs.declared.Bridge.{Bridge}
+use Rattle.transfer.specs.declared.Slot.{Slot}
+use Rattle.transfer.specs.Model.{Frame, slot, sound, isReady, isNone, from, orFour, nextReady, agedBridge, lentRefusal, turn′}
+use Rattle.transfer.specs.Model.{sendFor, chunkLen, outgoing, awaits, awaiting, contentRefusal, replyRefusal, frame′, advanced, withSlots}
+use Rattle.transfer.specs.Model.{waiting, asks, moved, requested, sentSlot}
+use Rattle.transfer.specs.declared.Stepped.{Stepped}
+use Rattle.transfer.specs.Answers.{steppedOf}
+use Rattle.transfer.proofs.Search.{search-some, lowest-some, option-cases}
+use Rattle.transfer.proofs.Sound.{ReadyOk, ready-ok, true-sound, sound-true}
+use Rattle.transfer.proofs.CallKinds.{aged-sound, AwaitsOk, awaits-ok, wait-ok}
+use Rattle.transfer.proofs.FrameLaws.{len-eight, len-inside}
+use Rattle.transfer.proofs.Refusals.{lent-ok}
 use Rattle.bridge.proofs.CodeSlots.{awaiting-from}
 
 -- ── What a ready slot sends ────────────────────────────────────────────────────────────────────────────────────────

@@ -10,9 +10,11 @@ use lib.ListN.{length, getD}
 use lib.Dec.{eqb, leb}
 use borrow.Author.Needs.{length-unmapped}
 use borrow.Author.Tests.{le-leb, lt-leb, lt-ltb, le-ltb, eq-eqb}
-use Rattle.bridge.specs.Model.{Bridge, Slot, waiting, ready, done, gaveUp, isReady, isWaiting, blank, slot, moved, soundSlot, soundSlots}
-use Rattle.bridge.specs.Model.{absent, distinct, sound, firstSlot, nextReady, lowestFree, holderOf, awaiting, orFour}
-use Rattle.bridge.specs.Model.{Frame, isNone, from, ticked, aged, advanced}
+use Rattle.transfer.specs.declared.Bridge.{Bridge}
+use Rattle.transfer.specs.declared.Slot.{Slot}
+use Rattle.transfer.specs.Model.{waiting, ready, done, gaveUp, isReady, isWaiting, blank, slot, moved, soundSlot, soundSlots}
+use Rattle.transfer.specs.Model.{absent, distinct, sound, firstSlot, nextReady, lowestFree, holderOf, awaiting, orFour}
+use Rattle.transfer.specs.Model.{Frame, isNone, from, ticked, aged, advanced}
 
 -- ── Four slots one by one ──────────────────────────────────────────────────────────────────────────────────────────
 

@@ -1,15 +1,15 @@
 // Closing and reset.
-use crate::Bridge;
-use crate::Changed;
 use crate::state::blank;
 use crate::state::holder;
 use crate::state::sound;
+use transfer::Bridge;
+use transfer::Changed;
 ghost use mathlib.Core.Path.{_≡_};
-ghost use Rattle.bridge.specs.Statement.{Demand3};
-ghost use Rattle.bridge.specs.Corollaries.{Corollaries};
-ghost use Rattle.bridge.specs.Calls.{Calls};
-ghost use Rattle.bridge.specs.Examples.{Examples};
-ghost use Rattle.bridge.specs.Model.{closeRefusal, close′, fresh, reset′};
+ghost use Rattle.transfer.specs.Statement.{Demand3};
+ghost use Rattle.transfer.specs.Corollaries.{Corollaries};
+ghost use Rattle.transfer.specs.Calls.{Calls};
+ghost use Rattle.transfer.specs.Examples.{Examples};
+ghost use Rattle.transfer.specs.Model.{closeRefusal, close′, fresh, reset′};
 
 fn close_number(b: Bridge, ticket: u32) -> u8
     ensures { λ r. ⌜ r ≡ closeRefusal b ticket ⌝ }

@@ -1,11 +1,11 @@
 // The thin calls: turn, frame and close change the bridge in the caller's own storage.
-use crate::Bridge;
 use crate::ending::close;
 use crate::incoming::frame;
 use crate::turning::turn;
+use transfer::Bridge;
 ghost use mathlib.Core.Path.{_≡_};
-ghost use Rattle.bridge.specs.Model.{turn′, frame′, close′};
-ghost use Rattle.bridge.specs.Answers.{steppedOf};
+ghost use Rattle.transfer.specs.Model.{turn′, frame′, close′};
+ghost use Rattle.transfer.specs.Answers.{steppedOf};
 
 // A turn.
 pub fn turn_in_place(b: &mut Bridge, buffer: &[u8]) -> bus::Served

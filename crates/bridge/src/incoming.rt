@@ -1,21 +1,21 @@
 // An incoming frame: the waiting read that awaits it stores its bytes.
-use crate::Bridge;
-use crate::Slot;
-use crate::Stepped;
-use crate::WAITING;
 use crate::state::advance;
 use crate::state::chunk_len;
 use crate::state::first;
 use crate::state::lent_number;
 use crate::state::plain;
+use transfer::Bridge;
+use transfer::Slot;
+use transfer::Stepped;
+use transfer::WAITING;
 ghost use mathlib.Core.Path.{_≡_};
 ghost use mathlib.Core.Bool.{_&&_};
 ghost use Prim.Native.Nat.{_+_, _*_, _≤_, _<_};
 ghost use lib.Dec.{eqb};
 ghost use lib.ListN.{length, take};
 ghost use lib.Seq.{sets};
-ghost use Rattle.bridge.specs.Model.{isWaiting, chunkLen, contentRefusal, awaiting, orFour, replyRefusal, frame′};
-ghost use Rattle.bridge.specs.Answers.{steppedOf};
+ghost use Rattle.transfer.specs.Model.{isWaiting, chunkLen, contentRefusal, awaiting, orFour, replyRefusal, frame′};
+ghost use Rattle.transfer.specs.Answers.{steppedOf};
 
 // 1 to 5, by which a bridge of this own number judges a frame; else 0.
 fn content_number(own: u8, f: bus::Frame) -> u8

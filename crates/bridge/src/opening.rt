@@ -1,18 +1,18 @@
 // Opening a read or a write.
-use crate::Bridge;
-use crate::Opened;
-use crate::READ;
-use crate::READY;
-use crate::Slot;
-use crate::WRITE;
 use crate::state::ask_number;
 use crate::state::lent_number;
 use crate::state::lowest_free;
+use transfer::Bridge;
+use transfer::Opened;
+use transfer::READ;
+use transfer::READY;
+use transfer::Slot;
+use transfer::WRITE;
 ghost use mathlib.Core.Path.{_≡_};
 ghost use mathlib.Core.Bool.{false};
 ghost use lib.ListN.{length, set};
-ghost use Rattle.bridge.specs.Model.{ready, read, write, roomRefusal, openRefusal, lowestFree, from, isNone, open′};
-ghost use Rattle.bridge.specs.Answers.{openedOf};
+ghost use Rattle.transfer.specs.Model.{ready, read, write, roomRefusal, openRefusal, lowestFree, from, isNone, open′};
+ghost use Rattle.transfer.specs.Answers.{openedOf};
 
 // 12 and 13: no free slot, and tickets used up; else 0.
 fn room_number(b: Bridge) -> u8

@@ -1,8 +1,4 @@
 // A turn: every slot ages, and one ready slot sends its next frame.
-use crate::Bridge;
-use crate::Slot;
-use crate::Stepped;
-use crate::WAITING;
 use crate::state::advance;
 use crate::state::age_all;
 use crate::state::asks;
@@ -12,6 +8,10 @@ use crate::state::moved;
 use crate::state::next_len;
 use crate::state::next_ready;
 use crate::state::plain;
+use transfer::Bridge;
+use transfer::Slot;
+use transfer::Stepped;
+use transfer::WAITING;
 ghost use mathlib.Core.Path.{_≡_};
 ghost use mathlib.Core.Bool.{true};
 ghost use mathlib.Core.Option.{some};
@@ -19,8 +19,8 @@ ghost use Prim.Native.Nat.{_+_, _≤_, _<_};
 ghost use lib.ListN.{length};
 ghost use Rattle.bus.specs.Ident.{idOf};
 ghost use Rattle.bus.specs.Frames.{padded};
-ghost use Rattle.bridge.specs.Model.{slot, sound, isReady, readFrame, writeFrame, sentFrame, sentSlot, sendFor, turn′};
-ghost use Rattle.bridge.specs.Answers.{steppedOf};
+ghost use Rattle.transfer.specs.Model.{slot, sound, isReady, readFrame, writeFrame, sentFrame, sentSlot, sendFor, turn′};
+ghost use Rattle.transfer.specs.Answers.{steppedOf};
 
 // The identifier of a slot's next frame, of a type.
 fn identifier(own: u8, kind: u8, x: Slot) -> u32

@@ -1,8 +1,8 @@
 // The thin calls: turn, frame and close change the bridge in the caller's own storage.
-use bridge::Bridge;
+use transfer::Bridge;
 ghost use mathlib.Core.Path.{_≡_};
-ghost use Rattle.bridge.specs.Model.{turn′, frame′, close′};
-ghost use Rattle.bridge.specs.Answers.{steppedOf};
+ghost use Rattle.transfer.specs.Model.{turn′, frame′, close′};
+ghost use Rattle.transfer.specs.Answers.{steppedOf};
 
 #[no_mangle]
 pub extern "C" fn hg_turn_in_place(b: &mut Bridge, buffer: &[u8]) -> bus::Served

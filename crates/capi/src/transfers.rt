@@ -1,14 +1,14 @@
 // The bridge, by value.
-use bridge::Bridge;
-use bridge::Changed;
-use bridge::Opened;
-use bridge::Span;
-use bridge::Stepped;
+use transfer::Bridge;
+use transfer::Changed;
+use transfer::Opened;
+use transfer::Span;
+use transfer::Stepped;
 ghost use mathlib.Core.Path.{_≡_};
 ghost use Prim.Native.Nat.{_+_, _≤_};
 ghost use lib.ListN.{length};
-ghost use Rattle.bridge.specs.Model.{read, write, open′, turn′, frame′, status′, span′, close′, reset′};
-ghost use Rattle.bridge.specs.Answers.{openedOf, steppedOf};
+ghost use Rattle.transfer.specs.Model.{read, write, open′, turn′, frame′, status′, span′, close′, reset′};
+ghost use Rattle.transfer.specs.Answers.{openedOf, steppedOf};
 
 #[no_mangle]
 pub extern "C" fn hg_open_read(

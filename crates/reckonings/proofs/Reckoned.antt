@@ -5,7 +5,7 @@ use Rattle.wire.specs.Answer.{answer}
 use Rattle.wire.specs.Sign.{twos}
 use Rattle.bus.specs.Ident.{packNumber, packOf, unpackNumber, unpackOf, partsOf}
 use Rattle.bus.specs.Request.{readNumber, readRequestOf}
-use Rattle.bridge.proofs.Openers.{everything}
+use Rattle.transfer.proofs.Openers.{everything}
 use Rattle.field.specs.Layout.{layoutOf}
 use Rattle.field.specs.Types.{sizeOf}
 use Rattle.field.specs.Field.{typeNumber}

@@ -21,8 +21,8 @@ use Rattle.bus.specs.declared.Unpacked.{Unpacked}
 use Rattle.bus.specs.declared.Unpacked.the-variants as U
 use Rattle.bus.specs.declared.Asked.{Asked}
 use Rattle.bus.specs.declared.Asked.the-variants as A
-use Rattle.bridge.specs.Model as B
-use Rattle.bridge.specs.Statement.{answerTo, runOf}
+use Rattle.transfer.specs.Model as B
+use Rattle.transfer.specs.Statement.{answerTo, runOf}
 use Rattle.field.specs.Types.{U08, S08, S16}
 use Rattle.field.specs.Raw.{rawAt}
 use Rattle.field.specs.Shown.{shownAt}

@@ -1,7 +1,7 @@
 use borrow.Author.Needs.{needs}
 use Rattle.bridge.proofs.ending.close_number.Statement.{statement}
 use Rattle.bridge.proofs.ending.close_number.Tie as tie
-use Rattle.bridge.specs.Model.{closeRefusal}
+use Rattle.transfer.specs.Model.{closeRefusal}
 use Rattle.wire.proofs.Orders.{order}
 use Rattle.bridge.proofs.CodeSlots.{holder-none, holder-some}
 

@@ -2,11 +2,11 @@ use Rattle.wire.specs.Order.{_if_else_}
 use borrow.Author.Needs.{needs}
 use Rattle.bridge.proofs.ending.reset.Statement.{statement}
 use Rattle.bridge.proofs.ending.reset.Tie as tie
-use Rattle.bridge.specs.Model.{reset′, resetRefusal}
+use Rattle.transfer.specs.Model.{reset′, resetRefusal}
 use borrow.Author.Tests.{lt-ltb, le-ltb}
-use Rattle.bridge.proofs.Theorem.{demand3, calls}
-use Rattle.bridge.proofs.Corollary.{corollaries}
-use Rattle.bridge.proofs.ExampleRuns.{examples}
+use Rattle.transfer.proofs.Theorem.{demand3, calls}
+use Rattle.transfer.proofs.Corollary.{corollaries}
+use Rattle.transfer.proofs.ExampleRuns.{examples}
 
 returns : tie.Need-returns
 unfolding reset′ resetRefusal _if_else_

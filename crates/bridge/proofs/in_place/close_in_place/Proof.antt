@@ -38,13 +38,13 @@ use denote.Triple.Spec.{Meets, tripleOf}
 use denote.Triple.Table.{entered, cited}
 use denote.Triple.Walked.{says, Stays, stay-ref, stay-none, walkOf, AllGo, goes-ref, goes-none, Walks, ends-at, walked, walk-meets}
 use denote.Exit.{yes}
-use Rattle.bridge.specs.declared.Bridge.{Bridge}
-use Rattle.bridge.proofs.Bridge as T
-use Rattle.bridge.proofs.Bridge.Laws as T′
-use Rattle.bridge.specs.Model.{close′}
-use Rattle.bridge.specs.declared.Changed.{Changed}
-use Rattle.bridge.proofs.Changed as U
-use Rattle.bridge.proofs.Changed.Laws as U′
+use Rattle.transfer.specs.declared.Bridge.{Bridge}
+use Rattle.transfer.proofs.Bridge as T
+use Rattle.transfer.proofs.Bridge.Laws as T′
+use Rattle.transfer.specs.Model.{close′}
+use Rattle.transfer.specs.declared.Changed.{Changed}
+use Rattle.transfer.proofs.Changed as U
+use Rattle.transfer.proofs.Changed.Laws as U′
 use Rattle.bridge.proofs.ending.close as closing
 use Rattle.bridge.proofs.ending.close.Symbol as closing-def
 use Rattle.bridge.proofs.ending.close.Symbol.{name as #bridge·ending·close}

@@ -41,19 +41,19 @@ use denote.Triple.Spec.{Meets, tripleOf}
 use denote.Triple.Table.{entered, cited}
 use denote.Triple.Walked.{says, Stays, stay-ref, gave-slice, stay-none, walkOf, AllGo, goes-ref, goes-gave-slice, goes-none, Walks, ends-at, walked, walk-meets}
 use denote.Exit.{yes}
-use Rattle.bridge.specs.declared.Bridge.{Bridge}
-use Rattle.bridge.proofs.Bridge as T
-use Rattle.bridge.proofs.Bridge.Laws as T′
+use Rattle.transfer.specs.declared.Bridge.{Bridge}
+use Rattle.transfer.proofs.Bridge as T
+use Rattle.transfer.proofs.Bridge.Laws as T′
 use Rattle.bus.specs.declared.Frame.{Frame}
 use Rattle.bus.proofs.Frame as F
 use Rattle.bus.proofs.Frame.Laws as F′
 use Rattle.bus.proofs.Served as S
 use Rattle.bus.proofs.Served.Laws as S′
-use Rattle.bridge.specs.Model.{frame′}
-use Rattle.bridge.specs.Answers.{steppedOf}
-use Rattle.bridge.specs.declared.Stepped.{Stepped}
-use Rattle.bridge.proofs.Stepped as U
-use Rattle.bridge.proofs.Stepped.Laws as U′
+use Rattle.transfer.specs.Model.{frame′}
+use Rattle.transfer.specs.Answers.{steppedOf}
+use Rattle.transfer.specs.declared.Stepped.{Stepped}
+use Rattle.transfer.proofs.Stepped as U
+use Rattle.transfer.proofs.Stepped.Laws as U′
 use Rattle.bridge.proofs.incoming.frame as taken
 use Rattle.bridge.proofs.incoming.frame.Symbol as taken-def
 use Rattle.bridge.proofs.incoming.frame.Symbol.{name as #bridge·incoming·frame}

@@ -41,14 +41,14 @@ use denote.Triple.Spec.{Meets, tripleOf}
 use denote.Triple.Table.{entered, cited}
 use denote.Triple.Walked.{says, Stays, stay-ref, stay-none-slice, walkOf, AllGo, goes-ref, goes-none-slice, Walks, ends-at, walked, walk-meets}
 use denote.Exit.{yes}
-use Rattle.bridge.specs.declared.Bridge.{Bridge}
-use Rattle.bridge.proofs.Bridge as T
-use Rattle.bridge.proofs.Bridge.Laws as T′
-use Rattle.bridge.specs.Model.{turn′}
-use Rattle.bridge.specs.Answers.{steppedOf}
-use Rattle.bridge.specs.declared.Stepped.{Stepped}
-use Rattle.bridge.proofs.Stepped as U
-use Rattle.bridge.proofs.Stepped.Laws as U′
+use Rattle.transfer.specs.declared.Bridge.{Bridge}
+use Rattle.transfer.proofs.Bridge as T
+use Rattle.transfer.proofs.Bridge.Laws as T′
+use Rattle.transfer.specs.Model.{turn′}
+use Rattle.transfer.specs.Answers.{steppedOf}
+use Rattle.transfer.specs.declared.Stepped.{Stepped}
+use Rattle.transfer.proofs.Stepped as U
+use Rattle.transfer.proofs.Stepped.Laws as U′
 use Rattle.bridge.proofs.turning.turn as turn
 use Rattle.bridge.proofs.turning.turn.Symbol as turn-def
 use Rattle.bridge.proofs.turning.turn.Symbol.{name as #bridge·turning·turn}

@@ -4,7 +4,7 @@ use Rattle.bridge.proofs.incoming.frame.Tie as tie
 use mathlib.Core.Path.{sym, _∙_}
 use native.Mathlib.Omega.{arith}
 use Rattle.bus.specs.Frames.{content}
-use Rattle.bridge.specs.Model.{slot}
+use Rattle.transfer.specs.Model.{slot}
 use Rattle.bridge.proofs.CodeFrames.{frame-refused, reply-own, reply-content, reply-len, reply-at, reply-fits, frame-is}
 
 reply-number-requires : tie.Need-reply-number-requires

@@ -1,12 +1,12 @@
 use borrow.Author.Needs.{needs}
 use Rattle.bridge.proofs.incoming.reply_number.Statement.{statement}
 use Rattle.bridge.proofs.incoming.reply_number.Tie as tie
-use Rattle.bridge.specs.Model.{replyRefusal}
+use Rattle.transfer.specs.Model.{replyRefusal}
 use Rattle.wire.proofs.Orders.{order}
 use Rattle.bridge.proofs.CodeSlots.{awaiting-none, awaiting-some}
 use mathlib.Core.Path.{sym, _∙_}
-use Rattle.bridge.proofs.Sound.{true-sound}
-use Rattle.bridge.proofs.Refusals.{lent-ok}
+use Rattle.transfer.proofs.Sound.{true-sound}
+use Rattle.transfer.proofs.Refusals.{lent-ok}
 
 lent-number-requires : tie.Need-lent-number-requires
 lent-number-requires c κs = search needs

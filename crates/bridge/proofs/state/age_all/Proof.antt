@@ -1,7 +1,7 @@
 use borrow.Author.Needs.{needs}
 use Rattle.bridge.proofs.state.age_all.Statement.{statement}
 use Rattle.bridge.proofs.state.age_all.Tie as tie
-use Rattle.bridge.specs.Model.{agedBridge}
+use Rattle.transfer.specs.Model.{agedBridge}
 use Rattle.bridge.proofs.CodeSlots.{aged-four}
 use mathlib.Core.Path.{sym, _∙_}
 use lib.ListN.{length-map}

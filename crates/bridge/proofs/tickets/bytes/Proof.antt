@@ -40,15 +40,15 @@ use denote.Triple.Table.{entered, cited}
 use denote.Triple.Walked.{says, Stays, stay-none, stay-none-slice, walkOf, goes-none, goes-none-slice, Walks, ends-at, walked, walk-meets}
 use denote.Exit.{yes}
 use denote.Triple.Clauses.{ensured, lasts}
-use Rattle.bridge.specs.declared.Bridge.{Bridge}
-use Rattle.bridge.proofs.Bridge as B
-use Rattle.bridge.proofs.Bridge.Laws as B′
-use Rattle.bridge.specs.Model.{span′, partOf}
-use Rattle.bridge.specs.declared.Span.{Span}
+use Rattle.transfer.specs.declared.Bridge.{Bridge}
+use Rattle.transfer.proofs.Bridge as B
+use Rattle.transfer.proofs.Bridge.Laws as B′
+use Rattle.transfer.specs.Model.{span′, partOf}
+use Rattle.transfer.specs.declared.Span.{Span}
 use Rattle.bridge.specs.declared.Shown.{Shown}
 use Rattle.bridge.proofs.CodeCalls.{span-fits, bytes-of}
-use Rattle.bridge.proofs.Span as S
-use Rattle.bridge.proofs.Span.Laws as S′
+use Rattle.transfer.proofs.Span as S
+use Rattle.transfer.proofs.Span.Laws as S′
 use Rattle.bridge.proofs.Shown as T
 use Rattle.bridge.proofs.Shown.Laws as T′
 use Rattle.bridge.proofs.tickets.span_of as find

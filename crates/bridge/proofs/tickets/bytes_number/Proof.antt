@@ -1,7 +1,7 @@
 use borrow.Author.Needs.{needs}
 use Rattle.bridge.proofs.tickets.bytes_number.Statement.{statement}
 use Rattle.bridge.proofs.tickets.bytes_number.Tie as tie
-use Rattle.bridge.specs.Model.{bytesRefusal}
+use Rattle.transfer.specs.Model.{bytesRefusal}
 use Rattle.wire.proofs.Orders.{order}
 
 sound-requires : tie.Need-sound-requires

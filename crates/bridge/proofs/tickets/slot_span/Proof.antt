@@ -2,7 +2,7 @@ use borrow.Author.Needs.{needs}
 use Rattle.bridge.proofs.tickets.slot_span.Statement.{statement}
 use Rattle.bridge.proofs.tickets.slot_span.Tie as tie
 use mathlib.Core.Path.{sym, _∙_}
-use Rattle.bridge.specs.Model.{spanOf, slot}
+use Rattle.transfer.specs.Model.{spanOf, slot}
 
 mul-x : tie.Need-mul-x
 mul-x c = search needs

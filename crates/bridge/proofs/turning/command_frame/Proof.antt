@@ -4,7 +4,7 @@ use Rattle.bridge.proofs.turning.command_frame.Tie as tie
 use native.Mathlib.Omega.{arith}
 use Rattle.bus.specs.Frames.{frameOf}
 use Rattle.bus.proofs.FrameLaws.{part-is}
-use Rattle.bridge.specs.Model.{writeFrame, outgoing}
+use Rattle.transfer.specs.Model.{writeFrame, outgoing}
 use Rattle.bridge.proofs.CodeFrames.{goes-inside, goes-length, goes-eight}
 
 identifier-requires : tie.Need-identifier-requires

@@ -5,9 +5,9 @@ use mathlib.Core.Path.{_∙_}
 use native.Mathlib.Omega.{arith}
 use Rattle.bus.specs.Frames.{frameOf, padded}
 use Rattle.bus.specs.Request.{request}
-use Rattle.bridge.specs.Model.{readFrame}
+use Rattle.transfer.specs.Model.{readFrame}
 use Rattle.bridge.proofs.CodeFrames.{requests}
-use Rattle.bridge.proofs.FrameLaws.{len-eight}
+use Rattle.transfer.proofs.FrameLaws.{len-eight}
 
 identifier-requires : tie.Need-identifier-requires
 identifier-requires c κs = search needs
