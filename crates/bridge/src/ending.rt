@@ -1,9 +1,9 @@
 // Closing and reset.
+use crate::Bridge;
+use crate::Changed;
 use crate::state::blank;
 use crate::state::holder;
 use crate::state::sound;
-use transfer::Bridge;
-use transfer::Changed;
 ghost use mathlib.Core.Path.{_≡_};
 ghost use Rattle.transfer.specs.Statement.{Demand3};
 ghost use Rattle.transfer.specs.Corollaries.{Corollaries};

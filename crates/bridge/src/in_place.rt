@@ -1,8 +1,8 @@
 // The thin calls: turn, frame and close change the bridge in the caller's own storage.
+use crate::Bridge;
 use crate::ending::close;
 use crate::incoming::frame;
 use crate::turning::turn;
-use transfer::Bridge;
 ghost use mathlib.Core.Path.{_≡_};
 ghost use Rattle.transfer.specs.Model.{turn′, frame′, close′};
 ghost use Rattle.transfer.specs.Answers.{steppedOf};

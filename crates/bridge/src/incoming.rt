@@ -1,13 +1,13 @@
 // An incoming frame: the waiting read that awaits it stores its bytes.
+use crate::Bridge;
+use crate::Slot;
+use crate::Stepped;
+use crate::WAITING;
 use crate::state::advance;
 use crate::state::chunk_len;
 use crate::state::first;
 use crate::state::lent_number;
 use crate::state::plain;
-use transfer::Bridge;
-use transfer::Slot;
-use transfer::Stepped;
-use transfer::WAITING;
 ghost use mathlib.Core.Path.{_≡_};
 ghost use mathlib.Core.Bool.{_&&_};
 ghost use Prim.Native.Nat.{_+_, _*_, _≤_, _<_};

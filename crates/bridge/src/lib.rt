@@ -7,6 +7,20 @@ mod state;
 pub mod tickets;
 pub mod turning;
 
+pub use transfer::Bridge;
+pub use transfer::Changed;
+pub use transfer::DONE;
+pub use transfer::FREE;
+pub use transfer::GAVE_UP;
+pub use transfer::Opened;
+pub use transfer::READ;
+pub use transfer::READY;
+pub use transfer::Slot;
+pub use transfer::Span;
+pub use transfer::Stepped;
+pub use transfer::WAITING;
+pub use transfer::WRITE;
+
 // A number, and a done read's part of the buffer.
 pub struct Shown<'a> {
     pub number: u8,

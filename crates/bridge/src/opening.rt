@@ -1,13 +1,13 @@
 // Opening a read or a write.
+use crate::Bridge;
+use crate::Opened;
+use crate::READ;
+use crate::READY;
+use crate::Slot;
+use crate::WRITE;
 use crate::state::ask_number;
 use crate::state::lent_number;
 use crate::state::lowest_free;
-use transfer::Bridge;
-use transfer::Opened;
-use transfer::READ;
-use transfer::READY;
-use transfer::Slot;
-use transfer::WRITE;
 ghost use mathlib.Core.Path.{_≡_};
 ghost use mathlib.Core.Bool.{false};
 ghost use lib.ListN.{length, set};

@@ -9,16 +9,16 @@ ghost use Rattle.bus.specs.Holder.{noAnswer};
 ghost use Rattle.transfer.specs.Model.{asks, carries, isFree, isReady, isWaiting, blank, moved, askRefusal, soundPhase, soundSlot};
 ghost use Rattle.transfer.specs.Model.{soundSlots, distinct, sound, lentRefusal, firstSlot, orFour, lowestFree, holderOf, nextReady};
 ghost use Rattle.transfer.specs.Model.{aged, agedBridge, chunkLen, advanced};
-use transfer::Bridge;
-use transfer::DONE;
-use transfer::FREE;
-use transfer::GAVE_UP;
-use transfer::READ;
-use transfer::READY;
-use transfer::Slot;
-use transfer::Stepped;
-use transfer::WAITING;
-use transfer::WRITE;
+use crate::Bridge;
+use crate::DONE;
+use crate::FREE;
+use crate::GAVE_UP;
+use crate::READ;
+use crate::READY;
+use crate::Slot;
+use crate::Stepped;
+use crate::WAITING;
+use crate::WRITE;
 
 // A slot of this kind sends REQ and may wait.
 pub(crate) fn asks(kind: u8) -> bool

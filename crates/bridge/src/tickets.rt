@@ -1,12 +1,12 @@
 // Status, and a done read's bytes.
+use crate::Bridge;
+use crate::DONE;
+use crate::GAVE_UP;
 use crate::Shown;
+use crate::Span;
 use crate::state::asks;
 use crate::state::holder;
 use crate::state::sound;
-use transfer::Bridge;
-use transfer::DONE;
-use transfer::GAVE_UP;
-use transfer::Span;
 ghost use mathlib.Core.Path.{_≡_};
 ghost use Prim.Native.Nat.{_+_, _<_, _≤_};
 ghost use lib.ListN.{length};

@@ -1,4 +1,8 @@
 // A turn: every slot ages, and one ready slot sends its next frame.
+use crate::Bridge;
+use crate::Slot;
+use crate::Stepped;
+use crate::WAITING;
 use crate::state::advance;
 use crate::state::age_all;
 use crate::state::asks;
@@ -8,10 +12,6 @@ use crate::state::moved;
 use crate::state::next_len;
 use crate::state::next_ready;
 use crate::state::plain;
-use transfer::Bridge;
-use transfer::Slot;
-use transfer::Stepped;
-use transfer::WAITING;
 ghost use mathlib.Core.Path.{_≡_};
 ghost use mathlib.Core.Bool.{true};
 ghost use mathlib.Core.Option.{some};

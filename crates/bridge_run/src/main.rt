@@ -1,4 +1,7 @@
 // Runs 01's reckonings of the bridge, and a script of four askers.
+use bridge::Bridge;
+use bridge::Opened;
+use bridge::Slot;
 use bridge::ending::close;
 use bridge::ending::reset;
 use bridge::incoming::frame;
@@ -10,9 +13,6 @@ use bridge::turning::turn;
 use bus::Frame;
 use bus::Served;
 use libc::STDOUT_FILENO;
-use transfer::Bridge;
-use transfer::Opened;
-use transfer::Slot;
 
 fn text(s: &[u8]) {
     io::write_all(STDOUT_FILENO, s);

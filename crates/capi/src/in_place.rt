@@ -1,5 +1,5 @@
 // The thin calls: turn, frame and close change the bridge in the caller's own storage.
-use transfer::Bridge;
+use bridge::Bridge;
 ghost use mathlib.Core.Path.{_≡_};
 ghost use Rattle.transfer.specs.Model.{turn′, frame′, close′};
 ghost use Rattle.transfer.specs.Answers.{steppedOf};

@@ -1,9 +1,9 @@
 // The bridge, by value.
-use transfer::Bridge;
-use transfer::Changed;
-use transfer::Opened;
-use transfer::Span;
-use transfer::Stepped;
+use bridge::Bridge;
+use bridge::Changed;
+use bridge::Opened;
+use bridge::Span;
+use bridge::Stepped;
 ghost use mathlib.Core.Path.{_≡_};
 ghost use Prim.Native.Nat.{_+_, _≤_};
 ghost use lib.ListN.{length};

@@ -5,6 +5,8 @@ use crate::output::labelled;
 use crate::output::line;
 use crate::output::number;
 use crate::output::text;
+use bridge::Bridge;
+use bridge::Slot;
 use bridge::ending::reset;
 use bridge::incoming::frame;
 use bridge::opening::open_read;
@@ -12,8 +14,6 @@ use bridge::opening::open_write;
 use bridge::tickets::status;
 use bridge::turning::turn;
 use bus::Frame;
-use transfer::Bridge;
-use transfer::Slot;
 
 // The fresh bridge 0, which reset makes of any state.
 fn fresh() -> Bridge {
