@@ -10,11 +10,11 @@ use Rattle.bus.specs.declared.Asked.{Asked as AskedEnum}
 use Rattle.bus.specs.declared.Asked.the-variants as A
 use Rattle.bus.specs.Ident.{noParts}
 use Rattle.bus.specs.Request.{noRequest}
-use Rattle.mlg.specs.Block.{dataKind, markKind, endKind, refusedKind}
-use Rattle.mlg.specs.declared.Head.{Head as MlgHead}
-use Rattle.mlg.specs.declared.Head.the-variants as MH
-use Rattle.mlg.specs.declared.Block.{Block as MlgEnum}
-use Rattle.mlg.specs.declared.Block.the-variants as MB
+use Rattle.mlgfile.specs.Block.{dataKind, markKind, endKind, refusedKind}
+use Rattle.mlgfile.specs.declared.Head.{Head as MlgHead}
+use Rattle.mlgfile.specs.declared.Head.the-variants as MH
+use Rattle.mlgfile.specs.declared.Block.{Block as MlgEnum}
+use Rattle.mlgfile.specs.declared.Block.the-variants as MB
 use Rattle.frd.specs.declared.Head.{Head as FrdHead}
 use Rattle.frd.specs.declared.Head.the-variants as FH
 use Rattle.frd.specs.declared.Block.{Block as FrdEnum}

@@ -12,11 +12,11 @@ ghost use mathlib.Core.Path.{_≡_};
 ghost use Prim.Native.Nat.{_+_, _≤_};
 ghost use lib.ListN.{length};
 ghost use Rattle.wire.specs.Writer.{wrote, leaves};
-ghost use Rattle.mlg.specs.Header.{headerOf};
-ghost use Rattle.mlg.specs.Block.{counterOf, blockAt};
-ghost use Rattle.mlg.specs.Log.{tallyIn};
-ghost use Rattle.mlg.specs.Parts.{fieldSpan, namesSpan, infoSpan};
-ghost use Rattle.mlg.specs.Writing.{headerBytes, headerNumber, dataBytes, markBytes, dataNumber, markNumber};
+ghost use Rattle.mlgfile.specs.Header.{headerOf};
+ghost use Rattle.mlgfile.specs.Block.{counterOf, blockAt};
+ghost use Rattle.mlgfile.specs.Log.{tallyIn};
+ghost use Rattle.mlgfile.specs.Parts.{fieldSpan, namesSpan, infoSpan};
+ghost use Rattle.mlgfile.specs.Writing.{headerBytes, headerNumber, dataBytes, markBytes, dataNumber, markNumber};
 ghost use Rattle.listing.specs.Listing.{listingOf, listingNumber};
 ghost use Rattle.capi.specs.Answers.{mlgHeader, noMlgBlock, mlgBlock};
 

@@ -14,12 +14,12 @@ use Rattle.wire.proofs.Orders.{order, if-zero, else-zero}
 use Rattle.field.specs.Layout.{layoutOf, headerLen, fieldLen}
 use Rattle.field.specs.Field.{fieldSize, typeOf, bitsOf, typeNumber}
 use Rattle.field.specs.Raw.{valueFieldNumber, valueNumber}
-use Rattle.mlg.specs.Fields.{fieldNumber, fieldsNumber, sizes}
-use Rattle.mlg.specs.Header.{numbersOf, fieldsEnd, lastNumber, bodyNumber, fieldsFrom, areaIn, headNumber, headerOf}
-use Rattle.mlg.specs.declared.Header.{Header}
-use Rattle.mlg.specs.declared.Head.the-variants.{Is, Refused}
-use Rattle.mlg.proofs.Places.{Placed}
-use Rattle.mlg.proofs.Spans.{placed-in}
+use Rattle.mlgfile.specs.Fields.{fieldNumber, fieldsNumber, sizes}
+use Rattle.mlgfile.specs.Header.{numbersOf, fieldsEnd, lastNumber, bodyNumber, fieldsFrom, areaIn, headNumber, headerOf}
+use Rattle.mlgfile.specs.declared.Header.{Header}
+use Rattle.mlgfile.specs.declared.Head.the-variants.{Is, Refused}
+use Rattle.mlgfile.proofs.Places.{Placed}
+use Rattle.mlgfile.proofs.Spans.{placed-in}
 use Rattle.listing.specs.Stands.{Valued}
 
 pub header-stands : (f : List ℕ) (h : Header) → headerOf f ≡ Is h → (headNumber f ≡ 0) × (numbersOf f ≡ h)

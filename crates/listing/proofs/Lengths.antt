@@ -19,12 +19,12 @@ use Rattle.field.specs.Types.{sizeOf}
 use Rattle.field.specs.Field.{typeOf, fieldSize, typeNumber}
 use Rattle.field.specs.Raw.{valueFieldNumber, valueNumber, rawOf}
 use Rattle.field.proofs.Raws.{sized, raw-below}
-use Rattle.mlg.specs.Block.{blockLen}
-use Rattle.mlg.specs.Log.{lengthOf}
-use Rattle.mlg.specs.declared.Block.{Block}
-use Rattle.mlg.specs.declared.Block.the-variants.{Data, Mark, End, Refused}
-use Rattle.mlg.proofs.Block.{the-type}
-use Rattle.mlg.proofs.Logs.{Goes}
+use Rattle.mlgfile.specs.Block.{blockLen}
+use Rattle.mlgfile.specs.Log.{lengthOf}
+use Rattle.mlgfile.specs.declared.Block.{Block}
+use Rattle.mlgfile.specs.declared.Block.the-variants.{Data, Mark, End, Refused}
+use Rattle.mlgfile.proofs.Block.{the-type}
+use Rattle.mlgfile.proofs.Logs.{Goes}
 use Rattle.listing.specs.Text.{digit, digits, decimal, integer}
 use Rattle.listing.specs.Lines.{valueText}
 use Rattle.listing.specs.Most.{mostOf}

@@ -14,11 +14,11 @@ use Rattle.wire.specs.declared.Written.{Written}
 use Rattle.wire.proofs.Orders.{if-yes, if-no}
 use Rattle.wire.proofs.Writes.{over, refuses, writes}
 use Rattle.field.specs.Layout.{headerLen, fieldLen}
-use Rattle.mlg.specs.Header.{noHeader, headerOf, fieldsFrom}
-use Rattle.mlg.specs.declared.Header.{Header}
-use Rattle.mlg.specs.declared.Head.{Head}
-use Rattle.mlg.specs.declared.Head.the-variants.{Is, Refused}
-use Rattle.mlg.specs.declared.Block.the-variants as block
+use Rattle.mlgfile.specs.Header.{noHeader, headerOf, fieldsFrom}
+use Rattle.mlgfile.specs.declared.Header.{Header}
+use Rattle.mlgfile.specs.declared.Head.{Head}
+use Rattle.mlgfile.specs.declared.Head.the-variants.{Is, Refused}
+use Rattle.mlgfile.specs.declared.Block.the-variants as block
 use Rattle.listing.specs.Lines.{tooLong, blockLine, fieldLines}
 use Rattle.listing.specs.Listing.{headLines, headedLines, listingOf, listingNumber}
 use Rattle.listing.specs.Puts.{Puts}

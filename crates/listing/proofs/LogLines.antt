@@ -12,17 +12,17 @@ use Rattle.wire.proofs.Texts.{text-most}
 use Rattle.wire.proofs.Parts.{take-length-le}
 use Rattle.wire.specs.Text.{textLen}
 use Rattle.field.specs.Layout.{headerLen, fieldLen}
-use Rattle.mlg.specs.Header.{headerOf}
-use Rattle.mlg.specs.Block.{counterOf, blockLen, kindIn, textIn, partsOf, blockAt}
-use Rattle.mlg.specs.Log.{Log, lengthOf, logFrom, logOf}
-use Rattle.mlg.specs.declared.Header.{Header}
-use Rattle.mlg.specs.declared.Head.the-variants.{Is}
-use Rattle.mlg.specs.declared.Block.{Block}
-use Rattle.mlg.specs.declared.Block.the-variants.{Data, Mark, End, Refused}
-use Rattle.mlg.proofs.Block.{the-type}
-use Rattle.mlg.proofs.Logs as logs
-use Rattle.mlg.proofs.Logs.{Goes, Next, log-end, log-refused, log-go, stands-at}
-use Rattle.mlg.proofs.Tallies.{at-fits}
+use Rattle.mlgfile.specs.Header.{headerOf}
+use Rattle.mlgfile.specs.Block.{counterOf, blockLen, kindIn, textIn, partsOf, blockAt}
+use Rattle.mlgfile.specs.Log.{Log, lengthOf, logFrom, logOf}
+use Rattle.mlgfile.specs.declared.Header.{Header}
+use Rattle.mlgfile.specs.declared.Head.the-variants.{Is}
+use Rattle.mlgfile.specs.declared.Block.{Block}
+use Rattle.mlgfile.specs.declared.Block.the-variants.{Data, Mark, End, Refused}
+use Rattle.mlgfile.proofs.Block.{the-type}
+use Rattle.mlgfile.proofs.Logs as logs
+use Rattle.mlgfile.proofs.Logs.{Goes, Next, log-end, log-refused, log-go, stands-at}
+use Rattle.mlgfile.proofs.Tallies.{at-fits}
 use Rattle.listing.specs.Lines.{blockLine, blockLines}
 use Rattle.listing.specs.Listing.{logLines}
 use Rattle.listing.specs.Stands.{Stands}

@@ -21,9 +21,9 @@ use Rattle.field.specs.declared.RawValue.{RawValue}
 use Rattle.field.specs.declared.RawValue.the-variants as R
 use Rattle.field.proofs.RawValue.{the-type}
 use Rattle.wire.proofs.Answers.{stands}
-use Rattle.mlg.specs.declared.Block.{Block}
-use Rattle.mlg.specs.declared.Block.the-variants.{Data, Mark, End, Refused}
-use Rattle.mlg.proofs.Block as block
+use Rattle.mlgfile.specs.declared.Block.{Block}
+use Rattle.mlgfile.specs.declared.Block.the-variants.{Data, Mark, End, Refused}
+use Rattle.mlgfile.proofs.Block as block
 use Rattle.listing.specs.Text.{toZero}
 use Rattle.listing.specs.Lines.{nameOf, rightText}
 

@@ -6,10 +6,10 @@ use lib.ListN.{take, drop}
 use Rattle.field.specs.Layout.{fieldLen}
 use Rattle.field.specs.Field.{typeOf, nameAt, nameLen, fieldSize}
 use Rattle.field.specs.Raw.{rawOf}
-use Rattle.mlg.specs.Header.{fieldsFrom}
-use Rattle.mlg.specs.declared.Header.{Header}
-use Rattle.mlg.specs.declared.Block.{Block}
-use Rattle.mlg.specs.declared.Block.the-variants.{Data, Mark, End, Refused}
+use Rattle.mlgfile.specs.Header.{fieldsFrom}
+use Rattle.mlgfile.specs.declared.Header.{Header}
+use Rattle.mlgfile.specs.declared.Block.{Block}
+use Rattle.mlgfile.specs.declared.Block.the-variants.{Data, Mark, End, Refused}
 use Rattle.listing.specs.Text.{decimal, integer, shown, toZero}
 
 abbrev pub space : List ℕ

@@ -5,12 +5,12 @@ use mathlib.Core.List.{List, _++_}
 use lib.Dec.{ltb}
 use lib.ListN.{length}
 use Rattle.wire.specs.Order.{_if_else_}
-use Rattle.mlg.specs.Header.{headerOf, fieldsFrom, noHeader}
-use Rattle.mlg.specs.Log.{Log, logOf}
-use Rattle.mlg.specs.declared.Header.{Header}
-use Rattle.mlg.specs.declared.Head.{Head}
-use Rattle.mlg.specs.declared.Head.the-variants.{Is, Refused}
-use Rattle.mlg.specs.declared.Block.the-variants as block
+use Rattle.mlgfile.specs.Header.{headerOf, fieldsFrom, noHeader}
+use Rattle.mlgfile.specs.Log.{Log, logOf}
+use Rattle.mlgfile.specs.declared.Header.{Header}
+use Rattle.mlgfile.specs.declared.Head.{Head}
+use Rattle.mlgfile.specs.declared.Head.the-variants.{Is, Refused}
+use Rattle.mlgfile.specs.declared.Block.the-variants as block
 use Rattle.listing.specs.Lines.{headerLine, fieldLines, blockLine, blockLines, tooLong}
 
 -- the blocks of a log after n earlier ones, one by one, then what ends it: the end or a refusal

@@ -6,10 +6,10 @@ use lib.ListN.{length, take, drop}
 use Rattle.field.specs.Layout.{headerLen, fieldLen}
 use Rattle.field.specs.Field.{fieldSize}
 use Rattle.field.specs.Raw.{valueNumber}
-use Rattle.mlg.specs.Header.{fieldsFrom}
-use Rattle.mlg.specs.declared.Header.{Header}
-use Rattle.mlg.specs.declared.Block.{Block}
-use Rattle.mlg.specs.declared.Block.the-variants.{Data, Mark, End, Refused}
+use Rattle.mlgfile.specs.Header.{fieldsFrom}
+use Rattle.mlgfile.specs.declared.Header.{Header}
+use Rattle.mlgfile.specs.declared.Block.{Block}
+use Rattle.mlgfile.specs.declared.Block.the-variants.{Data, Mark, End, Refused}
 
 -- n fields, whose bytes begin t and whose raw bytes begin b
 abbrev pub Valued : ℕ → ℕ → List ℕ → List ℕ → Type 0

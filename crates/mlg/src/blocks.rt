@@ -2,7 +2,7 @@
 ghost use mathlib.Core.Path.{_≡_};
 ghost use Prim.Native.Nat.{_+_, _<_, _≤_, _^_};
 ghost use lib.ListN.{length, getD};
-ghost use Rattle.mlg.specs.Block.{counterOf, blockLen, lastOf, blockNumber, partsOf, blockOf};
+ghost use Rattle.mlgfile.specs.Block.{counterOf, blockLen, lastOf, blockNumber, partsOf, blockOf};
 use crate::Block;
 
 // The counter of a block after the given number of earlier blocks.

@@ -6,8 +6,8 @@ ghost use lib.Dec.{leb, ltb};
 ghost use Rattle.wire.specs.Text.{zeros};
 ghost use Rattle.field.specs.Layout.{fieldLen};
 ghost use Rattle.field.specs.Field.{fieldSize};
-ghost use Rattle.mlg.specs.Area.{ended, areaOf};
-ghost use Rattle.mlg.specs.Fields.{unended, textsNumber, namesNumber, fieldNumber, fieldsNumber, sizes};
+ghost use Rattle.mlgfile.specs.Area.{ended, areaOf};
+ghost use Rattle.mlgfile.specs.Fields.{unended, textsNumber, namesNumber, fieldNumber, fieldsNumber, sizes};
 use crate::layout::field_len;
 
 pub(crate) fn open_text(d: &[u8], at: usize, n: usize) -> bool

@@ -3,7 +3,7 @@ ghost use mathlib.Core.Path.{_≡_};
 ghost use Prim.Native.Nat.{_+_, _≤_};
 ghost use lib.ListN.{length};
 ghost use Rattle.wire.specs.Writer.{leaves};
-ghost use Rattle.mlg.specs.Writing.{startBytes, dataBytes, padded, markBytes, dataNumber, markNumber};
+ghost use Rattle.mlgfile.specs.Writing.{startBytes, dataBytes, padded, markBytes, dataNumber, markNumber};
 
 // The first four bytes of a block.
 pub(crate) fn start_bytes(kind: u8, counter: u8, time: u16) -> [u8; 4]

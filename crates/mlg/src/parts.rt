@@ -1,6 +1,6 @@
 // Parts of a file as places and lengths.
 ghost use mathlib.Core.Path.{_≡_};
-ghost use Rattle.mlg.specs.Parts.{namesEnd, spanOf};
+ghost use Rattle.mlgfile.specs.Parts.{namesEnd, spanOf};
 use crate::Header;
 use crate::Span;
 

@@ -1,9 +1,9 @@
 // The blocks of a log, one after the other.
 ghost use mathlib.Core.Path.{_≡_};
 ghost use Prim.Native.Nat.{ℕ};
-ghost use Rattle.mlg.specs.Header.{headAnswer};
-ghost use Rattle.mlg.specs.Block.{blockAnswer};
-ghost use Rattle.mlg.specs.Log.{logOf, tallyOf};
+ghost use Rattle.mlgfile.specs.Header.{headAnswer};
+ghost use Rattle.mlgfile.specs.Block.{blockAnswer};
+ghost use Rattle.mlgfile.specs.Log.{logOf, tallyOf};
 use crate::Block;
 use crate::Head;
 use crate::Tally;

@@ -7,10 +7,10 @@ use borrow.Author.Tests.{le-leb, lt-leb}
 use lib.ListN.{length}
 use Rattle.wire.proofs.Orders.{else-some, else-none, if-yes, if-no}
 use Rattle.field.specs.Layout.{fieldLen}
-use Rattle.mlg.specs.declared.Header.{Header}
-use Rattle.mlg.specs.Parts.{fieldSpan}
-use Rattle.mlg.proofs.Layouts.{header-most, fields-most}
-use Rattle.mlg.proofs.Spans.{refused, given, placed-in, field-fits}
+use Rattle.mlgfile.specs.declared.Header.{Header}
+use Rattle.mlgfile.specs.Parts.{fieldSpan}
+use Rattle.mlgfile.proofs.Layouts.{header-most, fields-most}
+use Rattle.mlgfile.proofs.Spans.{refused, given, placed-in, field-fits}
 
 head-number-requires : tie.Need-head-number-requires
 head-number-requires c κs = search needs

@@ -6,9 +6,9 @@ use Prim.Native.Nat.{_-_}
 use native.Mathlib.Omega.{arith}
 use Rattle.wire.specs.Text.{textLen}
 use Rattle.wire.proofs.Parts.{tail-part}
-use Rattle.mlg.specs.declared.Header.{Header}
-use Rattle.mlg.specs.Parts.{infoSpan, infoLength}
-use Rattle.mlg.proofs.Spans.{refused, given, placed-in, info-none, info-some, info-fits}
+use Rattle.mlgfile.specs.declared.Header.{Header}
+use Rattle.mlgfile.specs.Parts.{infoSpan, infoLength}
+use Rattle.mlgfile.proofs.Spans.{refused, given, placed-in, info-none, info-some, info-fits}
 
 head-number-requires : tie.Need-head-number-requires
 head-number-requires c κs = search needs

@@ -3,9 +3,9 @@ use Rattle.mlg.proofs.names_span.Statement.{statement}
 use Rattle.mlg.proofs.names_span.Tie as tie
 use mathlib.Core.Path.{sym, _∙_, ap}
 use native.Mathlib.Omega.{arith}
-use Rattle.mlg.specs.Parts.{namesSpan}
-use Rattle.mlg.specs.Header.{fieldsEnd}
-use Rattle.mlg.proofs.Spans.{refused, given, placed-in, names-fit}
+use Rattle.mlgfile.specs.Parts.{namesSpan}
+use Rattle.mlgfile.specs.Header.{fieldsEnd}
+use Rattle.mlgfile.proofs.Spans.{refused, given, placed-in, names-fit}
 
 head-number-requires : tie.Need-head-number-requires
 head-number-requires c κs = search needs

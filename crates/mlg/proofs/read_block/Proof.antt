@@ -1,13 +1,13 @@
 use borrow.Author.Needs.{needs}
 use Rattle.mlg.proofs.read_block.Statement.{statement}
 use Rattle.mlg.proofs.read_block.Tie as tie
-use Rattle.mlg.proofs.Alone.{block-alone}
+use Rattle.mlgfile.proofs.Alone.{block-alone}
 use Prim.Native.Nat.{ℕ, _-_}
 use lib.ListN.{length, take, drop}
 use mathlib.Core.Path.{sym, _∙_, ap}
 use Rattle.wire.proofs.Parts.{tail-part}
-use Rattle.mlg.specs.Block.{blockOf, counterOf}
-use Rattle.mlg.proofs.Cases.{at-past, at-within, block-means}
+use Rattle.mlgfile.specs.Block.{blockOf, counterOf}
+use Rattle.mlgfile.proofs.Cases.{at-past, at-within, block-means}
 
 returns : tie.Need-returns
 returns c = (block-means (c .before .before .args .size) (c .before .before .args .earlier) (c .before .before .args .file .now) (c .before .before .args .at) (sym (at-past _ _ _ _ (c .if1 .taken))), block-alone)

@@ -2,10 +2,10 @@ use borrow.Author.Needs.{needs}
 use Rattle.mlg.proofs.read_header.Statement.{statement}
 use Rattle.mlg.proofs.read_header.Tie as tie
 use mathlib.Core.Path.{sym, _∙_}
-use Rattle.mlg.specs.Header.{headerOf}
+use Rattle.mlgfile.specs.Header.{headerOf}
 use Rattle.wire.proofs.Answers.{refuses, stands}
-use Rattle.mlg.specs.declared.Head.the-variants.{Is, Refused}
-use Rattle.mlg.proofs.Places.{head-means}
+use Rattle.mlgfile.specs.declared.Head.the-variants.{Is, Refused}
+use Rattle.mlgfile.proofs.Places.{head-means}
 
 head-number-requires : tie.Need-head-number-requires
 head-number-requires c κs = search needs

@@ -4,8 +4,8 @@ use Rattle.listing.proofs.whole.block_len.Tie as tie
 use Rattle.listing.proofs.whole.block_len.Reads as reads
 use Rattle.listing.proofs.whole.block_len.Lts as lts
 use mathlib.Core.Path.{_≡_, refl, sym, _∙_, ap}
-use Rattle.mlg.specs.Block.{blockLen}
-use Rattle.mlg.specs.Log.{lengthOf}
+use Rattle.mlgfile.specs.Block.{blockLen}
+use Rattle.mlgfile.specs.Log.{lengthOf}
 
 enum-told : tie.Need-enum-told
 enum-told c = search needs

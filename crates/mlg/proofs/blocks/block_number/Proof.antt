@@ -4,8 +4,8 @@ use Rattle.mlg.proofs.blocks.block_number.Tie as tie
 use mathlib.Core.Path.{_∙_}
 use native.Mathlib.Omega.{arith}
 use Rattle.wire.proofs.Orders.{order}
-use Rattle.mlg.specs.Block.{blockNumber}
-use Rattle.mlg.proofs.Cases.{len-data, len-mark, known-mark}
+use Rattle.mlgfile.specs.Block.{blockNumber}
+use Rattle.mlgfile.proofs.Cases.{len-data, len-mark, known-mark}
 
 shared-slice-read-kind : tie.Need-shared-slice-read-kind
 shared-slice-read-kind c = search needs

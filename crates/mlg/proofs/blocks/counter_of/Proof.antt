@@ -2,7 +2,7 @@ use borrow.Author.Needs.{needs}
 use Rattle.mlg.proofs.blocks.counter_of.Statement.{statement}
 use Rattle.mlg.proofs.blocks.counter_of.Tie as tie
 use mathlib.Core.Path.{refl}
-use Rattle.mlg.specs.Block.{counterOf}
+use Rattle.mlgfile.specs.Block.{counterOf}
 
 cast-result : tie.Need-cast-result
 cast-result c = search needs

@@ -2,7 +2,7 @@ use borrow.Author.Needs.{needs}
 use Rattle.mlg.proofs.blocks.text_number.Statement.{statement}
 use Rattle.mlg.proofs.blocks.text_number.Tie as tie
 use Rattle.wire.proofs.Orders.{order}
-use Rattle.mlg.specs.Block.{lastOf}
+use Rattle.mlgfile.specs.Block.{lastOf}
 
 sub-text-len : tie.Need-sub-text-len
 sub-text-len c = search needs

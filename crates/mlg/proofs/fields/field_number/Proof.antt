@@ -2,7 +2,7 @@ use borrow.Author.Needs.{needs}
 use Rattle.mlg.proofs.fields.field_number.Statement.{statement}
 use Rattle.mlg.proofs.fields.field_number.Tie as tie
 use native.Mathlib.Omega.{arith}
-use Rattle.mlg.specs.Fields.{fieldNumber}
+use Rattle.mlgfile.specs.Fields.{fieldNumber}
 use Rattle.wire.proofs.Orders.{order}
 use Rattle.field.proofs.Layouts.{field-least}
 

@@ -2,7 +2,7 @@ use borrow.Author.Needs.{needs}
 use Rattle.mlg.proofs.marks.data_number.Statement.{statement}
 use Rattle.mlg.proofs.marks.data_number.Tie as tie
 use Rattle.wire.proofs.Orders.{order}
-use Rattle.mlg.specs.Writing.{dataNumber}
+use Rattle.mlgfile.specs.Writing.{dataNumber}
 
 returns : tie.Need-returns
 unfolding dataNumber

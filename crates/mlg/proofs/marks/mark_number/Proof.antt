@@ -2,7 +2,7 @@ use borrow.Author.Needs.{needs}
 use Rattle.mlg.proofs.marks.mark_number.Statement.{statement}
 use Rattle.mlg.proofs.marks.mark_number.Tie as tie
 use Rattle.wire.proofs.Orders.{order}
-use Rattle.mlg.specs.Writing.{markNumber}
+use Rattle.mlgfile.specs.Writing.{markNumber}
 
 returns : tie.Need-returns
 unfolding markNumber

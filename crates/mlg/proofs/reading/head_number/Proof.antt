@@ -2,7 +2,7 @@ use borrow.Author.Needs.{needs}
 use Rattle.mlg.proofs.reading.head_number.Statement.{statement}
 use Rattle.mlg.proofs.reading.head_number.Tie as tie
 use mathlib.Core.Path.{sym, _∙_}
-use Rattle.mlg.specs.Header.{headNumber, bodyNumber}
+use Rattle.mlgfile.specs.Header.{headNumber, bodyNumber}
 use Rattle.wire.proofs.Orders.{order}
 
 name-number-requires : tie.Need-name-number-requires

@@ -2,7 +2,7 @@ use borrow.Author.Needs.{needs}
 use Rattle.mlg.proofs.reading.numbers.Statement.{statement}
 use Rattle.mlg.proofs.reading.numbers.Tie as tie
 use native.Mathlib.Omega.{arith}
-use Rattle.mlg.specs.Header.{numbersOf}
+use Rattle.mlgfile.specs.Header.{numbersOf}
 use Rattle.field.proofs.Layouts.{info-most}
 
 be16-requires : tie.Need-be16-requires

@@ -4,8 +4,8 @@ use Rattle.mlg.proofs.writing.header_number.Tie as tie
 use mathlib.Core.Path.{refl, sym, _∙_}
 use borrow.Author.Tests.{lt-ltb, le-ltb}
 use Rattle.wire.proofs.Orders.{else-some, else-none, if-yes, if-no}
-use Rattle.mlg.specs.Writing.{headerNumber}
-use Rattle.mlg.proofs.HeaderBytes.{header-length}
+use Rattle.mlgfile.specs.Writing.{headerNumber}
+use Rattle.mlgfile.proofs.HeaderBytes.{header-length}
 
 lengths-number-requires : tie.Need-lengths-number-requires
 lengths-number-requires c κs = search needs

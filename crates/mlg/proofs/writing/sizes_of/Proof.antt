@@ -5,11 +5,11 @@ use mathlib.Core.Path.{_≡_}
 use native.Mathlib.Omega.{arith}
 use lib.ListN.{length, drop, getD}
 use Rattle.field.specs.Layout.{fieldLen}
-use Rattle.mlg.specs.Fields.{sizes}
+use Rattle.mlgfile.specs.Fields.{sizes}
 use Rattle.field.proofs.Layouts.{field-least}
 use Rattle.field.proofs.Types.{size-most}
-use Rattle.mlg.proofs.Layouts.{one-of}
-use Rattle.mlg.proofs.EachField.{sizes-first, sizes-done}
+use Rattle.mlgfile.proofs.Layouts.{one-of}
+use Rattle.mlgfile.proofs.EachField.{sizes-first, sizes-done}
 
 abbrev Inv-loop : tie.InvT-loop
 Inv-loop version fields count len at₀ left₀ total₀ at left total = (len ≡ fieldLen version) × (at + fieldLen version * left ≤ length fields) × (total + 8 * left ≤ 8 * count) × (total + sizes version left (drop at fields) ≡ sizes version count fields)

@@ -6,19 +6,19 @@ use mathlib.Core.List.{List, [], _∷_, _++_, append-assoc}
 use native.Mathlib.Omega.{arith}
 use lib.ListN.{length, drop, length-append}
 use lib.Seq.{drop-at}
-use Rattle.mlg.specs.Block.{counterOf, blockLen, blockAt}
-use Rattle.mlg.specs.Writing.{headerFor, headerBytes, dataBytes, markBytes}
-use Rattle.mlg.specs.Log.{Log, lengthOf, logFrom, logOf}
-use Rattle.mlg.specs.Entries.{Entry, aRecord, aMark, entriesBytes, entryIn, entriesIn, Writable, AllRight}
-use Rattle.mlg.specs.RoundTrip.{DataBack, MarkBack, HeaderBack, LogBack, logBytes}
-use Rattle.mlg.specs.declared.Block.{Block}
-use Rattle.mlg.specs.declared.Block.the-variants.{Data, Mark, End}
-use Rattle.mlg.proofs.BlockBack.{data-back, mark-back}
-use Rattle.mlg.proofs.BlockBytes.{data-fits, data-length, mark-fits, mark-length}
-use Rattle.mlg.proofs.Cases.{at-within, block-end}
-use Rattle.mlg.proofs.HeaderBack.{header-back}
-use Rattle.mlg.proofs.HeaderBytes.{header-length}
-use Rattle.mlg.proofs.Logs.{Goes, Next, log-end, log-go}
+use Rattle.mlgfile.specs.Block.{counterOf, blockLen, blockAt}
+use Rattle.mlgfile.specs.Writing.{headerFor, headerBytes, dataBytes, markBytes}
+use Rattle.mlgfile.specs.Log.{Log, lengthOf, logFrom, logOf}
+use Rattle.mlgfile.specs.Entries.{Entry, aRecord, aMark, entriesBytes, entryIn, entriesIn, Writable, AllRight}
+use Rattle.mlgfile.specs.RoundTrip.{DataBack, MarkBack, HeaderBack, LogBack, logBytes}
+use Rattle.mlgfile.specs.declared.Block.{Block}
+use Rattle.mlgfile.specs.declared.Block.the-variants.{Data, Mark, End}
+use Rattle.mlgfile.proofs.BlockBack.{data-back, mark-back}
+use Rattle.mlgfile.proofs.BlockBytes.{data-fits, data-length, mark-fits, mark-length}
+use Rattle.mlgfile.proofs.Cases.{at-within, block-end}
+use Rattle.mlgfile.proofs.HeaderBack.{header-back}
+use Rattle.mlgfile.proofs.HeaderBytes.{header-length}
+use Rattle.mlgfile.proofs.Logs.{Goes, Next, log-end, log-go}
 
 -- the blocks of a log say the entries
 record Reads (l : ℕ) (es : List Entry) (f : List ℕ) (log : Log) : Type 0 where

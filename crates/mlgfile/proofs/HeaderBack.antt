@@ -15,19 +15,19 @@ use Rattle.wire.proofs.Answers.{stands}
 use Rattle.wire.proofs.Orders.{if-yes, if-no, not-no, else-none}
 use Rattle.wire.proofs.Texts.{text-back, text-most}
 use Rattle.field.specs.Layout.{served, layoutOf, headerLen, fieldLen}
-use Rattle.mlg.specs.Area.{ended, areaOf, infoStart}
-use Rattle.mlg.specs.Fields.{sizes}
-use Rattle.mlg.specs.Header.{numbersOf, fieldsEnd, nameNumber, placesNumber, lastNumber, bodyNumber, areaIn, headNumber, headerOf}
-use Rattle.mlg.specs.Writing.{numberBytes, headerFor, headerBytes}
-use Rattle.mlg.specs.Parts.{fieldsIn, namesEnd, namesIn, infoLength, infoIn}
-use Rattle.mlg.specs.RoundTrip.{HeaderBack}
-use Rattle.mlg.specs.declared.Header.{Header}
-use Rattle.mlg.specs.declared.Head.the-variants.{Is, Refused}
-use Rattle.mlg.proofs.Areas.{area-length, ended-some}
-use Rattle.mlg.proofs.EachField.{fields-alone, sizes-alone}
-use Rattle.mlg.proofs.Fits.{Fit, fit, fields-end}
-use Rattle.mlg.proofs.HeaderBytes.{first-length, number-length, header-length, header-fits, start-most}
-use Rattle.mlg.proofs.Layouts.{header-two, fields-fit}
+use Rattle.mlgfile.specs.Area.{ended, areaOf, infoStart}
+use Rattle.mlgfile.specs.Fields.{sizes}
+use Rattle.mlgfile.specs.Header.{numbersOf, fieldsEnd, nameNumber, placesNumber, lastNumber, bodyNumber, areaIn, headNumber, headerOf}
+use Rattle.mlgfile.specs.Writing.{numberBytes, headerFor, headerBytes}
+use Rattle.mlgfile.specs.Parts.{fieldsIn, namesEnd, namesIn, infoLength, infoIn}
+use Rattle.mlgfile.specs.RoundTrip.{HeaderBack}
+use Rattle.mlgfile.specs.declared.Header.{Header}
+use Rattle.mlgfile.specs.declared.Head.the-variants.{Is, Refused}
+use Rattle.mlgfile.proofs.Areas.{area-length, ended-some}
+use Rattle.mlgfile.proofs.EachField.{fields-alone, sizes-alone}
+use Rattle.mlgfile.proofs.Fits.{Fit, fit, fields-end}
+use Rattle.mlgfile.proofs.HeaderBytes.{first-length, number-length, header-length, header-fits, start-most}
+use Rattle.mlgfile.proofs.Layouts.{header-two, fields-fit}
 
 -- the numbers
 numbers-in : (t i b s n : ℕ) (r : List ℕ) → t < 256 ^ 4 → i < 256 ^ 4 → b < 256 ^ 4 → s < 256 ^ 2 → n < 256 ^ 2

@@ -16,22 +16,22 @@ use Rattle.wire.proofs.Orders.{if-zero, if-no, else-zero, else-none, not-false,
 use Rattle.wire.proofs.Parts.{part-in-two}
 use Rattle.wire.proofs.Texts.{text-zero}
 use Rattle.field.specs.Layout.{served, layoutOf, headerLen, infoLen, fieldLen}
-use Rattle.mlg.specs.Area.{ended, areaOf, infoStart}
-use Rattle.mlg.specs.Fields.{sizes}
-use Rattle.mlg.specs.Header.{logName, versionIn, numbersOf, fieldsEnd, fieldsFrom, areaIn, nameNumber, lastNumber, bodyNumber, headNumber, headerOf}
-use Rattle.mlg.specs.Writing.{numberBytes, headerFor, headerBytes, lengthsNumber, headerNumber}
-use Rattle.mlg.specs.Parts.{fieldsIn, namesEnd, namesIn, infoLength, infoIn}
-use Rattle.mlg.specs.Log.{logOf}
-use Rattle.mlg.specs.RoundTrip.{InLayout, LogSame, logBytes}
-use Rattle.mlg.specs.declared.Header.{Header}
-use Rattle.mlg.specs.declared.Head.the-variants.{Is, Refused}
-use Rattle.mlg.proofs.Accepted.{two-below, four-below, text-whole}
-use Rattle.mlg.proofs.Areas.{ended-some}
-use Rattle.mlg.proofs.EachField.{sizes-alone}
-use Rattle.mlg.proofs.HeaderBack.{body-alone}
-use Rattle.mlg.proofs.HeaderBytes.{start-some}
-use Rattle.mlg.proofs.LogSame.{same-from}
-use Rattle.mlg.proofs.Places.{Placed, placed}
+use Rattle.mlgfile.specs.Area.{ended, areaOf, infoStart}
+use Rattle.mlgfile.specs.Fields.{sizes}
+use Rattle.mlgfile.specs.Header.{logName, versionIn, numbersOf, fieldsEnd, fieldsFrom, areaIn, nameNumber, lastNumber, bodyNumber, headNumber, headerOf}
+use Rattle.mlgfile.specs.Writing.{numberBytes, headerFor, headerBytes, lengthsNumber, headerNumber}
+use Rattle.mlgfile.specs.Parts.{fieldsIn, namesEnd, namesIn, infoLength, infoIn}
+use Rattle.mlgfile.specs.Log.{logOf}
+use Rattle.mlgfile.specs.RoundTrip.{InLayout, LogSame, logBytes}
+use Rattle.mlgfile.specs.declared.Header.{Header}
+use Rattle.mlgfile.specs.declared.Head.the-variants.{Is, Refused}
+use Rattle.mlgfile.proofs.Accepted.{two-below, four-below, text-whole}
+use Rattle.mlgfile.proofs.Areas.{ended-some}
+use Rattle.mlgfile.proofs.EachField.{sizes-alone}
+use Rattle.mlgfile.proofs.HeaderBack.{body-alone}
+use Rattle.mlgfile.proofs.HeaderBytes.{start-some}
+use Rattle.mlgfile.proofs.LogSame.{same-from}
+use Rattle.mlgfile.proofs.Places.{Placed, placed}
 
 -- what is known of a header that was read
 taken : (f : List ℕ) (h : Header) → headerOf f ≡ Is h → (headNumber f ≡ 0) × (numbersOf f ≡ h)

@@ -10,16 +10,16 @@ use Rattle.wire.specs.Order.{_if_else_, _orElse_}
 use Rattle.field.specs.Layout.{served, layoutOf}
 use Rattle.field.specs.Types.{sizeOf}
 use Rattle.field.specs.Field.{typeNumber}
-use Rattle.mlg.specs.Area.{areaOf}
-use Rattle.mlg.specs.Fields.{unended, textsNumber, namesNumber, fieldNumber}
-use Rattle.mlg.specs.Header.{numbersOf, fieldsEnd, nameNumber, placesNumber, lastNumber, bodyNumber, areaIn, headNumber, headerOf}
-use Rattle.mlg.specs.Block.{counterOf, blockLen, lastOf, blockNumber, partsOf, blockJudged, blockOf, placeNumber, blockAt, blockAnswer}
-use Rattle.mlg.specs.Writing.{numberBytes, headerFor, headerBytes, startBytes, dataBytes}
-use Rattle.mlg.specs.Log.{lengthOf, ahead, logOf, tallyOf}
-use Rattle.mlg.specs.Entries.{aRecord}
-use Rattle.mlg.specs.RoundTrip.{logBytes}
-use Rattle.mlg.specs.declared.Head.the-variants.{Is}
-use Rattle.mlg.specs.declared.Block.the-variants.{Data, End}
+use Rattle.mlgfile.specs.Area.{areaOf}
+use Rattle.mlgfile.specs.Fields.{unended, textsNumber, namesNumber, fieldNumber}
+use Rattle.mlgfile.specs.Header.{numbersOf, fieldsEnd, nameNumber, placesNumber, lastNumber, bodyNumber, areaIn, headNumber, headerOf}
+use Rattle.mlgfile.specs.Block.{counterOf, blockLen, lastOf, blockNumber, partsOf, blockJudged, blockOf, placeNumber, blockAt, blockAnswer}
+use Rattle.mlgfile.specs.Writing.{numberBytes, headerFor, headerBytes, startBytes, dataBytes}
+use Rattle.mlgfile.specs.Log.{lengthOf, ahead, logOf, tallyOf}
+use Rattle.mlgfile.specs.Entries.{aRecord}
+use Rattle.mlgfile.specs.RoundTrip.{logBytes}
+use Rattle.mlgfile.specs.declared.Head.the-variants.{Is}
+use Rattle.mlgfile.specs.declared.Block.the-variants.{Data, End}
 
 abbrev field : List ℕ
 field = 0 ∷ 116 ∷ replicate 87 0

@@ -12,7 +12,7 @@ use Rattle.wire.specs.Text.{textLen}
 use Rattle.wire.proofs.Numbers.{Bytes}
 use Rattle.wire.proofs.Orders.{if-no, not-no}
 use Rattle.wire.proofs.Texts.{text-most}
-use Rattle.mlg.specs.Writing.{dataNumber, markNumber}
+use Rattle.mlgfile.specs.Writing.{dataNumber, markNumber}
 
 -- numbers of 16 and of 32 bits
 pub two-below : (l : List ℕ) → Bytes l → beOf (take 2 l) < 65536

@@ -13,12 +13,12 @@ use Rattle.wire.specs.Text.{textLen, zeros}
 use Rattle.wire.proofs.Orders.{if-zero, if-yes, if-no, not-no, not-false}
 use Rattle.wire.proofs.Texts.{zeros-append}
 use Rattle.field.specs.Layout.{headerLen, fieldLen}
-use Rattle.mlg.specs.Area.{ended, areaOf}
-use Rattle.mlg.specs.Fields.{fieldsNumber, sizes}
-use Rattle.mlg.specs.Header.{fieldsEnd, lastNumber, bodyNumber}
-use Rattle.mlg.specs.Writing.{headerFor, lengthsNumber}
-use Rattle.mlg.proofs.Areas.{area-length}
-use Rattle.mlg.proofs.Layouts.{fields-whole, fields-few, header-most}
+use Rattle.mlgfile.specs.Area.{ended, areaOf}
+use Rattle.mlgfile.specs.Fields.{fieldsNumber, sizes}
+use Rattle.mlgfile.specs.Header.{fieldsEnd, lastNumber, bodyNumber}
+use Rattle.mlgfile.specs.Writing.{headerFor, lengthsNumber}
+use Rattle.mlgfile.proofs.Areas.{area-length}
+use Rattle.mlgfile.proofs.Layouts.{fields-whole, fields-few, header-most}
 
 pub record Fit (v : ℕ) (fields names info : List ℕ) : Type 0 where
   pub whole : length fields % fieldLen v ≡ 0

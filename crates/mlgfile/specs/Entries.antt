@@ -5,10 +5,10 @@ use mathlib.Core.Bool.{true}
 use mathlib.Core.List.{List, [], _∷_, _++_}
 use lib.ListN.{take, drop}
 use Rattle.wire.specs.Text.{textLen}
-use Rattle.mlg.specs.Block.{counterOf, timeIn, recordIn, textIn}
-use Rattle.mlg.specs.Writing.{dataBytes, padded, markBytes, dataNumber, markNumber}
-use Rattle.mlg.specs.declared.Block.{Block}
-use Rattle.mlg.specs.declared.Block.the-variants.{Data, Mark, End, Refused}
+use Rattle.mlgfile.specs.Block.{counterOf, timeIn, recordIn, textIn}
+use Rattle.mlgfile.specs.Writing.{dataBytes, padded, markBytes, dataNumber, markNumber}
+use Rattle.mlgfile.specs.declared.Block.{Block}
+use Rattle.mlgfile.specs.declared.Block.the-variants.{Data, Mark, End, Refused}
 
 pub data Entry : Type 0 where
   aRecord : ℕ → List ℕ → Entry

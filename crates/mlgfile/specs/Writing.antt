@@ -9,10 +9,10 @@ use Rattle.wire.specs.BigEndian.{bytesOf}
 use Rattle.wire.specs.Sum.{sumOf}
 use Rattle.wire.specs.Text.{textLen}
 use Rattle.field.specs.Layout.{headerLen, infoLen, fieldLen}
-use Rattle.mlg.specs.Area.{infoStart, areaOf}
-use Rattle.mlg.specs.Fields.{sizes}
-use Rattle.mlg.specs.Header.{logName, bodyNumber}
-use Rattle.mlg.specs.declared.Header.{Header}
+use Rattle.mlgfile.specs.Area.{infoStart, areaOf}
+use Rattle.mlgfile.specs.Fields.{sizes}
+use Rattle.mlgfile.specs.Header.{logName, bodyNumber}
+use Rattle.mlgfile.specs.declared.Header.{Header}
 
 -- "The header writer takes time, fields, a names area and info; lays them back to back, adds info's zero, or for empty info uses info start 0
 -- and no zero." Here v is the version that it writes.

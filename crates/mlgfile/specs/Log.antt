@@ -2,14 +2,14 @@
 use Prim.Native.Nat.{ℕ, zero, suc, _+_}
 use mathlib.Core.List.{List, [], _∷_}
 use lib.ListN.{length}
-use Rattle.mlg.specs.Header.{headerOf}
-use Rattle.mlg.specs.Block.{blockLen, blockAt, blockAnswer}
-use Rattle.mlg.specs.declared.Tally.{Tally}
-use Rattle.mlg.specs.declared.Head.{Head}
-use Rattle.mlg.specs.declared.Head.the-variants.{Is}
-use Rattle.mlg.specs.declared.Head.the-variants as head
-use Rattle.mlg.specs.declared.Block.{Block}
-use Rattle.mlg.specs.declared.Block.the-variants.{Data, Mark, End, Refused}
+use Rattle.mlgfile.specs.Header.{headerOf}
+use Rattle.mlgfile.specs.Block.{blockLen, blockAt, blockAnswer}
+use Rattle.mlgfile.specs.declared.Tally.{Tally}
+use Rattle.mlgfile.specs.declared.Head.{Head}
+use Rattle.mlgfile.specs.declared.Head.the-variants.{Is}
+use Rattle.mlgfile.specs.declared.Head.the-variants as head
+use Rattle.mlgfile.specs.declared.Block.{Block}
+use Rattle.mlgfile.specs.declared.Block.the-variants.{Data, Mark, End, Refused}
 
 pub record Log : Type 0 where
   pub blocks : List (ℕ × Block)

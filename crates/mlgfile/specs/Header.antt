@@ -11,10 +11,10 @@ use Rattle.wire.specs.Order.{_if_else_, _orElse_}
 use Rattle.wire.specs.BigEndian.{beOf, beAt}
 use Rattle.wire.specs.Text.{zeros}
 use Rattle.field.specs.Layout.{served, headerLen, infoLen, fieldLen}
-use Rattle.mlg.specs.Fields.{fieldsNumber, sizes}
-use Rattle.mlg.specs.declared.Header.{Header}
-use Rattle.mlg.specs.declared.Head.{Head}
-use Rattle.mlg.specs.declared.Head.the-variants.{Is, Refused}
+use Rattle.mlgfile.specs.Fields.{fieldsNumber, sizes}
+use Rattle.mlgfile.specs.declared.Header.{Header}
+use Rattle.mlgfile.specs.declared.Head.{Head}
+use Rattle.mlgfile.specs.declared.Head.the-variants.{Is, Refused}
 
 -- the name
 abbrev pub logName : List ℕ

@@ -8,10 +8,10 @@ use borrow.Author.Tests.{le-ltb, eq-eqb}
 use lib.ListN.{length, length-append, List·getD-append}
 use Rattle.wire.proofs.Orders.{if-yes}
 use Rattle.wire.proofs.Parts.{part-append}
-use Rattle.mlg.specs.Block.{blockLen, kindIn, lastOf, blockNumber, partsOf, blockJudged}
-use Rattle.mlg.specs.RoundTrip.{BlockAlone}
-use Rattle.mlg.specs.declared.Block.the-variants.{Refused}
-use Rattle.mlg.proofs.Cases.{block-here}
+use Rattle.mlgfile.specs.Block.{blockLen, kindIn, lastOf, blockNumber, partsOf, blockJudged}
+use Rattle.mlgfile.specs.RoundTrip.{BlockAlone}
+use Rattle.mlgfile.specs.declared.Block.the-variants.{Refused}
+use Rattle.mlgfile.proofs.Cases.{block-here}
 
 module _ (l : ℕ) (t r : List ℕ) where
   longer : length t ≤ length (t ++ r)

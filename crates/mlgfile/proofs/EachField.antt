@@ -10,7 +10,7 @@ use Rattle.wire.specs.Order.{_orElse_}
 use Rattle.field.specs.Layout.{fieldLen}
 use Rattle.field.specs.Types.{sizeOf}
 use Rattle.field.specs.Field.{fieldSize}
-use Rattle.mlg.specs.Fields.{fieldNumber, fieldsNumber, sizes}
+use Rattle.mlgfile.specs.Fields.{fieldNumber, fieldsNumber, sizes}
 use Rattle.wire.proofs.Orders.{else-none}
 use Rattle.field.proofs.Layouts.{field-least}
 

@@ -10,8 +10,8 @@ use Rattle.wire.specs.Order.{_if_else_}
 use Rattle.wire.specs.BigEndian.{beAt}
 use Rattle.wire.specs.Sum.{sumOf}
 use Rattle.wire.specs.Text.{textLen}
-use Rattle.mlg.specs.declared.Block.{Block}
-use Rattle.mlg.specs.declared.Block.the-variants.{Data, Mark, End, Refused}
+use Rattle.mlgfile.specs.declared.Block.{Block}
+use Rattle.mlgfile.specs.declared.Block.the-variants.{Data, Mark, End, Refused}
 
 -- "The counter is the number of earlier blocks, of both kinds, modulo 255."
 unfoldable pub counterOf : ℕ → ℕ

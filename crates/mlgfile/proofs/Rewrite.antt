@@ -8,11 +8,11 @@ use lib.Seq.{take-suc}
 use Rattle.wire.specs.BigEndian.{bytesOf}
 use Rattle.wire.specs.Sum.{sumOf}
 use Rattle.wire.specs.Text.{textLen}
-use Rattle.mlg.specs.Block.{blockLen, kindIn, counterIn, sumIn}
-use Rattle.mlg.specs.Writing.{startBytes, dataBytes, padded, markBytes}
-use Rattle.mlg.specs.Entries.{rewritten, PaddedHere}
-use Rattle.mlg.specs.RoundTrip.{BlockSame}
-use Rattle.mlg.proofs.Cases.{whole, least, data-whole, len-none, sum-right}
+use Rattle.mlgfile.specs.Block.{blockLen, kindIn, counterIn, sumIn}
+use Rattle.mlgfile.specs.Writing.{startBytes, dataBytes, padded, markBytes}
+use Rattle.mlgfile.specs.Entries.{rewritten, PaddedHere}
+use Rattle.mlgfile.specs.RoundTrip.{BlockSame}
+use Rattle.mlgfile.proofs.Cases.{whole, least, data-whole, len-none, sum-right}
 
 -- two bytes read as a number, and written again
 pub two-back : (x y : ℕ) → x < 256 → y < 256 → bytesOf 2 ((0 * 256 + x) * 256 + y) ≡ x ∷ y ∷ []

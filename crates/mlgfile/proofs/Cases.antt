@@ -10,9 +10,9 @@ use lib.ListN.{length, drop}
 use Rattle.wire.specs.Sum.{sumOf}
 use Rattle.wire.specs.Text.{textLen}
 use Rattle.wire.proofs.Orders.{if-yes, if-no, if-zero, not-no, not-false}
-use Rattle.mlg.specs.Block.{counterOf, blockLen, kindIn, counterIn, timeIn, recordIn, sumIn, textIn, lastOf, blockNumber, partsOf, blockJudged, blockOf, placeNumber, blockAt, BlockAnswer, refusedKind, noBlock, blockAnswer, partValues, restResult, blockResult}
-use Rattle.mlg.specs.declared.Block.{Block}
-use Rattle.mlg.specs.declared.Block.the-variants.{Data, Mark, End, Refused}
+use Rattle.mlgfile.specs.Block.{counterOf, blockLen, kindIn, counterIn, timeIn, recordIn, sumIn, textIn, lastOf, blockNumber, partsOf, blockJudged, blockOf, placeNumber, blockAt, BlockAnswer, refusedKind, noBlock, blockAnswer, partValues, restResult, blockResult}
+use Rattle.mlgfile.specs.declared.Block.{Block}
+use Rattle.mlgfile.specs.declared.Block.the-variants.{Data, Mark, End, Refused}
 
 -- the length of a block by its type
 pub len-data : (l k : ℕ) → k ≡ 0 → blockLen l k ≡ l + 5

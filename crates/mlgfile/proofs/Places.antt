@@ -3,12 +3,12 @@ use Prim.Native.Nat.{ℕ, _-_, _≤_, _<_}
 use mathlib.Core.Path.{_≡_, refl}
 use mathlib.Core.List.{List}
 use borrow.Author.Tests.{ltb-false, leb-false, ne-eqb}
-use Rattle.mlg.specs.declared.Header.{Header}
-use Rattle.mlg.specs.Header.{placesNumber, fieldsEnd, numbersOf, headNumber, headerOf, noHeader, headAnswer}
+use Rattle.mlgfile.specs.declared.Header.{Header}
+use Rattle.mlgfile.specs.Header.{placesNumber, fieldsEnd, numbersOf, headNumber, headerOf, noHeader, headAnswer}
 use Rattle.wire.specs.Answer.{result}
 use Rattle.wire.proofs.Answers.{means}
-use Rattle.mlg.specs.declared.Head.{Head}
-use Rattle.mlg.specs.declared.Head.the-variants.{Is, Refused}
+use Rattle.mlgfile.specs.declared.Head.{Head}
+use Rattle.mlgfile.specs.declared.Head.the-variants.{Is, Refused}
 use Rattle.wire.proofs.Orders.{if-zero, if-skip}
 
 -- what a header's places keep to in a file of n bytes

@@ -10,12 +10,12 @@ use lib.Seq.{take-at, drop-at, drop-cons, getD-append-seam, take-append-seam, dr
 use Rattle.wire.specs.Sum.{sumOf}
 use Rattle.wire.specs.Text.{textLen}
 use Rattle.wire.proofs.Texts.{text-back}
-use Rattle.mlg.specs.Block.{counterOf, blockAt, blockOf, recordIn, sumIn, textIn}
-use Rattle.mlg.specs.Writing.{startBytes, dataBytes, padded, markBytes}
-use Rattle.mlg.specs.RoundTrip.{DataBack, MarkBack}
-use Rattle.mlg.specs.declared.Block.the-variants.{Data, Mark}
-use Rattle.mlg.proofs.BlockBytes.{data-fits, mark-fits, padded-length}
-use Rattle.mlg.proofs.Cases.{at-within, here-stands, data-stands, mark-stands, parts-data, parts-mark}
+use Rattle.mlgfile.specs.Block.{counterOf, blockAt, blockOf, recordIn, sumIn, textIn}
+use Rattle.mlgfile.specs.Writing.{startBytes, dataBytes, padded, markBytes}
+use Rattle.mlgfile.specs.RoundTrip.{DataBack, MarkBack}
+use Rattle.mlgfile.specs.declared.Block.the-variants.{Data, Mark}
+use Rattle.mlgfile.proofs.BlockBytes.{data-fits, mark-fits, padded-length}
+use Rattle.mlgfile.proofs.Cases.{at-within, here-stands, data-stands, mark-stands, parts-data, parts-mark}
 
 -- what stands at a place of a file, as the rest of the file
 abbrev file : List ℕ → List ℕ → List ℕ → List ℕ

@@ -7,12 +7,12 @@ use native.Mathlib.Omega.{arith}
 use borrow.Author.Tests.{ltb-true, ltb-false}
 use lib.Dec.{ltb}
 use lib.ListN.{length, drop, length-drop}
-use Rattle.mlg.specs.Block.{counterOf, blockLen, kindIn, blockNumber, partsOf, blockAt}
-use Rattle.mlg.specs.Log.{Log, lengthOf, ahead, logFrom, logOf}
-use Rattle.mlg.specs.RoundTrip.{AllAt, Ends, LogPlaced}
-use Rattle.mlg.specs.declared.Block.{Block}
-use Rattle.mlg.specs.declared.Block.the-variants.{Data, Mark, End, Refused}
-use Rattle.mlg.proofs.Cases.{at-past, at-within, block-end, block-here, judged-no, judged-yes, whole}
+use Rattle.mlgfile.specs.Block.{counterOf, blockLen, kindIn, blockNumber, partsOf, blockAt}
+use Rattle.mlgfile.specs.Log.{Log, lengthOf, ahead, logFrom, logOf}
+use Rattle.mlgfile.specs.RoundTrip.{AllAt, Ends, LogPlaced}
+use Rattle.mlgfile.specs.declared.Block.{Block}
+use Rattle.mlgfile.specs.declared.Block.the-variants.{Data, Mark, End, Refused}
+use Rattle.mlgfile.proofs.Cases.{at-past, at-within, block-end, block-here, judged-no, judged-yes, whole}
 
 -- data and marks are passed over
 abbrev pub Goes : Block → Type 0

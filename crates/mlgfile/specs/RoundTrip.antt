@@ -6,16 +6,16 @@ use mathlib.Core.Logic.{_⊎_}
 use mathlib.Core.List.{List, [], _∷_, _++_}
 use lib.ListN.{length, getD, take, drop}
 use Rattle.wire.specs.Text.{textLen}
-use Rattle.mlg.specs.Header.{headerOf}
-use Rattle.mlg.specs.Block.{counterOf, blockLen, kindIn, counterIn, blockNumber, blockOf, blockAt}
-use Rattle.mlg.specs.Writing.{headerFor, headerBytes, headerNumber, dataBytes, dataNumber, markBytes, markNumber}
-use Rattle.mlg.specs.Parts.{fieldsIn, namesIn, infoIn}
-use Rattle.mlg.specs.Log.{Log, lengthOf, logOf}
-use Rattle.mlg.specs.Entries.{Entry, entriesBytes, Writable, entriesIn, AllRight, AllPadded, rewritten, PaddedHere}
-use Rattle.mlg.specs.declared.Block.{Block}
-use Rattle.mlg.specs.declared.Header.{Header}
-use Rattle.mlg.specs.declared.Head.the-variants.{Is}
-use Rattle.mlg.specs.declared.Block.the-variants.{Data, Mark, End, Refused}
+use Rattle.mlgfile.specs.Header.{headerOf}
+use Rattle.mlgfile.specs.Block.{counterOf, blockLen, kindIn, counterIn, blockNumber, blockOf, blockAt}
+use Rattle.mlgfile.specs.Writing.{headerFor, headerBytes, headerNumber, dataBytes, dataNumber, markBytes, markNumber}
+use Rattle.mlgfile.specs.Parts.{fieldsIn, namesIn, infoIn}
+use Rattle.mlgfile.specs.Log.{Log, lengthOf, logOf}
+use Rattle.mlgfile.specs.Entries.{Entry, entriesBytes, Writable, entriesIn, AllRight, AllPadded, rewritten, PaddedHere}
+use Rattle.mlgfile.specs.declared.Block.{Block}
+use Rattle.mlgfile.specs.declared.Header.{Header}
+use Rattle.mlgfile.specs.declared.Head.the-variants.{Is}
+use Rattle.mlgfile.specs.declared.Block.the-variants.{Data, Mark, End, Refused}
 
 -- A data block that was written reads back as given, wherever it stands and whatever follows.
 unfoldable pub DataBack : Type 0

@@ -7,19 +7,19 @@ use native.Mathlib.Omega.{arith}
 use types.Run.{OneOf}
 use denote.Enum.Declared.{tagOf}
 use lib.ListN.{length}
-use Rattle.mlg.specs.Header.{headerOf, headAnswer}
-use Rattle.mlg.specs.Block.{counterOf, kindIn, blockAt, blockAnswer}
-use Rattle.mlg.specs.Log.{Log, lengthOf, logFrom, logOf, tallyOf, tallyHead, tallyIn}
-use Rattle.mlg.specs.declared.Block.{Block}
-use Rattle.mlg.specs.declared.Head.{Head}
-use Rattle.mlg.specs.declared.Header.{Header}
-use Rattle.mlg.specs.declared.Head.the-variants as head
-use Rattle.mlg.specs.declared.Tally.{Tally}
-use Rattle.mlg.specs.declared.Block.the-variants.{Data, Mark, End, Refused}
-use Rattle.mlg.proofs.Block.{the-type}
-use Rattle.mlg.proofs.Head as head-type
-use Rattle.mlg.proofs.Cases.{whole}
-use Rattle.mlg.proofs.Logs.{Goes, Next, Stands, a-block, the-end, refused, stands-at, step, parts-length, log-end, log-refused, log-go}
+use Rattle.mlgfile.specs.Header.{headerOf, headAnswer}
+use Rattle.mlgfile.specs.Block.{counterOf, kindIn, blockAt, blockAnswer}
+use Rattle.mlgfile.specs.Log.{Log, lengthOf, logFrom, logOf, tallyOf, tallyHead, tallyIn}
+use Rattle.mlgfile.specs.declared.Block.{Block}
+use Rattle.mlgfile.specs.declared.Head.{Head}
+use Rattle.mlgfile.specs.declared.Header.{Header}
+use Rattle.mlgfile.specs.declared.Head.the-variants as head
+use Rattle.mlgfile.specs.declared.Tally.{Tally}
+use Rattle.mlgfile.specs.declared.Block.the-variants.{Data, Mark, End, Refused}
+use Rattle.mlgfile.proofs.Block.{the-type}
+use Rattle.mlgfile.proofs.Head as head-type
+use Rattle.mlgfile.proofs.Cases.{whole}
+use Rattle.mlgfile.proofs.Logs.{Goes, Next, Stands, a-block, the-end, refused, stands-at, step, parts-length, log-end, log-refused, log-go}
 
 -- the tally of a log after n blocks
 abbrev pub from : ℕ → ℕ → Log → Tally

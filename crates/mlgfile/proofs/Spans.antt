@@ -10,11 +10,11 @@ use Rattle.wire.specs.Text.{textLen}
 use Rattle.wire.proofs.Orders.{else-zero}
 use Rattle.wire.proofs.Texts.{text-most}
 use Rattle.field.specs.Layout.{fieldLen}
-use Rattle.mlg.specs.Header.{numbersOf, fieldsEnd, headNumber}
-use Rattle.mlg.specs.Parts.{fieldPlace, namesEnd, infoLength, spanOf}
-use Rattle.mlg.specs.declared.Header.{Header}
-use Rattle.mlg.specs.declared.Span.{Span}
-use Rattle.mlg.proofs.Places.{Placed, placed}
+use Rattle.mlgfile.specs.Header.{numbersOf, fieldsEnd, headNumber}
+use Rattle.mlgfile.specs.Parts.{fieldPlace, namesEnd, infoLength, spanOf}
+use Rattle.mlgfile.specs.declared.Header.{Header}
+use Rattle.mlgfile.specs.declared.Span.{Span}
+use Rattle.mlgfile.proofs.Places.{Placed, placed}
 
 pub span-no : (n s k x : ℕ) → x ≡ n → (x ≡ 0 → ⊥) → _≡_ {A = Span} (record { number = x; start = 0; len = 0 }) (spanOf n s k)
 unfolding spanOf

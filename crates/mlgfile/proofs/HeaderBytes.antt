@@ -12,11 +12,11 @@ use Rattle.wire.proofs.Orders.{if-zero, else-zero}
 use Rattle.wire.proofs.Puts.{put-fits}
 use Rattle.wire.proofs.Writes.{put-first, put-more, left, over}
 use Rattle.field.specs.Layout.{layoutOf, headerLen}
-use Rattle.mlg.specs.Area.{ended, areaOf, infoStart}
-use Rattle.mlg.specs.Writing.{numberBytes, headerFor, headerBytes, lengthsNumber, headerNumber}
-use Rattle.mlg.specs.Header.{bodyNumber}
-use Rattle.mlg.specs.declared.Header.{Header}
-use Rattle.mlg.proofs.Areas.{ended-some, ended-none, ended-length, area-length}
+use Rattle.mlgfile.specs.Area.{ended, areaOf, infoStart}
+use Rattle.mlgfile.specs.Writing.{numberBytes, headerFor, headerBytes, lengthsNumber, headerNumber}
+use Rattle.mlgfile.specs.Header.{bodyNumber}
+use Rattle.mlgfile.specs.declared.Header.{Header}
+use Rattle.mlgfile.proofs.Areas.{ended-some, ended-none, ended-length, area-length}
 
 pub start-none : (at : ℕ) (l : List ℕ) → length l ≡ 0 → 0 ≡ infoStart at l
 start-none at [] h = refl

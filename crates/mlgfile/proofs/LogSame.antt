@@ -10,17 +10,17 @@ use Rattle.wire.specs.Text.{textLen}
 use Rattle.wire.proofs.Numbers.{bytes-drop}
 use Rattle.wire.proofs.Parts.{take-length-le}
 use Rattle.wire.proofs.Texts.{text-most}
-use Rattle.mlg.specs.Block.{counterOf, blockLen, kindIn, counterIn, timeIn, textIn, blockNumber, partsOf, blockAt}
-use Rattle.mlg.specs.Writing.{dataBytes, padded, markBytes, markNumber}
-use Rattle.mlg.specs.Log.{Log, lengthOf, logFrom}
-use Rattle.mlg.specs.Entries.{Entry, Writable, entriesBytes, entryIn, entriesIn, Right, Padded, AllRight, AllPadded, rewritten, PaddedHere}
-use Rattle.mlg.specs.RoundTrip.{BlockSame}
-use Rattle.mlg.specs.declared.Block.{Block}
-use Rattle.mlg.specs.declared.Block.the-variants.{End, Refused}
-use Rattle.mlg.proofs.Accepted.{two-below, text-taken, text-length, data-accepted, mark-accepted}
-use Rattle.mlg.proofs.Cases.{whole, data-whole, text-ends}
-use Rattle.mlg.proofs.Logs.{Next, Stands, a-block, the-end, refused, stands-at, step, parts-go, parts-length, log-end, log-refused, log-go}
-use Rattle.mlg.proofs.Rewrite.{block-same}
+use Rattle.mlgfile.specs.Block.{counterOf, blockLen, kindIn, counterIn, timeIn, textIn, blockNumber, partsOf, blockAt}
+use Rattle.mlgfile.specs.Writing.{dataBytes, padded, markBytes, markNumber}
+use Rattle.mlgfile.specs.Log.{Log, lengthOf, logFrom}
+use Rattle.mlgfile.specs.Entries.{Entry, Writable, entriesBytes, entryIn, entriesIn, Right, Padded, AllRight, AllPadded, rewritten, PaddedHere}
+use Rattle.mlgfile.specs.RoundTrip.{BlockSame}
+use Rattle.mlgfile.specs.declared.Block.{Block}
+use Rattle.mlgfile.specs.declared.Block.the-variants.{End, Refused}
+use Rattle.mlgfile.proofs.Accepted.{two-below, text-taken, text-length, data-accepted, mark-accepted}
+use Rattle.mlgfile.proofs.Cases.{whole, data-whole, text-ends}
+use Rattle.mlgfile.proofs.Logs.{Next, Stands, a-block, the-end, refused, stands-at, step, parts-go, parts-length, log-end, log-refused, log-go}
+use Rattle.mlgfile.proofs.Rewrite.{block-same}
 
 -- the first bytes of a part
 text-part : (at : ℕ) (f : List ℕ) → take (textLen (take 50 (drop 4 (drop at f)))) (take 50 (drop 4 (drop at f))) ≡ take (textLen (take 50 (drop 4 (drop at f)))) (drop (at + 4) f)

@@ -12,7 +12,7 @@ use Rattle.wire.specs.Writer.{leaves}
 use Rattle.wire.proofs.Orders.{if-zero, not-false}
 use Rattle.wire.proofs.Texts.{text-most}
 use Rattle.wire.proofs.Writes.{put-first, put-more, left}
-use Rattle.mlg.specs.Writing.{startBytes, dataBytes, padded, markBytes, dataNumber, markNumber}
+use Rattle.mlgfile.specs.Writing.{startBytes, dataBytes, padded, markBytes, dataNumber, markNumber}
 
 pub start-length : (k c t : ℕ) → length (startBytes k c t) ≡ 4
 unfolding startBytes

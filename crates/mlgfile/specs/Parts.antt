@@ -7,9 +7,9 @@ use lib.ListN.{take, drop}
 use Rattle.wire.specs.Order.{_if_else_, _orElse_}
 use Rattle.wire.specs.Text.{textLen}
 use Rattle.field.specs.Layout.{headerLen, fieldLen}
-use Rattle.mlg.specs.Header.{fieldsEnd, headNumber, numbersOf}
-use Rattle.mlg.specs.declared.Header.{Header}
-use Rattle.mlg.specs.declared.Span.{Span}
+use Rattle.mlgfile.specs.Header.{fieldsEnd, headNumber, numbersOf}
+use Rattle.mlgfile.specs.declared.Header.{Header}
+use Rattle.mlgfile.specs.declared.Span.{Span}
 
 -- the fields' bytes
 unfoldable pub fieldsIn : List ℕ → Header → List ℕ

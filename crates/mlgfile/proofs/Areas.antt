@@ -11,10 +11,10 @@ use lib.Seq.{drop-append-le, drop-append-add, drop-drop, take-nil, drop-nil}
 use Rattle.wire.specs.Text.{zeros}
 use Rattle.wire.proofs.Parts.{tail-part}
 use Rattle.wire.proofs.Texts.{zeros-append, zeros-most}
-use Rattle.mlg.specs.Area.{ended, areaOf}
-use Rattle.mlg.specs.Fields.{fieldsNumber}
-use Rattle.mlg.specs.Header.{fieldsEnd, areaIn}
-use Rattle.mlg.specs.declared.Header.{Header}
+use Rattle.mlgfile.specs.Area.{ended, areaOf}
+use Rattle.mlgfile.specs.Fields.{fieldsNumber}
+use Rattle.mlgfile.specs.Header.{fieldsEnd, areaIn}
+use Rattle.mlgfile.specs.declared.Header.{Header}
 
 -- zeros counted in the part from a place to the end
 pub counted : {n : ℕ} (l : List ℕ) (k : ℕ) → n ≡ zeros (take (length l - k) (drop k l)) → (n ≡ zeros (drop k l)) × (n ≤ length l)
