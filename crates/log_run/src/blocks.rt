@@ -111,46 +111,26 @@ const MARK: usize = 221;
 
 const MARK_END: usize = 274;
 
-fn found() {
+// Blocks that are read, and a fault at each place of the order.
+pub(crate) fn faults() {
+    text(b"MLG blocks\n");
     one(b"0 first block: ", NAME, 77, 0, DATA);
     one(b"0 second block: ", NAME, 77, 1, MARK);
     one(b"0 after the last: ", NAME, 77, 2, 275);
     one(b"23 place 276, past the file: ", NAME, 77, 2, 276);
-}
-
-fn types_and_cuts() {
     one(b"25 type 2: ", DATA, 2, 0, DATA);
     cut(b"20 data block of 7 bytes: ", NAME, 77, SUM, DATA);
     cut(b"20 block of 1 byte: ", NAME, 77, DATA_COUNTER, DATA);
     cut(b"20 mark of 53 bytes: ", NAME, 77, MARK_END, MARK);
-}
-
-fn sums_and_texts() {
     one(b"26 record changed: ", RECORD, 0, 0, DATA);
     one(b"26 sum changed: ", SUM, 0, 0, DATA);
     one(b"28 mark without zero: ", MARK_END, 120, 1, MARK);
-}
-
-fn reported() {
     one(b"0 counter wrong, reported: ", DATA_COUNTER, 9, 0, DATA);
     one(b"0 mark's counter wrong, reported: ", NAME, 77, 7, MARK);
     one(b"0 time changed, not in the sum: ", DATA_TIME, 11, 0, DATA);
-}
-
-fn orders() {
     cut(b"25 type 2, before 20 cut: ", DATA, 2, DATA_COUNTER, DATA);
     cut(b"20 cut, before 26 sum: ", RECORD, 0, SUM, DATA);
     cut(b"20 cut, before 28 text: ", 273, 120, MARK_END, MARK);
-}
-
-// Blocks that are read, and a fault at each place of the order.
-pub(crate) fn faults() {
-    text(b"MLG blocks\n");
-    found();
-    types_and_cuts();
-    sums_and_texts();
-    reported();
-    orders();
 }
 
 // The first block of a log of one-byte records, after the given number of earlier ones.

@@ -75,19 +75,14 @@ const DATA_COUNTER: usize = 82;
 
 const TIME: usize = 85;
 
-fn sound_headers() {
+pub(crate) fn headers() {
+    text(b"FRD header\n");
     header(b"0 whole log: ", NAME, 70, NAME, 70, 91);
     header(b"0 header alone: ", NAME, 70, NAME, 70, 81);
-}
-
-fn refused_headers() {
     header(b"20 header of 80 bytes: ", NAME, 70, NAME, 70, 80);
     header(b"21 name begins with G: ", NAME, 71, NAME, 71, 91);
     header(b"22 version 2: ", VERSION, 2, VERSION, 2, 91);
     header(b"23 data begin 82: ", DATA_BEGIN, 82, DATA_BEGIN, 82, 91);
-}
-
-fn header_orders() {
     header(b"20 of 80 bytes, before 21 name: ", NAME, 71, NAME, 71, 80);
     header(b"21 name, before 22 version: ", NAME, 71, VERSION, 2, 91);
     header(
@@ -98,13 +93,6 @@ fn header_orders() {
         82,
         91,
     );
-}
-
-pub(crate) fn headers() {
-    text(b"FRD header\n");
-    sound_headers();
-    refused_headers();
-    header_orders();
 }
 
 // What stands at a place, after the given number of earlier blocks.
@@ -154,37 +142,21 @@ fn wraps(label: &[u8], earlier: u64) {
     block_in(label, &out, earlier, 0);
 }
 
-fn found() {
+pub(crate) fn blocks() {
+    text(b"FRD blocks\n");
     block(b"0 first block: ", NAME, 70, 91, 0, DATA);
     block(b"0 second block: ", NAME, 70, 91, 1, TIME);
     block(b"0 after the last: ", NAME, 70, 91, 2, 91);
     block(b"23 place 92, past the file: ", NAME, 70, 91, 2, 92);
-}
-
-fn refused_blocks() {
     block(b"25 type 0: ", DATA, 0, 91, 0, DATA);
     block(b"25 type 3: ", DATA, 3, 91, 0, DATA);
     block(b"20 data block of 3 bytes: ", NAME, 70, 84, 0, DATA);
     block(b"20 time block of 5 bytes: ", NAME, 70, 90, 1, TIME);
-}
-
-fn reported() {
     block(b"25 type, before 20 cut: ", DATA, 3, 82, 0, DATA);
     block(b"0 counter wrong, reported: ", DATA_COUNTER, 9, 91, 0, DATA);
-}
-
-fn counters() {
     wraps(b"0 after 255 blocks: ", 255);
     wraps(b"0 after 256 blocks: ", 256);
     wraps(b"0 after 257 blocks: ", 257);
-}
-
-pub(crate) fn blocks() {
-    text(b"FRD blocks\n");
-    found();
-    refused_blocks();
-    reported();
-    counters();
 }
 
 // What the header's writer answers, with the first l bytes of a signature and an output of n bytes, of at most 82.
@@ -229,37 +201,17 @@ fn time_in(label: &[u8], out: &mut [u8], n: usize) {
     }
 }
 
-fn headers_written() {
+pub(crate) fn writers() {
+    text(b"FRD writers\n");
     writes_header(b"0 signature of 63 bytes: ", 63, 82);
     writes_header(b"23 signature of 62 bytes: ", 62, 82);
     writes_header(b"23 signature of 64 bytes: ", 64, 82);
-}
-
-fn headers_refused() {
     writes_header(b"27 output of 80 bytes: ", 63, 80);
     writes_header(b"23 signature, before 27 output: ", 62, 80);
-}
-
-fn data_written() {
     writes_data(b"0 record of 2 bytes: ", b"\xff\x02", 8);
     writes_data(b"23 record of 1 byte: ", b"\xff", 8);
-}
-
-fn data_refused() {
     writes_data(b"27 output of 3 bytes: ", b"\xff\x02", 3);
     writes_data(b"23 record, before 27 output: ", b"\xff", 1);
-}
-
-fn times_written() {
     writes_time(b"0 time block: ", 8);
     writes_time(b"27 output of 5 bytes: ", 5);
-}
-
-pub(crate) fn writers() {
-    text(b"FRD writers\n");
-    headers_written();
-    headers_refused();
-    data_written();
-    data_refused();
-    times_written();
 }

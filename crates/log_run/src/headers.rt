@@ -82,24 +82,15 @@ const BITS: usize = 164;
 
 const INFO_END: usize = 212;
 
-fn whole_logs() {
+fn numbers_wrong() {
     cut(b"0 whole log: ", NAME, 77, 275);
     cut(b"0 header and nothing after it: ", NAME, 77, 213);
-}
-
-fn name_and_version() {
     cut(b"20 header of 23 bytes: ", NAME, 77, 23);
     one(b"21 name begins with N: ", NAME, 78);
     one(b"22 version 1: ", VERSION, 1);
     one(b"22 version 3: ", VERSION, 3);
-}
-
-fn fields_cut() {
     cut(b"20 fields cut: ", NAME, 77, 201);
     one(b"20 three fields: ", FIELD_COUNT, 3);
-}
-
-fn data_begin_wrong() {
     one(
         b"23 data begin 201, before the fields' end: ",
         DATA_BEGIN,
@@ -113,9 +104,6 @@ fn data_begin_wrong() {
         18,
         1,
     );
-}
-
-fn info_start_wrong() {
     one(
         b"23 info start 201, before the fields' end: ",
         INFO_START,
@@ -125,37 +113,20 @@ fn info_start_wrong() {
     one(b"0 info start 0: ", INFO_START, 0);
 }
 
-fn numbers_wrong() {
-    whole_logs();
-    name_and_version();
-    fields_cut();
-    data_begin_wrong();
-    info_start_wrong();
-}
-
-fn types_wrong() {
+fn fields_wrong() {
     one(b"24 type 8: ", TYPE, 8);
     one(b"24 type 13: ", TYPE, 13);
     one(b"24 nine bits in an 8-bit field: ", BITS, 9);
-}
-
-fn texts_without_zero() {
     one(b"28 name without zero: ", NAME_END, 120);
     one(b"28 units without zero: ", UNITS_END, 120);
     one(b"28 category without zero: ", CATEGORY_END, 120);
     one(b"28 bit field's name without zero: ", BIT_NAME_END, 120);
-}
-
-fn names_index_wrong() {
     one(
         b"23 names index 201, before the fields' end: ",
         NAMES_INDEX,
         201,
     );
     one(b"23 names index 213, data begin itself: ", NAMES_INDEX, 213);
-}
-
-fn names_counted() {
     one(b"28 four names asked for, three zeros: ", BITS, 4);
     one(b"0 three names asked for, three zeros: ", BITS, 3);
     two(
@@ -165,19 +136,8 @@ fn names_counted() {
         NAMES_INDEX,
         201,
     );
-}
-
-fn record_and_info() {
     one(b"23 record length 4: ", RECORD_LENGTH, 4);
     one(b"28 info without zero: ", INFO_END, 120);
-}
-
-fn fields_wrong() {
-    types_wrong();
-    texts_without_zero();
-    names_index_wrong();
-    names_counted();
-    record_and_info();
 }
 
 // A fault at each place of the order.
@@ -187,7 +147,7 @@ pub(crate) fn faults() {
     fields_wrong();
 }
 
-fn name_first() {
+fn numbers_order() {
     cut(b"20 of 23 bytes, before 21 wrong name: ", NAME, 78, 23);
     two(
         b"21 wrong name, before 22 version 1: ",
@@ -196,9 +156,6 @@ fn name_first() {
         VERSION,
         1,
     );
-}
-
-fn places_first() {
     cut(b"22 version 1, before 20 fields cut: ", VERSION, 1, 201);
     cut(
         b"20 fields cut, before 23 data begin: ",
@@ -209,12 +166,7 @@ fn places_first() {
     two(b"23 info start, before 24 type: ", INFO_START, 213, TYPE, 8);
 }
 
-fn numbers_order() {
-    name_first();
-    places_first();
-}
-
-fn type_first() {
+fn fields_order() {
     two(b"24 type, before 28 name: ", TYPE, 8, NAME_END, 120);
     two(b"24 bits, before 28 name: ", BITS, 9, BIT_NAME_END, 120);
     two(
@@ -224,9 +176,6 @@ fn type_first() {
         BITS,
         9,
     );
-}
-
-fn names_first() {
     two(
         b"28 name, before 23 names index: ",
         BIT_NAME_END,
@@ -241,9 +190,6 @@ fn names_first() {
         BITS,
         4,
     );
-}
-
-fn record_first() {
     two(
         b"28 names, before 23 record length: ",
         BITS,
@@ -258,12 +204,6 @@ fn record_first() {
         INFO_END,
         120,
     );
-}
-
-fn fields_order() {
-    type_first();
-    names_first();
-    record_first();
 }
 
 // Two faults: the earlier number is given.

@@ -7,27 +7,18 @@ pub(crate) fn set(s: &mut [u8], at: usize, b: u8) {
     }
 }
 
-// An S16 field. Each text is as long as it may be, so that one byte is its zero.
-fn put_scalar(f: &mut [u8]) {
-    set(f, 0, 3);
-    wire::put(f, 1, b"coolant temperature of the engine");
-    wire::put(f, 35, b"degrees C");
-    wire::put(f, 46, b"\x3f\0\0\0");
-    wire::put(f, 55, b"sensors of the engine and gearbox");
-}
-
-// After it, an 8-bit bit field of two bits, whose names stand at 202.
-fn put_bit_field(f: &mut [u8]) {
-    set(f, 89, 10);
-    wire::put(f, 90, b"state of the fans and of the pump");
-    set(f, 139, 202);
-    set(f, 140, 2);
-}
-
+// An S16 field and an 8-bit bit field of two bits, whose names stand at 202. Each text is as long as it may be, so that one byte is its zero.
 pub(crate) fn fields() -> [u8; 178] {
     let mut f = [0u8; 178];
-    put_scalar(&mut f);
-    put_bit_field(&mut f);
+    set(&mut f, 0, 3);
+    wire::put(&mut f, 1, b"coolant temperature of the engine");
+    wire::put(&mut f, 35, b"degrees C");
+    wire::put(&mut f, 46, b"\x3f\0\0\0");
+    wire::put(&mut f, 55, b"sensors of the engine and gearbox");
+    set(&mut f, 89, 10);
+    wire::put(&mut f, 90, b"state of the fans and of the pump");
+    set(&mut f, 139, 202);
+    set(&mut f, 140, 2);
     f
 }
 

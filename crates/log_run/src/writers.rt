@@ -30,39 +30,19 @@ fn header_in(label: &[u8], out: &mut [u8], n: usize, fields: &[u8], len: usize, 
     }
 }
 
-fn headers_written() {
+fn headers() {
+    text(b"MLG header writer\n");
     header_of(b"0 two fields, names and info: ", 178, 0, 3, b"run", 213);
     header_of(b"0 no info, info start 0: ", 178, 0, 3, b"", 213);
-}
-
-fn lengths_refused() {
     header_of(b"23 fields of 177 bytes: ", 177, 0, 3, b"run", 213);
     header_of(b"28 zero in info: ", 178, 0, 3, b"r\0n", 213);
-}
-
-fn fields_refused() {
     header_of(b"24 type 8: ", 178, 0, 8, b"run", 213);
     header_of(b"28 name without zero: ", 178, 34, 120, b"run", 213);
-}
-
-fn places_refused() {
     header_of(b"23 names index 201: ", 178, 139, 201, b"run", 213);
     header_of(b"27 output of 212 bytes: ", 178, 0, 3, b"run", 212);
-}
-
-fn two_faults() {
     header_of(b"23 fields, before 28 info: ", 177, 0, 3, b"r\0n", 213);
     header_of(b"28 info, before 24 type: ", 178, 0, 8, b"r\0n", 213);
     header_of(b"24 type, before 27 output: ", 178, 0, 8, b"run", 212);
-}
-
-fn headers() {
-    text(b"MLG header writer\n");
-    headers_written();
-    lengths_refused();
-    fields_refused();
-    places_refused();
-    two_faults();
 }
 
 // What the data block's writer answers, with an output of n bytes, of at most 10.
@@ -96,35 +76,19 @@ fn mark_in(label: &[u8], out: &mut [u8], n: usize, text: &[u8], l: usize) {
     }
 }
 
-fn data_written() {
+fn blocks() {
+    text(b"MLG block writers\n");
     data(b"0 record ff 02 has sum 1: ", b"\xff\x02", 10);
     data(b"23 record of 3 bytes: ", b"\xff\x02\x01", 10);
-}
-
-fn data_refused() {
     data(b"23 record of 1 byte: ", b"\xff", 10);
     data(b"27 output of 6 bytes: ", b"\xff\x02", 6);
     data(b"23 record, before 27 output: ", b"\xff", 5);
-}
-
-fn marks_written() {
     mark(b"0 text of 5 bytes, zero-padded: ", 0, 108, 5, 55);
     mark(b"0 text of 49 bytes: ", 0, 108, 49, 55);
-}
-
-fn marks_refused() {
     mark(b"28 text of 50 bytes: ", 0, 108, 50, 55);
     mark(b"28 zero in the text: ", 2, 0, 5, 55);
     mark(b"27 output of 53 bytes: ", 0, 108, 5, 53);
     mark(b"28 text, before 27 output: ", 0, 108, 50, 53);
-}
-
-fn blocks() {
-    text(b"MLG block writers\n");
-    data_written();
-    data_refused();
-    marks_written();
-    marks_refused();
 }
 
 pub(crate) fn faults() {
@@ -148,47 +112,23 @@ fn block_at(out: &mut [u8], at: usize) {
 }
 
 // 01's example of a log: one U08 field `t`, and a data block.
-fn example_log() -> [u8; 119] {
+pub(crate) fn example() {
+    text(b"01's example log, 119 bytes\n");
     let mut field = [0u8; 89];
     let mut f = [0u8; 119];
     set(&mut field, 1, 116);
     mlg::write_header(&mut f, 0, &field, b"", b"");
     block_at(&mut f, 113);
-    f
-}
-
-// Its header without the field, and its block.
-fn example_bytes() {
-    let f = example_log();
     text(b"header");
     bytes(&f, 0, 24);
     text(b"\nblock");
     bytes(&f, 113, 119);
     text(b"\n");
-}
-
-fn example_read() {
-    let f = example_log();
     crate::headers::reads(b"0 its header: ", &f);
     crate::blocks::reads(b"0 its block: ", &f, 1, 0, 113);
     tally(b"0 its blocks: ", &f);
-}
-
-fn example_damaged() {
-    let mut f = example_log();
     set(&mut f, 118, 8);
     tally(b"26 its sum changed: ", &f);
-}
-
-fn larger_log() {
-    let f = log();
-    tally(b"0 the log of 275 bytes: ", &f);
-}
-
-pub(crate) fn example() {
-    text(b"01's example log, 119 bytes\n");
-    example_bytes();
-    example_read();
-    example_damaged();
-    larger_log();
+    let two = log();
+    tally(b"0 the log of 275 bytes: ", &two);
 }

@@ -6,6 +6,7 @@ use Rattle.wire.specs.Sign.{twos}
 use Rattle.bus.specs.Ident.{packNumber, packOf, unpackNumber, unpackOf, partsOf}
 use Rattle.bus.specs.Request.{readNumber, readRequestOf}
 use Rattle.transfer.proofs.Openers.{everything}
+use Rattle.mlgfile.specs.Writing.{startBytes, dataBytes}
 use Rattle.field.specs.Layout.{layoutOf}
 use Rattle.field.specs.Types.{sizeOf}
 use Rattle.field.specs.Field.{typeNumber}
@@ -19,7 +20,7 @@ unfolding add mul div ofInt ofBits toBits ofFields round units odd climb span si
 floats = tt
 
 unfoldable values : Unit {0}
-unfolding twos layoutOf sizeOf typeNumber valueFieldNumber valueNumber signedType rawOf rawAt shows finite scalingIn rawFloat scaledNumber shownNumber shownAt scalar
+unfolding startBytes dataBytes twos layoutOf sizeOf typeNumber valueFieldNumber valueNumber signedType rawOf rawAt shows finite scalingIn rawFloat scaledNumber shownNumber shownAt scalar
 values = tt
 
 unfoldable identifiers : Unit {0}

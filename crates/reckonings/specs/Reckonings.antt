@@ -7,7 +7,6 @@ use mathlib.Core.List.{List, [], _∷_, _++_, map}
 use lib.IntN.{ℤ, pos, negsuc}
 use lib.ListN.{length, replicate}
 use lib.Ieee.{binary32, ofInt, div, toBits}
-use Rattle.wire.specs.Sum.{sumOf}
 use Rattle.bus.specs.Ident.{packOf, unpackOf}
 use Rattle.bus.specs.Frames.{cmd, req, xtnd, frameOf}
 use Rattle.bus.specs.Request.{readRequestOf}
@@ -23,6 +22,8 @@ use Rattle.bus.specs.declared.Asked.{Asked}
 use Rattle.bus.specs.declared.Asked.the-variants as A
 use Rattle.transfer.specs.Model as B
 use Rattle.transfer.specs.Statement.{answerTo, runOf}
+use Rattle.mlgfile.specs.Block.{sumIn}
+use Rattle.mlgfile.specs.Writing.{dataBytes}
 use Rattle.field.specs.Types.{U08, S08, S16}
 use Rattle.field.specs.Raw.{rawAt}
 use Rattle.field.specs.Shown.{shownAt}
@@ -45,7 +46,7 @@ pub data Question : Type 0 where
   reply : (bytes : List ℕ) → Frame → Question
   -- what a turn answers, after these calls from the fresh bridge of an own number
   turn : (own : ℕ) → List B.Call → Question
-  -- the sum of a record
+  -- the sum in the data block of a record, whose counter is 7 and time 770
   sum : (bytes : List ℕ) → Question
   -- the raw value of a field of a type
   raw : (type : ℕ) → (bytes : List ℕ) → Question
@@ -59,8 +60,8 @@ pub data Answer : Type 0 where
   served : Served → Answer
   turned : B.Answer → Answer
   summed : ℕ → Answer
-  rawly : RawValue → Answer
-  shows : ShownValue → Answer
+  rawValue : RawValue → Answer
+  shownValue : ShownValue → Answer
 
 -- ── What the definitions answer ────────────────────────────────────────────────────────────────────────────────────
 
@@ -80,9 +81,9 @@ compute (parts id) = unpacked (unpackOf id)
 compute (request a b c) = asked (readRequestOf a b c)
 compute (reply m f) = served (serveOf (directory (length m)) m f)
 compute (turn own cs) = turned (answerTo (runOf own (replicate 512 0) cs) (length cs) (B.turn B.itsOwn))
-compute (sum bs) = summed (sumOf bs)
-compute (raw t bs) = rawly (rawAt 2 (scalar t 0 0) bs)
-compute (shown t s m bs) = shows (shownAt 2 (scalar t s m) bs)
+compute (sum bs) = summed (sumIn (length bs) (dataBytes 7 770 bs))
+compute (raw t bs) = rawValue (rawAt 2 (scalar t 0 0) bs)
+compute (shown t s m bs) = shownValue (shownAt 2 (scalar t s m) bs)
 
 -- ── The table ──────────────────────────────────────────────────────────────────────────────────────────────────────
 
@@ -92,7 +93,7 @@ f32 p q = toBits binary32 (div binary32 (ofInt binary32 p) (ofInt binary32 q))
 
 -- a shown value that is a whole number
 abbrev pub whole : ℤ → Answer
-whole z = shows (S.Is (ofInt binary32 z))
+whole z = shownValue (S.Is (ofInt binary32 z))
 
 -- a turn's answer that yields a frame
 abbrev pub sends : Frame → Answer
@@ -129,9 +130,9 @@ table =
     -- "record `FF 02`: sum 1."
     ∷ (sum (0xFF ∷ 0x02 ∷ []), summed 1)
     -- "0x80 in an S08 field reads -128."
-    ∷ (raw S08 (0x80 ∷ []), rawly (R.Is (negsuc 127)))
+    ∷ (raw S08 (0x80 ∷ []), rawValue (R.Is (negsuc 127)))
     -- "S16 FF38 reads -200;"
-    ∷ (raw S16 (0xFF ∷ 0x38 ∷ []), rawly (R.Is (negsuc 199)))
+    ∷ (raw S16 (0xFF ∷ 0x38 ∷ []), rawValue (R.Is (negsuc 199)))
     -- "scale 0.5, transform 0 shows -100."
     ∷ (shown S16 (f32 (pos 1) (pos 2)) (f32 (pos 0) (pos 1)) (0xFF ∷ 0x38 ∷ []), whole (negsuc 99))
     -- "U08 10, transform 5, scale 2 shows 30."
