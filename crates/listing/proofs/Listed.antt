@@ -5,7 +5,7 @@ use mathlib.Core.List.{List, [], _∷_, _++_}
 use native.Mathlib.Omega.{arith}
 use borrow.Author.Tests.{lt-ltb, le-ltb}
 use lib.Dec.{ltb}
-use lib.ListN.{length, take, drop}
+use lib.ListN.{length, take, drop, length-append}
 use lib.Seq.{take-at}
 use Rattle.wire.specs.Put.{putAt}
 use Rattle.wire.specs.Order.{_if_else_}
@@ -70,10 +70,10 @@ module _ (f out : List ℕ) where
 -- a listing that has room for it, for callers
 pub list-fits : (f out : List ℕ) (r : Written) (x : List ℕ) → length (listingOf f) ≤ length out
     → r ≡ wrote (listingNumber f (length out)) (listingOf f) → x ≡ leaves (listingNumber f (length out)) (listingOf f) out
-    → (r .len ≡ length (listingOf f)) × (take (r .len) x ≡ listingOf f)
+    → (r .len ≤ length x) × (take (r .len) x ≡ listingOf f)
 unfolding listingNumber wrote leaves
 list-fits f out r x h p q =
     let z : 0 ≡ listingNumber f (length out) = if-no 27 _ 0 0 (le-ltb (length out) (length (listingOf f)) h) refl in
     let l : r .len ≡ length (listingOf f) = ap (λ (w : Written). w .len) (rw (← z) at p) in
     let y : x ≡ listingOf f ++ drop (length (listingOf f)) out = rw (← z) at q in
-    (l, rw (l, y) (take-at (listingOf f) (drop (length (listingOf f)) out) (length (listingOf f)) refl))
+    (omega (arith, l, ap length y, length-append (listingOf f) (drop (length (listingOf f)) out)), rw (l, y) (take-at (listingOf f) (drop (length (listingOf f)) out) (length (listingOf f)) refl))

@@ -1,0 +1,18 @@
+use borrow.Author.Needs.{needs}
+use Rattle.loglist.proofs.listing_of.Statement.{statement}
+use Rattle.loglist.proofs.listing_of.Tie as tie
+use Rattle.loglist.proofs.listing_of.Reads as reads
+use Rattle.loglist.proofs.listing_of.Lts as lts
+use Rattle.listing.proofs.list.Reads as list-reads
+use native.Mathlib.Omega.{arith}
+use Rattle.listing.proofs.Listed.{list-fits}
+
+list-requires : tie.Need-list-requires
+list-requires c κs = search needs
+
+returns : tie.Need-returns
+returns c =
+    list-fits (c .before .before .before .args .file .now) (c .before .before .before .args .out .now) (c .list .result) _ (omega (arith, c .list .ensures .1, c .before .before .before .good)) (c .list .ensures .0 .0) (c .list .ensures .0 .1)
+
+pub listing-of-spec : {M : Type 1} → statement M
+listing-of-spec = tie.close (tie.spec list-requires returns)
