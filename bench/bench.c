@@ -25,7 +25,7 @@ PLAIN_DECLARE(gcc_O2_)
 
 /* The library's calls in the plain version's form. */
 #define LIBRARY_CALL static inline __attribute__((always_inline))
-LIBRARY_CALL hg_unpacked library_unpack(uint32_t id) { return hg_unpack(id); }
+LIBRARY_CALL void library_unpack(uint32_t id, hg_unpacked *out) { *out = hg_unpack(id); }
 LIBRARY_CALL void library_serve(const hg_directory *d, uint8_t *memory, size_t len, const hg_frame *f, hg_served *out) { *out = hg_serve(*d, memory, len, *f); }
 LIBRARY_CALL void library_turn(hg_bridge *b, const uint8_t *buffer, size_t len, hg_served *out) { *out = hg_turn_in_place(b, buffer, len); }
 LIBRARY_CALL void library_frame(hg_bridge *b, uint8_t *buffer, size_t len, const hg_frame *f, hg_served *out) { *out = hg_frame_in_place(b, buffer, len, *f); }
@@ -263,7 +263,8 @@ static void restore_nothing(void) {}
     { \
         uint64_t a = 0; \
         for (int i = 0; i < IDS; i++) { \
-            hg_unpacked u = V##_unpack(ids[i]); \
+            hg_unpacked u; \
+            V##_unpack(ids[i], &u); \
             a += u.number + u.parts.offset; \
             if (check) \
                 a = mixed(mixed(mixed(mixed(a, u.parts.kind), u.parts.from), u.parts.to), u.parts.table); \
