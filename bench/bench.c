@@ -429,11 +429,11 @@ static void time_test(const test *t)
                 least[v] = took;
         }
     }
-    printf("| %-21s |", t->name);
+    printf("| %s |", t->name);
     for (int v = 0; v < VARIANT_COUNT; v++)
-        printf(" %10.1f |", 1e9 * least[v] / (double)t->operations);
+        printf(" %.1f |", 1e9 * least[v] / (double)t->operations);
     for (int v = PLAIN_FIRST; v < VARIANT_COUNT; v++)
-        printf(" %9.2f |", least[LIBRARY] / least[v]);
+        printf(" %.2f |", least[LIBRARY] / least[v]);
     printf("\n");
     fflush(stdout);
 }
@@ -469,7 +469,7 @@ int main(int argc, char **argv)
             tests[i].operations = blocks_in(strcmp(tests[i].key, "log512") == 0);
     if (counts)
         return count_one(argv[2], atoi(argv[3]));
-    printf("| ns an operation       |    library |    gcc -O3 |  clang -O3 |    gcc -O2 | / gcc -O3 | / clang-O3| / gcc -O2 |\n");
+    printf("| ns an operation | library | gcc -O3 | clang -O3 | gcc -O2 | / gcc -O3 | / clang -O3 | / gcc -O2 |\n");
     printf("|---|---|---|---|---|---|---|---|\n");
     for (int i = 0; i < TESTS; i++) {
         if (argc == 2 && strcmp(argv[1], tests[i].key) != 0)
