@@ -25,7 +25,7 @@ PLAIN_DECLARE(gcc_O2_)
 
 /* The library's calls in the plain version's form. */
 #define LIBRARY_CALL static inline __attribute__((always_inline))
-LIBRARY_CALL hg_unpacked library_unpack(uint32_t id) { return hg_unpack(id); }
+LIBRARY_CALL void library_unpack(uint32_t id, hg_unpacked *out) { *out = hg_unpack(id); }
 LIBRARY_CALL void library_serve(const hg_directory *d, uint8_t *memory, size_t len, const hg_frame *f, hg_served *out) { *out = hg_serve(*d, memory, len, *f); }
 LIBRARY_CALL void library_turn(hg_bridge *b, const uint8_t *buffer, size_t len, hg_served *out) { *out = hg_turn_in_place(b, buffer, len); }
 LIBRARY_CALL void library_frame(hg_bridge *b, uint8_t *buffer, size_t len, const hg_frame *f, hg_served *out) { *out = hg_frame_in_place(b, buffer, len, *f); }
@@ -263,7 +263,8 @@ static void restore_nothing(void) {}
     { \
         uint64_t a = 0; \
         for (int i = 0; i < IDS; i++) { \
-            hg_unpacked u = V##_unpack(ids[i]); \
+            hg_unpacked u; \
+            V##_unpack(ids[i], &u); \
             a += u.number + u.parts.offset; \
             if (check) \
                 a = mixed(mixed(mixed(mixed(a, u.parts.kind), u.parts.from), u.parts.to), u.parts.table); \
@@ -428,11 +429,11 @@ static void time_test(const test *t)
                 least[v] = took;
         }
     }
-    printf("| %-21s |", t->name);
+    printf("| %s |", t->name);
     for (int v = 0; v < VARIANT_COUNT; v++)
-        printf(" %10.1f |", 1e9 * least[v] / (double)t->operations);
+        printf(" %.1f |", 1e9 * least[v] / (double)t->operations);
     for (int v = PLAIN_FIRST; v < VARIANT_COUNT; v++)
-        printf(" %9.2f |", least[LIBRARY] / least[v]);
+        printf(" %.2f |", least[LIBRARY] / least[v]);
     printf("\n");
     fflush(stdout);
 }
@@ -468,7 +469,7 @@ int main(int argc, char **argv)
             tests[i].operations = blocks_in(strcmp(tests[i].key, "log512") == 0);
     if (counts)
         return count_one(argv[2], atoi(argv[3]));
-    printf("| ns an operation       |    library |    gcc -O3 |  clang -O3 |    gcc -O2 | / gcc -O3 | / clang-O3| / gcc -O2 |\n");
+    printf("| ns an operation | library | gcc -O3 | clang -O3 | gcc -O2 | / gcc -O3 | / clang -O3 | / gcc -O2 |\n");
     printf("|---|---|---|---|---|---|---|---|\n");
     for (int i = 0; i < TESTS; i++) {
         if (argc == 2 && strcmp(argv[1], tests[i].key) != 0)

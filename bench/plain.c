@@ -22,16 +22,14 @@ static uint32_t id_of(unsigned offset, unsigned kind, unsigned from, unsigned to
     return (table >> 4) << 2 | (table & 15) << 3 | to << 7 | from << 11 | kind << 15 | offset << 18;
 }
 
-hg_unpacked PLAIN(unpack)(uint32_t id)
+void PLAIN(unpack)(uint32_t id, hg_unpacked *out)
 {
-    hg_unpacked u = {{0, 0, 0, 0, 0}, 0};
     if (id >> 29)
-        u.number = 1;
+        *out = (hg_unpacked){{0, 0, 0, 0, 0}, 1};
     else if (id & 3)
-        u.number = 2;
+        *out = (hg_unpacked){{0, 0, 0, 0, 0}, 2};
     else
-        u.parts = (hg_parts){offset_of(id), kind_of(id), from_of(id), to_of(id), table_of(id)};
-    return u;
+        *out = (hg_unpacked){{offset_of(id), kind_of(id), from_of(id), to_of(id), table_of(id)}, 0};
 }
 
 /* 1, 2, 3, 4 of a frame, or 0. */
@@ -373,6 +371,14 @@ void PLAIN(read_header)(const uint8_t *file, size_t len, hg_mlg_header *out)
         *out = (hg_mlg_header){0, 0, 0, 0, 0, 0, number};
 }
 
+static inline uint8_t sum_of(const uint8_t *s, size_t n)
+{
+    uint8_t sum = 0;
+    for (size_t i = 0; i < n; i++)
+        sum = (uint8_t)(sum + s[i]);
+    return sum;
+}
+
 static void no_block(hg_mlg_block *out, uint8_t kind, uint8_t number, size_t place)
 {
     *out = (hg_mlg_block){place, 0, 0, 0, number, kind, 0, 0};
@@ -395,10 +401,7 @@ static inline void read_block(const uint8_t *file, size_t len, uint16_t size, ui
             no_block(out, HG_BLOCK_REFUSED, 20, place);
             return;
         }
-        uint8_t sum = 0;
-        for (size_t i = 0; i < size; i++)
-            sum += t[4 + i];
-        if (sum != t[4 + size]) {
+        if (sum_of(t + 4, size) != t[4 + size]) {
             no_block(out, HG_BLOCK_REFUSED, 26, place);
             return;
         }

@@ -5,7 +5,7 @@
 #include "honeygimlet.h"
 
 #define PLAIN_DECLARE(P) \
-    hg_unpacked P##unpack(uint32_t id); \
+    void P##unpack(uint32_t id, hg_unpacked *out); \
     void P##serve(const hg_directory *d, uint8_t *memory, size_t len, const hg_frame *f, hg_served *out); \
     void P##turn(hg_bridge *b, const uint8_t *buffer, size_t len, hg_served *out); \
     void P##frame(hg_bridge *b, uint8_t *buffer, size_t len, const hg_frame *f, hg_served *out); \

@@ -370,12 +370,6 @@ hg_raw hg_raw_value(const uint8_t *field, size_t field_len, const uint8_t *raw, 
 /* A shown value: raw plus transform, times scale, each rounded to f32. Numbers: 23, 24, 23, 30. */
 hg_shown hg_shown_value(const uint8_t *field, size_t field_len, const uint8_t *raw, size_t raw_len);
 
-/*
- * The listing of an MLG as text: a line for the header, each field and each block; `too long` for more than 65,536 bytes.
- * Number: 27.
- */
-hg_written hg_list(uint8_t *out, size_t len, const uint8_t *file, size_t file_len);
-
 /* ---- FRD ---- */
 
 typedef struct {
