@@ -1,5 +1,7 @@
-// Runs the log crates: 01's reckonings and small damaged files, a line each: the number that 01 gives, the case, and what the call answers.
+// Runs the log crates on damaged files and on 01's reckonings. Standard input has a case a line, `LABEL: CALL NUMBERS`: the program
+// writes the label and what the call answers. A line without a colon is a title. A label begins with the number that 01 gives.
 mod blocks;
+mod cases;
 mod frds;
 mod headers;
 mod output;
@@ -8,16 +10,8 @@ mod values;
 mod writers;
 
 fn main() {
-    headers::faults();
-    headers::orders();
-    blocks::faults();
-    blocks::counters();
-    writers::faults();
-    values::raws();
-    values::faults();
-    values::shows();
-    frds::headers();
-    frds::blocks();
-    frds::writers();
+    let mut buffer = io::large_buffer();
+    let n = io::read_full(libc::STDIN_FILENO, &mut buffer);
+    cases::run(&buffer[..n]);
     writers::example();
 }

@@ -11,9 +11,8 @@ pub(crate) fn labelled(label: &[u8], x: u64) {
     io::print_decimal(STDOUT_FILENO, x);
 }
 
-// A line of a case and a number in eight hexadecimal digits.
-pub(crate) fn pattern(label: &[u8], x: u32) {
-    text(label);
+// A line's end with a number in eight hexadecimal digits.
+pub(crate) fn pattern(x: u32) {
     io::print_hex(STDOUT_FILENO, x as u64, 8);
     text(b"\n");
 }
@@ -36,15 +35,15 @@ pub(crate) fn bytes(s: &[u8], start: usize, end: usize) {
     }
 }
 
-// A line of a case and the number that answers it.
-pub(crate) fn number(label: &[u8], n: u8) {
-    labelled(label, n as u64);
+// A line's end with the number of an answer.
+pub(crate) fn number(n: u8) {
+    labelled(b"", n as u64);
     text(b"\n");
 }
 
-// A line of a case, what a writer answers, and the first n bytes of its output.
-pub(crate) fn written(label: &[u8], w: wire::Written, out: &[u8], n: usize) {
-    labelled(label, w.number as u64);
+// A line's end with what a writer answers, and the first n bytes of its output.
+pub(crate) fn written(w: wire::Written, out: &[u8], n: usize) {
+    labelled(b"", w.number as u64);
     labelled(b", length ", w.len as u64);
     text(b", output");
     bytes(out, 0, n);

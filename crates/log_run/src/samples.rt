@@ -1,9 +1,9 @@
 // The files that the cases damage.
 
-// Sets a byte, where there is one.
-pub(crate) fn set(s: &mut [u8], at: usize, b: u8) {
+// Sets a byte, where there is one, to a number modulo 256.
+pub(crate) fn set(s: &mut [u8], at: usize, b: usize) {
     if at < s.len() {
-        s[at] = b;
+        s[at] = (b % 256) as u8;
     }
 }
 
@@ -52,7 +52,7 @@ pub(crate) fn log() -> [u8; 275] {
 }
 
 // That log with two bytes changed.
-pub(crate) fn damaged(at: usize, b: u8, other: usize, c: u8) -> [u8; 275] {
+pub(crate) fn damaged(at: usize, b: usize, other: usize, c: usize) -> [u8; 275] {
     let mut f = log();
     set(&mut f, at, b);
     set(&mut f, other, c);
