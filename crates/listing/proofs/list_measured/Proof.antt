@@ -14,7 +14,7 @@ put-listing-requires : tie.Need-put-listing-requires
 put-listing-requires c κs = search needs
 
 returns : tie.Need-returns
-returns c = (list-refused (c .before .before .before .before .before .before .args .file .now) (c .before .before .before .before .before .before .args .out .now) _ (c .if1 .taken) (c .before .before .put-listing .ensures .0 .counted), omega (arith, c .before .before .put-listing .ensures .0 .counted, c .before .before .put-listing .ensures .1))
+returns c = (list-refused (c .before .before .before .before .before .before .args .file .now) (c .before .before .before .before .before .before .args .out .now) _ (omega (arith, c .if1 .taken)) (c .before .before .put-listing .ensures .0 .counted), omega (arith, c .before .before .put-listing .ensures .0 .counted, c .before .before .put-listing .ensures .1))
 
 put-listing-requires-2 : tie.Need-put-listing-requires-2
 put-listing-requires-2 c κs = search needs
@@ -23,7 +23,7 @@ same-length : tie.Need-same-length
 same-length c = search needs
 
 returns-2 : tie.Need-returns-2
-returns-2 c = (list-written (c .before .before .before .before .before .before .before .before .before .before .args .file .now) (c .before .before .before .before .before .before .before .before .before .before .args .out .now) _ _ _ (c .before .before .before .before .if1 .left) (c .before .before .before .before .before .before .put-listing .ensures .0 .counted) (c .before .before .put-listing2 .ensures .0), omega (arith, c .before .before .before .before .before .before .put-listing .ensures .0 .counted, c .before .before .before .before .before .before .put-listing .ensures .1))
+returns-2 c = (list-written (c .before .before .before .before .before .before .before .before .before .before .args .file .now) (c .before .before .before .before .before .before .before .before .before .before .args .out .now) _ _ _ (omega (arith, c .before .before .before .before .if1 .left)) (c .before .before .before .before .before .before .put-listing .ensures .0 .counted) (c .before .before .put-listing2 .ensures .0), omega (arith, c .before .before .before .before .before .before .put-listing .ensures .0 .counted, c .before .before .before .before .before .before .put-listing .ensures .1))
 
 pub list-measured-spec : {M : Type 1} → statement M
 list-measured-spec =

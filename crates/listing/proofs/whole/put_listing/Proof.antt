@@ -23,7 +23,7 @@ same-length : tie.Need-same-length
 same-length c = search needs
 
 returns : tie.Need-returns
-returns c = (puts-as _ (too-long (c .before .before .before .before .before .before .before .before .args .file .now) (c .before .before .before .before .before .if1 .taken)) (c .before .before .put-bytes .ensures), omega (arith, c .before .before .put-bytes .ensures .counted))
+returns c = (puts-as _ (too-long (c .before .before .before .before .before .before .before .before .args .file .now) (omega (arith, c .before .before .before .before .before .if1 .taken))) (c .before .before .put-bytes .ensures), omega (arith, c .before .before .put-bytes .ensures .counted))
 
 read-header-requires : tie.Need-read-header-requires
 read-header-requires c κs = search needs
@@ -32,7 +32,7 @@ enum-known-head : tie.Need-enum-known-head
 enum-known-head c = search needs
 
 put-headed-lines-requires : tie.Need-put-headed-lines-requires
-put-headed-lines-requires c κs = (c .before .before .before .before .before .if1 .left, sym (c .before .before .before .before .read-header .ensures .0) ∙ c .before .before .head .given .1)
+put-headed-lines-requires c κs = (omega (arith, c .before .before .before .before .before .if1 .left), sym (c .before .before .before .before .read-header .ensures .0) ∙ c .before .before .head .given .1)
 
 enum-known-head-2 : tie.Need-enum-known-head-2
 enum-known-head-2 c = search needs
@@ -44,13 +44,13 @@ same-length-2 : tie.Need-same-length-2
 same-length-2 c = search needs
 
 returns-2 : tie.Need-returns-2
-returns-2 c = (puts-as _ (listed-header (c .before .before .before .before .before .before .before .before .before .before .before .args .file .now) _ (c .before .before .before .before .before .before .before .before .if1 .left) (sym (c .before .before .before .before .before .before .before .read-header .ensures .0) ∙ c .before .before .before .before .before .head .given .1)) (c .before .before .put-headed-lines .ensures .0), omega (arith, c .before .before .put-headed-lines .ensures .1, c .before .before .before .before .before .before .before .before .if1 .left))
+returns-2 c = (puts-as _ (listed-header (c .before .before .before .before .before .before .before .before .before .before .before .args .file .now) _ (omega (arith, c .before .before .before .before .before .before .before .before .if1 .left)) (sym (c .before .before .before .before .before .before .before .read-header .ensures .0) ∙ c .before .before .before .before .before .head .given .1)) (c .before .before .put-headed-lines .ensures .0), omega (arith, c .before .before .put-headed-lines .ensures .1, c .before .before .before .before .before .before .before .before .if1 .left))
 
 same-length-3 : tie.Need-same-length-3
 same-length-3 c = search needs
 
 returns-3 : tie.Need-returns-3
-returns-3 c = (puts-as _ (listed-refusal (c .before .before .before .before .before .before .before .before .before .before .before .args .file .now) _ (c .before .before .before .before .before .before .before .before .if1 .left) (sym (c .before .before .before .before .before .before .before .read-header .ensures .0) ∙ c .before .before .before .before .before .head2 .given .1)) (c .before .before .put-refused-line .ensures .0 noHeader (c .before .before .before .before .before .before .before .before .before .before .before .args .file .now) 0), omega (arith, c .before .before .put-refused-line .ensures .1))
+returns-3 c = (puts-as _ (listed-refusal (c .before .before .before .before .before .before .before .before .before .before .before .args .file .now) _ (omega (arith, c .before .before .before .before .before .before .before .before .if1 .left)) (sym (c .before .before .before .before .before .before .before .read-header .ensures .0) ∙ c .before .before .before .before .before .head2 .given .1)) (c .before .before .put-refused-line .ensures .0 noHeader (c .before .before .before .before .before .before .before .before .before .before .before .args .file .now) 0), omega (arith, c .before .before .put-refused-line .ensures .1))
 
 pub put-listing-spec : {M : Type 1} → statement M
 put-listing-spec =
