@@ -63,25 +63,9 @@ right-false false b e = refl
 -- ── Sound tables ───────────────────────────────────────────────────────────────────────────────────────────────────
 
 module _ (d : Directory) where
-  pub tables-next : (i : ℕ) → soundTables d i ≡ true → sizeOf d i ≤ 2056 → rightOf d i ≤ 2 → soundTables d (i + 1) ≡ true
+  pub tables-next : (i : ℕ) → soundTables d (i + 1) ≡ (soundTables d i && leb (sizeOf d i) 2056 && leb (rightOf d i) 2)
   unfolding soundTables
-  tables-next i h s r = rw (add-one, h, le-leb _ _ s, le-leb _ _ r)
-
-  -- an unsound table makes every later count of tables unsound
-  stays-unsound : (k i : ℕ) → soundTables d i ≡ false → soundTables d (k + i) ≡ false
-  unfolding soundTables
-  stays-unsound zero i h = rw zero-add h
-  stays-unsound (suc k) i h = rw suc-add (left-false (soundTables d (k + i) && leb (sizeOf d (k + i)) 2056) (leb (rightOf d (k + i)) 2) (left-false (soundTables d (k + i)) (leb (sizeOf d (k + i)) 2056) (stays-unsound k i h)))
-
-  unsound-next : (i : ℕ) → (2056 < sizeOf d i) ⊎ (2 < rightOf d i) → soundTables d (i + 1) ≡ false
-  unfolding soundTables
-  unsound-next i (inl h) = rw add-one (left-false (soundTables d i && leb (sizeOf d i) 2056) (leb (rightOf d i) 2) (right-false (soundTables d i) (leb (sizeOf d i) 2056) (lt-leb _ _ h)))
-  unsound-next i (inr h) = rw add-one (right-false (soundTables d i && leb (sizeOf d i) 2056) (leb (rightOf d i) 2) (lt-leb _ _ h))
-
-  pub tables-unsound : (n i : ℕ) → i < n → (2056 < sizeOf d i) ⊎ (2 < rightOf d i) → soundTables d n ≡ false
-  tables-unsound n i lt h =
-      let e : n - (i + 1) + (i + 1) ≡ n = omega arith in
-      rw e at (stays-unsound (n - (i + 1)) (i + 1) (unsound-next i h))
+  tables-next i = rw add-one
 
   tables-all : (n : ℕ) → soundTables d n ≡ true → (k : ℕ) → k < n → (sizeOf d k ≤ 2056) × (rightOf d k ≤ 2)
   unfolding soundTables

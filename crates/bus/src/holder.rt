@@ -21,7 +21,7 @@ ghost use mathlib.Core.List.{List};
 ghost use lib.ListN.{length, take, drop};
 ghost use lib.Seq.{sets};
 ghost use Rattle.bus.specs.Frames.{padded};
-ghost use Rattle.bus.specs.Holder.{startOf, totalOf, soundTables, soundDirectory, directoryNumber, lengthNumber, memoryNumber, commandNumber, askNumber, queryNumber, kindNumber, serveNumber, byteOf, requestAt, noAnswer, replyTo, placeOf, protocol, actOf, memoryAct, serveOf, memoryOf};
+ghost use Rattle.bus.specs.Holder.{startOf, totalOf, soundTables, directoryNumber, memoryNumber, commandNumber, askNumber, queryNumber, kindNumber, serveNumber, byteOf, requestAt, noAnswer, replyTo, placeOf, protocol, actOf, memoryAct, serveOf, memoryOf};
 ghost use Rattle.bus.specs.Demand2.{Demand2};
 
 // Where table k starts: the sum of the sizes before it.
@@ -29,65 +29,72 @@ fn start(d: Directory, k: usize) -> usize
     requires { ⌜ k ≤ 32 ⌝ }
     ensures { λ r. ⌜ (r ≡ startOf d k) × (r ≤ 65535 * k) ⌝ }
 {
-    let mut sum: usize = 0;
+    let mut sum: u32 = 0;
     let mut i = 0;
     while i < k {
-        sum += d.sizes[i] as usize;
+        sum += d.sizes[i] as u32;
         i += 1;
     }
-    sum
+    sum as usize
 }
 
-fn tables_sound(d: Directory) -> bool
-    ensures { λ r. ⌜ r ≡ soundTables d 32 ⌝ }
+// Whether all tables are sound, and the sum of their sizes.
+struct Tables {
+    sound: bool,
+    total: u32,
+}
+
+// One pass without a branch: every frame pays for it.
+fn tables_of(d: Directory) -> Tables
+    ensures { λ r. ⌜ (r .sound ≡ soundTables d 32) × (r .total ≡ totalOf d) ⌝ }
 {
+    let mut sound = true;
+    let mut total: u32 = 0;
     let mut i = 0;
     while i < 32 {
-        if 2056 < d.sizes[i] {
-            return false;
-        }
-        if 2 < d.rights[i] {
-            return false;
-        }
+        sound = sound & (d.sizes[i] <= 2056) & (d.rights[i] <= 2);
+        total += d.sizes[i] as u32;
         i += 1;
     }
-    true
+    Tables { sound, total }
+}
+
+fn tables_number(d: Directory, t: Tables) -> u8
+    requires { ⌜ (t .sound ≡ soundTables d 32) × (t .total ≡ totalOf d) ⌝ }
+    ensures { λ r. ⌜ r ≡ directoryNumber d ⌝ }
+{
+    if 15 < d.own {
+        return 11;
+    }
+    if !t.sound {
+        return 11;
+    }
+    if 32768 < t.total {
+        return 11;
+    }
+    0
 }
 
 // 11 for an unsound directory, else 0.
 pub fn directory_number(d: Directory) -> u8
     ensures { λ r. ⌜ r ≡ directoryNumber d ⌝ }
 {
-    if 15 < d.own {
-        return 11;
-    }
-    if !tables_sound(d) {
-        return 11;
-    }
-    if 32768 < start(d, 32) {
-        return 11;
-    }
-    0
-}
-
-fn length_number(d: Directory, n: usize) -> u8
-    ensures { λ r. ⌜ r ≡ lengthNumber d n ⌝ }
-{
-    if n != start(d, 32) {
-        return 10;
-    }
-    0
+    tables_number(d, tables_of(d))
 }
 
 // 11 for an unsound directory, 10 for memory of another length n than its total, else 0.
 pub fn memory_number(d: Directory, n: usize) -> u8
     ensures { λ r. ⌜ r ≡ memoryNumber d n ⌝ }
 {
-    let number = directory_number(d);
+    let t = tables_of(d);
+    let number = tables_number(d, t);
     if number != 0 {
         return number;
     }
-    length_number(d, n)
+    if n != t.total as usize {
+        return 10;
+    }
+    0
 }
 
 fn command_number(len: u8, size: u16, right: u8, offset: u16) -> u8

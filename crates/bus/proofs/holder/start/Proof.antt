@@ -47,6 +47,9 @@ unfolding sizeOf
 loop-again c =
     (omega arith, omega (arith, element (c .before)), rw (start-next (c .before .before .before .args .t1) (c .before .before .loop .i), ← c .before .before .loop .inv .2))
 
+cast-result : tie.Need-cast-result Inv-loop μ-loop
+cast-result c = search needs
+
 returns : tie.Need-returns Inv-loop μ-loop
 returns c =
     let e : c .before .loop .i ≡ c .before .before .args .k = omega arith in
@@ -66,4 +69,5 @@ start-spec =
     add-i
     loop-less
     loop-again
+    cast-result
     returns)
