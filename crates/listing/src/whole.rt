@@ -11,37 +11,11 @@ ghost use mathlib.Core.Path.{_≡_};
 ghost use Prim.Native.Nat.{_+_, _*_, _≤_, _^_};
 ghost use lib.ListN.{length};
 ghost use Rattle.mlgfile.specs.Header.{headerOf};
-ghost use Rattle.mlgfile.specs.Log.{lengthOf, logOf};
+ghost use Rattle.mlgfile.specs.Log.{logOf};
 ghost use Rattle.mlgfile.specs.declared.Head.the-variants.{Is};
 ghost use Rattle.listing.specs.Listing.{logLines, headedLines, listingOf};
 ghost use Rattle.listing.specs.Puts.{Puts};
 ghost use Rattle.listing.specs.Most.{longest};
-
-// How many bytes a block takes; none for the end and for a refusal.
-fn block_len(b: Block, size: u16) -> usize
-    ensures { λ r. ⌜ r ≡ lengthOf size b ⌝ }
-{
-    match b {
-        Block::Data {
-            counter: _,
-            time: _,
-            start: _,
-            right: _,
-        } => (size as usize) + 5,
-        Block::Mark {
-            counter: _,
-            time: _,
-            start: _,
-            len: _,
-            right: _,
-        } => 54,
-        Block::End => 0,
-        Block::Refused {
-            number: _,
-            place: _,
-        } => 0,
-    }
-}
 
 // The lines of a log's blocks, and of what ends it.
 fn put_log_lines(out: &mut [u8], at: usize, file: &[u8], h: Header) -> usize
@@ -72,7 +46,7 @@ fn put_log_lines(out: &mut [u8], at: usize, file: &[u8], h: Header) -> usize
             return put_block_line(out, next, file, h, n, b);
         };
         next = put_block_line(out, next, file, h, n, b);
-        place += block_len(b, size);
+        place += mlg::length_of(b, size);
         n += 1;
         left -= 1;
     }

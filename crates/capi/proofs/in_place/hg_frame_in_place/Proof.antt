@@ -29,7 +29,7 @@ use denote.Triple.Call.{calls-at}
 use denote.Triple.Spec.{Meets, tripleOf}
 use denote.Triple.Table.{entered, cited}
 use Rattle.transfer.specs.declared.Bridge.{Bridge}
-use Rattle.bridge.proofs.Bridge as T
+use Rattle.transfer.proofs.Bridge as T
 use Rattle.bus.specs.declared.Frame.{Frame}
 use Rattle.bus.proofs.Frame as F
 use Rattle.bus.proofs.Frame.Laws as F′

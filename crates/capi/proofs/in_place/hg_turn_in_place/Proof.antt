@@ -28,7 +28,7 @@ use denote.Triple.Call.{calls-at}
 use denote.Triple.Spec.{Meets, tripleOf}
 use denote.Triple.Table.{entered, cited}
 use Rattle.transfer.specs.declared.Bridge.{Bridge}
-use Rattle.bridge.proofs.Bridge as T
+use Rattle.transfer.proofs.Bridge as T
 use Rattle.bus.proofs.Served as S
 use Rattle.bus.proofs.Served.Laws as S′
 use Rattle.bridge.proofs.in_place.turn_in_place as callee

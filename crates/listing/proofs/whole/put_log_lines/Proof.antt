@@ -3,7 +3,6 @@ use Rattle.listing.proofs.whole.put_log_lines.Tie as tie
 use Rattle.listing.proofs.whole.put_log_lines.Reads as reads
 use Rattle.listing.proofs.whole.put_log_lines.Lts as lts
 use Rattle.listing.proofs.lines.put_block_line.Reads as put-block-line-reads
-use Rattle.listing.proofs.whole.block_len.Reads as block-len-reads
 use Rattle.mlg.proofs.read_block.Reads as read-block-reads
 use borrow.Author.Needs.{needs}
 use native.Mathlib.Omega.{arith}
@@ -48,11 +47,11 @@ returns c = (c .before .before .before .before .before .before .before .loop .in
 put-block-line-requires-2 : tie.Need-put-block-line-requires-2 Inv-loop μ-loop
 put-block-line-requires-2 c κs = (omega (arith, c .before .before .before .before .before .before .before .before .pre .0, c .before .before .before .before .before .before .before .before .pre .1), block-stands (c .before .before .before .before .before .before .before .before .args .h) (c .before .before .before .before .before .before .before .before .args .file .now) (c .before .before .before .before .before .before .before .before .pre .2) (c .before .before .before .before .loop .n) (c .before .before .before .before .loop .place) (c .before .before .read-block .result) (sym (c .before .before .read-block .ensures .0 .0)) (goes-by (c .before .before .read-block .result) (c .before .match .keys1)), omega (arith, c .before .before .before .before .before .before .before .before .pre .1))
 
-block-len-requires : tie.Need-block-len-requires Inv-loop μ-loop
-block-len-requires c κs = tt
+length-of-requires : tie.Need-length-of-requires Inv-loop μ-loop
+length-of-requires c κs = tt
 
 add-place : tie.Need-add-place Inv-loop μ-loop
-add-place c = omega (arith, c .block-len .ensures, at-fits (c .before .before .before .before .before .before .before .before .before .before .before .before .args .h .size) (c .before .before .before .before .before .before .before .before .loop .n) (c .before .before .before .before .before .before .before .before .before .before .before .before .args .file .now) (c .before .before .before .before .before .before .before .before .loop .place) (c .before .before .before .before .before .before .read-block .result) (sym (c .before .before .before .before .before .before .read-block .ensures .0 .0)) (goes-by (c .before .before .before .before .before .before .read-block .result) (c .before .before .before .before .before .match .keys1)))
+add-place c = omega (arith, c .length-of .ensures, at-fits (c .before .before .before .before .before .before .before .before .before .before .before .before .args .h .size) (c .before .before .before .before .before .before .before .before .loop .n) (c .before .before .before .before .before .before .before .before .before .before .before .before .args .file .now) (c .before .before .before .before .before .before .before .before .loop .place) (c .before .before .before .before .before .before .read-block .result) (sym (c .before .before .before .before .before .before .read-block .ensures .0 .0)) (goes-by (c .before .before .before .before .before .before .read-block .result) (c .before .before .before .before .before .match .keys1)))
 
 add-n : tie.Need-add-n Inv-loop μ-loop
 add-n c = omega (arith, c .before .before .before .before .before .before .before .before .before .before .before .before .pre .1)
@@ -64,7 +63,7 @@ loop-less : tie.Need-loop-less Inv-loop μ-loop
 loop-less c = search needs
 
 loop-again : tie.Need-loop-again Inv-loop μ-loop
-loop-again c = (refl, omega (arith, c .block-len .ensures, at-fits (c .before .before .before .before .before .before .before .before .before .before .before .before .args .h .size) (c .before .before .before .before .before .before .before .before .loop .n) (c .before .before .before .before .before .before .before .before .before .before .before .before .args .file .now) (c .before .before .before .before .before .before .before .before .loop .place) (c .before .before .before .before .before .before .read-block .result) (sym (c .before .before .before .before .before .before .read-block .ensures .0 .0)) (goes-by (c .before .before .before .before .before .before .read-block .result) (c .before .before .before .before .before .match .keys1))), omega arith, omega (arith, c .before .before .before .put-block-line2 .ensures .1, c .block-len .ensures, c .before .before .before .before .before .before .before .before .loop .inv .3, goes-most (c .before .before .before .before .before .before .before .before .before .before .before .before .args .h .size) (c .before .before .before .before .before .before .read-block .result) (goes-by (c .before .before .before .before .before .before .read-block .result) (c .before .before .before .before .before .match .keys1))), c .before .before .before .put-block-line2 .ensures .0 .same ∙ c .before .before .before .before .before .before .before .before .loop .inv .4, rw (c .block-len .ensures) (onward (c .before .before .before .before .before .before .before .before .loop .inv .5) (block-next (c .before .before .before .before .before .before .before .before .before .before .before .before .args .h) (c .before .before .before .before .before .before .before .before .before .before .before .before .args .file .now) (c .before .before .before .before .before .before .before .before .loop .left) (c .before .before .before .before .before .before .before .before .loop .n) (c .before .before .before .before .before .before .before .before .loop .place) (c .before .before .before .before .before .before .read-block .result) (c .before .before .before .before .before .before .before .loop-test .taken) (sym (c .before .before .before .before .before .before .read-block .ensures .0 .0)) (goes-by (c .before .before .before .before .before .before .read-block .result) (c .before .before .before .before .before .match .keys1))) (c .before .before .before .put-block-line2 .ensures .0)))
+loop-again c = (refl, omega (arith, c .length-of .ensures, at-fits (c .before .before .before .before .before .before .before .before .before .before .before .before .args .h .size) (c .before .before .before .before .before .before .before .before .loop .n) (c .before .before .before .before .before .before .before .before .before .before .before .before .args .file .now) (c .before .before .before .before .before .before .before .before .loop .place) (c .before .before .before .before .before .before .read-block .result) (sym (c .before .before .before .before .before .before .read-block .ensures .0 .0)) (goes-by (c .before .before .before .before .before .before .read-block .result) (c .before .before .before .before .before .match .keys1))), omega arith, omega (arith, c .before .before .before .put-block-line2 .ensures .1, c .length-of .ensures, c .before .before .before .before .before .before .before .before .loop .inv .3, goes-most (c .before .before .before .before .before .before .before .before .before .before .before .before .args .h .size) (c .before .before .before .before .before .before .read-block .result) (goes-by (c .before .before .before .before .before .before .read-block .result) (c .before .before .before .before .before .match .keys1))), c .before .before .before .put-block-line2 .ensures .0 .same ∙ c .before .before .before .before .before .before .before .before .loop .inv .4, rw (c .length-of .ensures) (onward (c .before .before .before .before .before .before .before .before .loop .inv .5) (block-next (c .before .before .before .before .before .before .before .before .before .before .before .before .args .h) (c .before .before .before .before .before .before .before .before .before .before .before .before .args .file .now) (c .before .before .before .before .before .before .before .before .loop .left) (c .before .before .before .before .before .before .before .before .loop .n) (c .before .before .before .before .before .before .before .before .loop .place) (c .before .before .before .before .before .before .read-block .result) (c .before .before .before .before .before .before .before .loop-test .taken) (sym (c .before .before .before .before .before .before .read-block .ensures .0 .0)) (goes-by (c .before .before .before .before .before .before .read-block .result) (c .before .before .before .before .before .match .keys1))) (c .before .before .before .put-block-line2 .ensures .0)))
 
 put-block-line-requires-3 : tie.Need-put-block-line-requires-3 Inv-loop μ-loop
 put-block-line-requires-3 c κs = (omega (arith, c .before .before .before .before .before .before .pre .0, c .before .before .before .before .before .before .pre .1), tt, omega (arith, c .before .before .before .before .before .before .pre .1))
@@ -89,7 +88,7 @@ put-log-lines-spec =
     same-length
     returns
     put-block-line-requires-2
-    block-len-requires
+    length-of-requires
     add-place
     add-n
     sub-left
