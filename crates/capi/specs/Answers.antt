@@ -60,12 +60,14 @@ mlgHeader (MH.Refused n) = record { time = 0; info = 0; begin = 0; size = 0; cou
 abbrev pub noMlgBlock : (kind number place : ℕ) → MlgBlock
 noMlgBlock k n p = record { place = p; start = 0; count = 0; time = 0; number = n; kind = k; counter = 0; right = 0 }
 
+-- a data block or a mark
+abbrev pub foundMlgBlock : (kind counter time start count : ℕ) → Bool → MlgBlock
+foundMlgBlock k c m s n r = record { place = 0; start = s; count = n; time = m; number = 0; kind = k; counter = c; right = flagOf r }
+
 -- where records have l bytes
 abbrev pub mlgBlock : ℕ → MlgEnum → MlgBlock
-mlgBlock l (MB.Data c m s r) =
-    record { place = 0; start = s; count = l; time = m; number = 0; kind = dataKind; counter = c; right = flagOf r }
-mlgBlock l (MB.Mark c m s k r) =
-    record { place = 0; start = s; count = k; time = m; number = 0; kind = markKind; counter = c; right = flagOf r }
+mlgBlock l (MB.Data c m s r) = foundMlgBlock dataKind c m s l r
+mlgBlock l (MB.Mark c m s k r) = foundMlgBlock markKind c m s k r
 mlgBlock l MB.End = noMlgBlock endKind 0 0
 mlgBlock l (MB.Refused n p) = noMlgBlock refusedKind n p
 
@@ -77,14 +79,15 @@ frdHeader (FH.Refused n) = record { time = 0; size = 0; number = n }
 abbrev pub noFrdBlock : (kind number place : ℕ) → FrdBlock
 noFrdBlock k n p = record { place = p; start = 0; count = 0; time = 0; number = n; kind = k; counter = 0; right = 0 }
 
+abbrev pub foundFrdBlock : (kind counter time start count : ℕ) → Bool → FrdBlock
+foundFrdBlock k c m s n r = record { place = 0; start = s; count = n; time = m; number = 0; kind = k; counter = c; right = flagOf r }
+
 abbrev pub timeKind : ℕ
 timeKind = markKind
 
 abbrev pub frdBlock : ℕ → FrdEnum → FrdBlock
-frdBlock l (FB.Data c s r) =
-    record { place = 0; start = s; count = l; time = 0; number = 0; kind = dataKind; counter = c; right = flagOf r }
-frdBlock l (FB.Time c m r) =
-    record { place = 0; start = 0; count = 0; time = m; number = 0; kind = timeKind; counter = c; right = flagOf r }
+frdBlock l (FB.Data c s r) = foundFrdBlock dataKind c 0 s l r
+frdBlock l (FB.Time c m r) = foundFrdBlock timeKind c m 0 0 r
 frdBlock l FB.End = noFrdBlock endKind 0 0
 frdBlock l (FB.Refused n p) = noFrdBlock refusedKind n p
 

@@ -16,7 +16,7 @@ ghost use Rattle.frd.specs.Header.{headNumber, headerOf, signaturePart};
 ghost use Rattle.frd.specs.Blocks.{blockAt};
 ghost use Rattle.frd.specs.Log.{fileLog, tallyOf};
 ghost use Rattle.frd.specs.Writers.{headerBytes, headerNumber, dataBytes, dataNumber, timeBytes, roomNumber};
-ghost use Rattle.capi.specs.Answers.{frdHeader, noFrdBlock, frdBlock};
+ghost use Rattle.capi.specs.Answers.{frdHeader, noFrdBlock, foundFrdBlock, frdBlock};
 
 #[no_mangle]
 pub extern "C" fn hg_frd_read_header(file: &[u8]) -> FrdHeader
@@ -53,6 +53,22 @@ fn no_block(kind: u8, number: u8, place: usize) -> FrdBlock
     }
 }
 
+// A data block or a time block.
+fn found(kind: u8, counter: u8, time: u32, start: usize, count: usize, right: bool) -> FrdBlock
+    ensures { λ r. ⌜ r ≡ foundFrdBlock kind counter time start count right ⌝ }
+{
+    FrdBlock {
+        place: 0,
+        start,
+        count,
+        time,
+        number: 0,
+        kind,
+        counter,
+        right: flag(right),
+    }
+}
+
 // A block as a struct, where records have the given length.
 fn block_out(b: Block, size: u16) -> FrdBlock
     ensures { λ r. ⌜ r ≡ frdBlock size b ⌝ }
@@ -74,27 +90,9 @@ fn block_out(b: Block, size: u16) -> FrdBlock
             };
             return no_block(REFUSED, number, place);
         };
-        return FrdBlock {
-            place: 0,
-            start: 0,
-            count: 0,
-            time,
-            number: 0,
-            kind: TIME,
-            counter,
-            right: flag(right),
-        };
+        return found(TIME, counter, time, 0, 0, right);
     };
-    FrdBlock {
-        place: 0,
-        start,
-        count: size as usize,
-        time: 0,
-        number: 0,
-        kind: DATA,
-        counter,
-        right: flag(right),
-    }
+    found(DATA, counter, 0, start, size as usize, right)
 }
 
 #[no_mangle]

@@ -18,7 +18,7 @@ ghost use Rattle.mlg.specs.Log.{tallyIn};
 ghost use Rattle.mlg.specs.Parts.{fieldSpan, namesSpan, infoSpan};
 ghost use Rattle.mlg.specs.Writing.{headerBytes, headerNumber, dataBytes, markBytes, dataNumber, markNumber};
 ghost use Rattle.listing.specs.Listing.{listingOf, listingNumber};
-ghost use Rattle.capi.specs.Answers.{mlgHeader, noMlgBlock, mlgBlock};
+ghost use Rattle.capi.specs.Answers.{mlgHeader, noMlgBlock, foundMlgBlock, mlgBlock};
 
 #[no_mangle]
 pub extern "C" fn hg_mlg_read_header(file: &[u8]) -> MlgHeader
@@ -63,6 +63,22 @@ fn no_block(kind: u8, number: u8, place: usize) -> MlgBlock
     }
 }
 
+// A data block or a mark.
+fn found(kind: u8, counter: u8, time: u16, start: usize, count: usize, right: bool) -> MlgBlock
+    ensures { λ r. ⌜ r ≡ foundMlgBlock kind counter time start count right ⌝ }
+{
+    MlgBlock {
+        place: 0,
+        start,
+        count,
+        time,
+        number: 0,
+        kind,
+        counter,
+        right: flag(right),
+    }
+}
+
 // A block as a struct, where records have the given length.
 fn block_out(b: Block, size: u16) -> MlgBlock
     ensures { λ r. ⌜ r ≡ mlgBlock size b ⌝ }
@@ -87,27 +103,9 @@ fn block_out(b: Block, size: u16) -> MlgBlock
             };
             return no_block(REFUSED, number, place);
         };
-        return MlgBlock {
-            place: 0,
-            start,
-            count: len,
-            time,
-            number: 0,
-            kind: MARK,
-            counter,
-            right: flag(right),
-        };
+        return found(MARK, counter, time, start, len, right);
     };
-    MlgBlock {
-        place: 0,
-        start,
-        count: size as usize,
-        time,
-        number: 0,
-        kind: DATA,
-        counter,
-        right: flag(right),
-    }
+    found(DATA, counter, time, start, size as usize, right)
 }
 
 #[no_mangle]

@@ -24,19 +24,19 @@ no-block-requires-2 : tie.Need-no-block-requires-2
 no-block-requires-2 c κs = search needs
 
 returns-2 : tie.Need-returns-2
-returns-2 c = c .no-block2 .ensures ∙ ap (frdBlock _) (sym (c .before .before .b3 .given .1))
+returns-2 c = c .no-block2 .ensures ∙ ap (frdBlock (c .before .before .before .before .before .before .args .size)) (sym (c .before .before .b3 .given .1))
 
-flag-requires : tie.Need-flag-requires
-flag-requires c κs = search needs
+found-requires : tie.Need-found-requires
+found-requires c κs = search needs
 
 returns-3 : tie.Need-returns-3
-returns-3 c = rw (c .flag .ensures) (ap (frdBlock _) (sym (c .before .before .b2 .given .1)))
+returns-3 c = c .found .ensures ∙ ap (frdBlock (c .before .before .before .before .before .args .size)) (sym (c .before .before .b2 .given .1))
 
-flag-requires-2 : tie.Need-flag-requires-2
-flag-requires-2 c κs = search needs
+found-requires-2 : tie.Need-found-requires-2
+found-requires-2 c κs = search needs
 
 returns-4 : tie.Need-returns-4
-returns-4 c = rw (c .flag2 .ensures) (ap (frdBlock _) (sym (c .before .before .b .given .1)))
+returns-4 c = c .found2 .ensures ∙ ap (frdBlock (c .before .before .before .before .args .size)) (sym (c .before .before .b .given .1))
 
 pub block-out-spec : {M : Type 1} → statement M
 block-out-spec =
@@ -49,7 +49,7 @@ block-out-spec =
     returns
     no-block-requires-2
     returns-2
-    flag-requires
+    found-requires
     returns-3
-    flag-requires-2
+    found-requires-2
     returns-4)
