@@ -64,22 +64,35 @@ fn awaiting(b: Bridge, f: bus::Frame) -> usize
     )
 }
 
-// 11, 10, 1 to 5 and 17, by which an incoming frame is judged; else 0.
-fn reply_number(b: Bridge, n: usize, f: bus::Frame) -> u8
-    ensures { λ r. ⌜ r ≡ replyRefusal b n f ⌝ }
+// A frame's number, and, where that is 0, the slot that awaits it.
+struct Judged {
+    number: u8,
+    slot: usize,
+}
+
+// 11, 10, 1 to 5 and 17, by which an incoming frame is judged; else 0 and its slot.
+fn judge_reply(b: Bridge, n: usize, f: bus::Frame) -> Judged
+    ensures { λ r. ⌜ (r .number ≡ replyRefusal b n f) × (r .number ≡ 0 → r .slot ≡ orFour (awaiting b f)) ⌝ }
 {
     let lent = lent_number(b, n);
     if lent != 0 {
-        return lent;
+        return Judged {
+            number: lent,
+            slot: 4,
+        };
     }
     let content = content_number(b.own, f);
     if content != 0 {
-        return content;
+        return Judged {
+            number: content,
+            slot: 4,
+        };
     }
-    if awaiting(b, f) == 4 {
-        return 17;
+    let slot = awaiting(b, f);
+    if slot == 4 {
+        return Judged { number: 17, slot };
     }
-    0
+    Judged { number: 0, slot }
 }
 
 // The first n bytes of an array, stored from a place on.
@@ -94,11 +107,12 @@ fn store(buffer: &mut [u8], at: usize, bytes: [u8; 8], n: usize)
 pub fn frame(b: Bridge, buffer: &mut [u8], f: bus::Frame) -> Stepped
     ensures { λ r. ⌜ (r ≡ steppedOf (frame′ b (now (buffer .entry)) f)) × (now (buffer .exit) ≡ frame′ b (now (buffer .entry)) f .buffer) ⌝ }
 {
-    let n = reply_number(b, buffer.len(), f);
+    let judged = judge_reply(b, buffer.len(), f);
+    let n = judged.number;
     if n != 0 {
         return plain(b, n);
     }
-    let k = awaiting(b, f);
+    let k = judged.slot;
     let slots = b.slots;
     let x = slots[k];
     let bytes = f.bytes;

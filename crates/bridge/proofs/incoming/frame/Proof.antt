@@ -7,53 +7,47 @@ use Rattle.bus.specs.Frames.{content}
 use Rattle.transfer.specs.Model.{slot}
 use Rattle.bridge.proofs.CodeFrames.{frame-refused, reply-own, reply-content, reply-len, reply-at, reply-fits, frame-is}
 
-reply-number-requires : tie.Need-reply-number-requires
-reply-number-requires c κs = search needs
+judge-reply-requires : tie.Need-judge-reply-requires
+judge-reply-requires c κs = search needs
 
 plain-requires : tie.Need-plain-requires
 plain-requires c κs = search needs
 
 returns : tie.Need-returns
-returns c = (c .plain .ensures ∙ frame-refused (c .before .before .before .before .args .b) (c .before .before .before .before .args .buffer .now) (c .before .before .before .before .args .f) _ (c .before .before .reply-number .ensures) (c .before .if1 .taken) .0, frame-refused (c .before .before .before .before .args .b) (c .before .before .before .before .args .buffer .now) (c .before .before .before .before .args .f) _ (c .before .before .reply-number .ensures) (c .before .if1 .taken) .1)
-
-awaiting-requires : tie.Need-awaiting-requires
-awaiting-requires c κs =
-    let a = c .before .before .before .args in
-    let e = sym (c .before .reply-number .ensures) ∙ c .if1 .left in
-    (reply-own (a .b) (a .buffer .now) (a .f) e, reply-content (a .b) (a .buffer .now) (a .f) e)
+returns c = (c .plain .ensures ∙ frame-refused (c .before .before .before .before .args .b) (c .before .before .before .before .args .buffer .now) (c .before .before .before .before .args .f) _ (c .before .before .judge-reply .ensures .0) (c .before .if1 .taken) .0, frame-refused (c .before .before .before .before .args .b) (c .before .before .before .before .args .buffer .now) (c .before .before .before .before .args .f) _ (c .before .before .judge-reply .ensures .0) (c .before .if1 .taken) .1)
 
 mul-x : tie.Need-mul-x
-mul-x c = omega (arith, reply-at (c .before .before .before .before .before .args .b) (c .before .before .before .before .before .args .buffer .now) (c .before .before .before .before .before .args .f) (sym (c .before .before .before .reply-number .ensures) ∙ c .before .before .if1 .left) _ (c .before .awaiting .ensures) .1)
+mul-x c = omega (arith, reply-at (c .before .before .before .before .args .b) (c .before .before .before .before .args .buffer .now) (c .before .before .before .before .args .f) (sym (c .before .before .judge-reply .ensures .0) ∙ c .before .if1 .left) _ (c .before .before .judge-reply .ensures .1 (c .before .if1 .left)) .1)
 
 array-copy-out-x : tie.Need-array-copy-out-x
-array-copy-out-x c = omega (arith, reply-at (c .before .before .before .before .before .args .b) (c .before .before .before .before .before .args .buffer .now) (c .before .before .before .before .before .args .f) (sym (c .before .before .before .reply-number .ensures) ∙ c .before .before .if1 .left) _ (c .before .awaiting .ensures) .1)
+array-copy-out-x c = omega (arith, reply-at (c .before .before .before .before .args .b) (c .before .before .before .before .args .buffer .now) (c .before .before .before .before .args .f) (sym (c .before .before .judge-reply .ensures .0) ∙ c .before .if1 .left) _ (c .before .before .judge-reply .ensures .1 (c .before .if1 .left)) .1)
 
 mul-store : tie.Need-mul-store
 unfolding slot
-mul-store c = omega (arith, reply-at (c .before .before .before .before .before .before .before .before .args .b) (c .before .before .before .before .before .before .before .before .args .buffer .now) (c .before .before .before .before .before .before .before .before .args .f) (sym (c .before .before .before .before .before .before .reply-number .ensures) ∙ c .before .before .before .before .before .if1 .left) _ (c .before .before .before .before .awaiting .ensures) .1)
+mul-store c = omega (arith, reply-at (c .before .before .before .before .before .before .before .args .b) (c .before .before .before .before .before .before .before .args .buffer .now) (c .before .before .before .before .before .before .before .args .f) (sym (c .before .before .before .before .before .judge-reply .ensures .0) ∙ c .before .before .before .before .if1 .left) _ (c .before .before .before .before .before .judge-reply .ensures .1 (c .before .before .before .before .if1 .left)) .1)
 
 cast-store : tie.Need-cast-store
 cast-store c = search needs
 
 add-store : tie.Need-add-store
 unfolding slot
-add-store c = omega (arith, reply-at (c .before .before .before .before .before .before .before .before .before .args .b) (c .before .before .before .before .before .before .before .before .before .args .buffer .now) (c .before .before .before .before .before .before .before .before .before .args .f) (sym (c .before .before .before .before .before .before .before .reply-number .ensures) ∙ c .before .before .before .before .before .before .if1 .left) _ (c .before .before .before .before .before .awaiting .ensures) .1)
+add-store c = omega (arith, reply-at (c .before .before .before .before .before .before .before .before .args .b) (c .before .before .before .before .before .before .before .before .args .buffer .now) (c .before .before .before .before .before .before .before .before .args .f) (sym (c .before .before .before .before .before .before .judge-reply .ensures .0) ∙ c .before .before .before .before .before .if1 .left) _ (c .before .before .before .before .before .before .judge-reply .ensures .1 (c .before .before .before .before .before .if1 .left)) .1)
 
 cast-store-2 : tie.Need-cast-store-2
 cast-store-2 c = search needs
 
 store-requires : tie.Need-store-requires
 unfolding slot
-store-requires c κs = (reply-len (c .before .before .before .before .before .before .before .before .before .before .args .b) (c .before .before .before .before .before .before .before .before .before .before .args .buffer .now) (c .before .before .before .before .before .before .before .before .before .before .args .f) (sym (c .before .before .before .before .before .before .before .before .reply-number .ensures) ∙ c .before .before .before .before .before .before .before .if1 .left), reply-fits (c .before .before .before .before .before .before .before .before .before .before .args .b) (c .before .before .before .before .before .before .before .before .before .before .args .buffer .now) (c .before .before .before .before .before .before .before .before .before .before .args .f) (sym (c .before .before .before .before .before .before .before .before .reply-number .ensures) ∙ c .before .before .before .before .before .before .before .if1 .left) _ (c .before .before .before .before .before .before .awaiting .ensures))
+store-requires c κs = (reply-len (c .before .before .before .before .before .before .before .before .before .args .b) (c .before .before .before .before .before .before .before .before .before .args .buffer .now) (c .before .before .before .before .before .before .before .before .before .args .f) (sym (c .before .before .before .before .before .before .before .judge-reply .ensures .0) ∙ c .before .before .before .before .before .before .if1 .left), reply-fits (c .before .before .before .before .before .before .before .before .before .args .b) (c .before .before .before .before .before .before .before .before .before .args .buffer .now) (c .before .before .before .before .before .before .before .before .before .args .f) (sym (c .before .before .before .before .before .before .before .judge-reply .ensures .0) ∙ c .before .before .before .before .before .before .if1 .left) _ (c .before .before .before .before .before .before .before .judge-reply .ensures .1 (c .before .before .before .before .before .before .if1 .left)))
 
 advance-requires : tie.Need-advance-requires
 advance-requires c κs = search needs
 
 mul-y : tie.Need-mul-y
-mul-y c = omega (arith, reply-at (c .before .before .before .before .before .before .before .before .before .before .before .before .before .before .args .b) (c .before .before .before .before .before .before .before .before .before .before .before .before .before .before .args .buffer .now) (c .before .before .before .before .before .before .before .before .before .before .before .before .before .before .args .f) (sym (c .before .before .before .before .before .before .before .before .before .before .before .before .reply-number .ensures) ∙ c .before .before .before .before .before .before .before .before .before .before .before .if1 .left) _ (c .before .before .before .before .before .before .before .before .before .before .awaiting .ensures) .1)
+mul-y c = omega (arith, reply-at (c .before .before .before .before .before .before .before .before .before .before .before .before .before .args .b) (c .before .before .before .before .before .before .before .before .before .before .before .before .before .args .buffer .now) (c .before .before .before .before .before .before .before .before .before .before .before .before .before .args .f) (sym (c .before .before .before .before .before .before .before .before .before .before .before .judge-reply .ensures .0) ∙ c .before .before .before .before .before .before .before .before .before .before .if1 .left) _ (c .before .before .before .before .before .before .before .before .before .before .before .judge-reply .ensures .1 (c .before .before .before .before .before .before .before .before .before .before .if1 .left)) .1)
 
 element-set-from-y : tie.Need-element-set-from-y
-element-set-from-y c = omega (arith, reply-at (c .before .before .before .before .before .before .before .before .before .before .before .before .before .before .args .b) (c .before .before .before .before .before .before .before .before .before .before .before .before .before .before .args .buffer .now) (c .before .before .before .before .before .before .before .before .before .before .before .before .before .before .args .f) (sym (c .before .before .before .before .before .before .before .before .before .before .before .before .reply-number .ensures) ∙ c .before .before .before .before .before .before .before .before .before .before .before .if1 .left) _ (c .before .before .before .before .before .before .before .before .before .before .awaiting .ensures) .1)
+element-set-from-y c = omega (arith, reply-at (c .before .before .before .before .before .before .before .before .before .before .before .before .before .args .b) (c .before .before .before .before .before .before .before .before .before .before .before .before .before .args .buffer .now) (c .before .before .before .before .before .before .before .before .before .before .before .before .before .args .f) (sym (c .before .before .before .before .before .before .before .before .before .before .before .judge-reply .ensures .0) ∙ c .before .before .before .before .before .before .before .before .before .before .if1 .left) _ (c .before .before .before .before .before .before .before .before .before .before .before .judge-reply .ensures .1 (c .before .before .before .before .before .before .before .before .before .before .if1 .left)) .1)
 
 plain-requires-2 : tie.Need-plain-requires-2
 plain-requires-2 c κs = search needs
@@ -63,17 +57,16 @@ same-length c = search needs
 
 returns-2 : tie.Need-returns-2
 unfolding slot content
-returns-2 c = let g = frame-is (c .before .before .before .before .before .before .before .before .before .before .before .before .before .before .before .args .b) (c .before .before .before .before .before .before .before .before .before .before .before .before .before .before .before .args .buffer .now) (c .before .before .before .before .before .before .before .before .before .before .before .before .before .before .before .args .f) (sym (c .before .before .before .before .before .before .before .before .before .before .before .before .before .reply-number .ensures) ∙ c .before .before .before .before .before .before .before .before .before .before .before .before .if1 .left) _ (c .before .before .before .before .before .before .before .before .before .before .before .awaiting .ensures) in
+returns-2 c = let g = frame-is (c .before .before .before .before .before .before .before .before .before .before .before .before .before .before .args .b) (c .before .before .before .before .before .before .before .before .before .before .before .before .before .before .args .buffer .now) (c .before .before .before .before .before .before .before .before .before .before .before .before .before .before .args .f) (sym (c .before .before .before .before .before .before .before .before .before .before .before .before .judge-reply .ensures .0) ∙ c .before .before .before .before .before .before .before .before .before .before .before .if1 .left) _ (c .before .before .before .before .before .before .before .before .before .before .before .before .judge-reply .ensures .1 (c .before .before .before .before .before .before .before .before .before .before .before .if1 .left)) in
     (c .plain2 .ensures ∙ rw (c .before .advance .ensures) (g .0), c .before .before .before .before .store .ensures ∙ g .1)
 
 pub frame-spec : {M : Type 1} → statement M
 frame-spec =
     tie.close
     (tie.spec
-    reply-number-requires
+    judge-reply-requires
     plain-requires
     returns
-    awaiting-requires
     mul-x
     array-copy-out-x
     mul-store

@@ -1,8 +1,9 @@
 use borrow.Author.Needs.{needs}
-use Rattle.bridge.proofs.incoming.reply_number.Statement.{statement}
-use Rattle.bridge.proofs.incoming.reply_number.Tie as tie
+use Rattle.bridge.proofs.incoming.judge_reply.Statement.{statement}
+use Rattle.bridge.proofs.incoming.judge_reply.Tie as tie
 use Rattle.transfer.specs.Model.{replyRefusal}
 use Rattle.wire.proofs.Orders.{order}
+use native.Mathlib.Omega.{arith}
 use Rattle.bridge.proofs.CodeSlots.{awaiting-none, awaiting-some}
 use mathlib.Core.Path.{sym, _∙_}
 use Rattle.transfer.proofs.Sound.{true-sound}
@@ -13,7 +14,7 @@ lent-number-requires c κs = search needs
 
 returns : tie.Need-returns
 unfolding replyRefusal
-returns c = search order depth 12
+returns c = (search order depth 12, λ e. absurd (c .if1 .taken e))
 
 content-number-requires : tie.Need-content-number-requires
 content-number-requires c κs =
@@ -22,7 +23,7 @@ content-number-requires c κs =
 
 returns-2 : tie.Need-returns-2
 unfolding replyRefusal
-returns-2 c = search order depth 12
+returns-2 c = (search order depth 12, λ e. absurd (c .if2 .taken e))
 
 awaiting-requires : tie.Need-awaiting-requires
 awaiting-requires c κs =
@@ -31,14 +32,14 @@ awaiting-requires c κs =
 
 returns-3 : tie.Need-returns-3
 unfolding replyRefusal
-returns-3 c = rw (awaiting-none (c .before .before .before .before .before .before .args .b) (c .before .before .before .before .before .before .args .f) _ (c .before .awaiting .ensures) (c .if3 .taken)) (search order depth 12)
+returns-3 c = (rw (awaiting-none (c .before .before .before .before .before .before .args .b) (c .before .before .before .before .before .before .args .f) _ (c .before .awaiting .ensures) (c .if3 .taken)) (search order depth 12), λ e. absurd (omega arith))
 
 returns-4 : tie.Need-returns-4
 unfolding replyRefusal
-returns-4 c = rw (awaiting-some (c .before .before .before .before .before .before .args .b) (c .before .before .before .before .before .before .args .f) _ (c .before .awaiting .ensures) (c .if3 .left) .0) (search order depth 12)
+returns-4 c = (rw (awaiting-some (c .before .before .before .before .before .before .args .b) (c .before .before .before .before .before .before .args .f) _ (c .before .awaiting .ensures) (c .if3 .left) .0) (search order depth 12), λ e. c .before .awaiting .ensures)
 
-pub reply-number-spec : {M : Type 1} → statement M
-reply-number-spec =
+pub judge-reply-spec : {M : Type 1} → statement M
+judge-reply-spec =
     tie.close
     (tie.spec
     lent-number-requires
