@@ -152,12 +152,6 @@ HG_SIZE(hg_served, 20);
  */
 hg_served hg_serve(hg_directory directory, uint8_t *memory, size_t len, hg_frame frame);
 
-/* Judges a directory as hg_serve does. Number: 11. */
-uint8_t hg_directory_number(hg_directory directory);
-
-/* Judges a directory and the length of its memory as hg_serve does. Numbers: 11, 10. */
-uint8_t hg_memory_number(hg_directory directory, size_t len);
-
 /* ---- Bridge ---- */
 
 /* Phases of a slot, and kinds of transfers. */

@@ -5,7 +5,7 @@ use crate::Unpacked;
 ghost use mathlib.Core.Path.{_≡_};
 ghost use Rattle.bus.specs.Ident.{packOf, unpackOf};
 ghost use Rattle.bus.specs.Request.{readRequestOf, requestBytesOf};
-ghost use Rattle.bus.specs.Holder.{directoryNumber, memoryNumber, serveOf, memoryOf};
+ghost use Rattle.bus.specs.Holder.{serveOf, memoryOf};
 ghost use Rattle.capi.specs.Answers.{packedOut, unpackedOut, askedOut};
 
 #[no_mangle]
@@ -62,20 +62,6 @@ pub extern "C" fn hg_request_bytes_of(request: bus::Request) -> bus::RequestByte
     ensures { λ r. ⌜ r ≡ requestBytesOf request ⌝ }
 {
     bus::requests::request_bytes(request)
-}
-
-#[no_mangle]
-pub extern "C" fn hg_directory_number(directory: bus::Directory) -> u8
-    ensures { λ r. ⌜ r ≡ directoryNumber directory ⌝ }
-{
-    bus::holder::directory_number(directory)
-}
-
-#[no_mangle]
-pub extern "C" fn hg_memory_number(directory: bus::Directory, len: usize) -> u8
-    ensures { λ r. ⌜ r ≡ memoryNumber directory len ⌝ }
-{
-    bus::holder::memory_number(directory, len)
 }
 
 #[no_mangle]
