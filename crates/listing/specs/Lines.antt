@@ -1,4 +1,4 @@
--- The lines of a listing. Every line ends with a newline; one space stands before every item, also before an empty name or text.
+-- The lines of a listing. Every line ends with a newline; one space stands between items, also before an empty name or text.
 use Prim.Native.Nat.{ℕ, zero, suc, _+_}
 use mathlib.Core.Bool.{Bool, true, false}
 use mathlib.Core.List.{List, [], _∷_, _++_}
@@ -65,7 +65,7 @@ nameOf d = toZero (take nameLen (drop nameAt d))
 unfoldable pub fieldLine : ℕ → List ℕ → List ℕ
 fieldLine i d = fieldWord ++ decimal i ++ space ++ decimal (typeOf d) ++ space ++ shown (nameOf d) ++ newline
 
--- the lines of n fields from field i on, whose bytes begin t
+-- the lines of n fields from field i on, of a file of version v; their bytes begin t
 abbrev pub fieldLines : ℕ → ℕ → ℕ → List ℕ → List ℕ
 fieldLines v i zero t = []
 fieldLines v i (suc n) t = fieldLine i (take (fieldLen v) t) ++ fieldLines v (i + 1) n (drop (fieldLen v) t)
@@ -74,7 +74,7 @@ fieldLines v i (suc n) t = fieldLine i (take (fieldLen v) t) ++ fieldLines v (i 
 unfoldable pub valueText : List ℕ → List ℕ → List ℕ
 valueText d b = space ++ integer (rawOf (typeOf d) b)
 
--- the raw values of n fields, whose bytes begin t and whose raw bytes begin b
+-- the raw values of n fields of a file of version v; their bytes begin t and their raw bytes begin b
 abbrev pub valuesText : ℕ → ℕ → List ℕ → List ℕ → List ℕ
 valuesText v zero t b = []
 valuesText v (suc n) t b =

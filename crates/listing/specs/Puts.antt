@@ -1,4 +1,5 @@
--- What a function does that puts a text at a place of its output, where it fits, and hands back the place after the text.
+-- The contract of private functions, which no promise of a public call rests on: each puts a text at a place of its output, where it
+-- fits, and hands back the place after the text.
 use Prim.Native.Nat.{ℕ, _+_, _≤_}
 use mathlib.Core.Path.{_≡_}
 use mathlib.Core.List.{List}

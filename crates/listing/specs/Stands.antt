@@ -1,4 +1,5 @@
--- What the line of a block relies on: its parts lie within the file, and its raw values are not refused.
+-- What private functions rely on, which no promise of a public call rests on: a block's parts lie within the file, and its raw
+-- values are not refused.
 use Prim.Native.Nat.{ℕ, zero, suc, _+_, _≤_}
 use mathlib.Core.Path.{_≡_}
 use mathlib.Core.List.{List}

@@ -17,7 +17,7 @@ digits zero x = []
 digits (suc k) zero = []
 digits (suc k) (suc x) = digits k (suc x / 10) ++ (digit (suc x % 10) ∷ [])
 
--- a number in decimal digits; it has at most one more than the number itself
+-- a number in decimal digits: x / 10 has at most x digits, so none is lost
 unfoldable pub decimal : ℕ → List ℕ
 decimal x = digits x (x / 10) ++ (digit (x % 10) ∷ [])
 
