@@ -255,8 +255,14 @@ hg_span hg_span_of(hg_bridge b, const uint8_t *buffer, size_t len, uint32_t tick
 hg_changed hg_close(hg_bridge b, uint32_t ticket);
 
 /* The same turn, incoming frame and closing, which change the bridge where it stands; a refusal leaves it as it was. */
+
+/* hg_turn in place. Numbers: 11, 10. The buffer is not changed. */
 hg_served hg_turn_in_place(hg_bridge *b, const uint8_t *buffer, size_t len);
+
+/* hg_frame_in in place. Numbers: 11, 10, 1, 2, 3, 4, 5 (not RSP), 17. Changes the bytes that the frame brings, and nothing else of the buffer. */
 hg_served hg_frame_in_place(hg_bridge *b, uint8_t *buffer, size_t len, hg_frame frame);
+
+/* hg_close in place. Numbers: 11, 14. */
 uint8_t hg_close_in_place(hg_bridge *b, uint32_t ticket);
 
 /* ---- MLG ---- */
