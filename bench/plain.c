@@ -590,6 +590,8 @@ static inline size_t put_listing(uint8_t *out, const uint8_t *file, size_t len)
 
 hg_written PLAIN(list)(uint8_t *out, size_t len, const uint8_t *file, size_t file_len)
 {
+    if (len >= HG_LISTING) /* no listing is longer */
+        return (hg_written){put_listing(out, file, file_len), 0};
     size_t needed = put_listing(NULL, file, file_len);
     if (needed > len)
         return (hg_written){0, 27};

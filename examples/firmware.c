@@ -167,7 +167,12 @@ int main(void)
     uint8_t text[WRITE_COUNT];
     memcpy(text, "twenty bytes, no end", sizeof text);
     device_start();
-    bridge = hg_reset(bridge, DASH).bridge;
+    hg_changed fresh = hg_reset(bridge, DASH);
+    if (fresh.number != 0) {
+        printf("reset refused with number %u\n", fresh.number);
+        return 1;
+    }
+    bridge = fresh.bridge;
 
     uint32_t read = opened("read", hg_open_read(bridge, buffer, sizeof buffer, DEVICE, READ_TABLE, READ_OFFSET, READ_COUNT));
     uint32_t write = opened("write", hg_open_write(bridge, buffer, sizeof buffer, DEVICE, WRITE_TABLE, WRITE_OFFSET, text, sizeof text));

@@ -3,7 +3,8 @@
  * MLG (MLVLG 2) and FRD 1. Link libcapi.a (`rt staticlib capi`); it needs nothing else. For C11 and C++11, x86-64 Linux.
  *
  * Every call judges its arguments: any number in any argument is allowed, and a refusal carries one of the numbers below,
- * changes nothing that it was lent and yields no frame; every other number in its answer is 0 (save a block's place).
+ * changes nothing that it was lent and yields no frame; every other number in its answer is 0, save a block's kind and place, and the
+ * bridge that a call by value hands back as it was.
  * What a caller must see to, since no call can: a pointer is not null (not even with length 0), points to as many bytes as
  * the length beside it says, fewer than 2^63, and memory that a call may write overlaps no other memory lent to that call.
  *
@@ -311,8 +312,8 @@ hg_mlg_header hg_mlg_read_header(const uint8_t *file, size_t len);
 hg_mlg_block hg_mlg_read_block(const uint8_t *file, size_t len, uint16_t size, uint64_t earlier, size_t place);
 
 /*
- * How many blocks a log has, and how they ended: `ending` is 0 at the file's end, else the number that refuses what stands at
- * `place`. A refused header gives no blocks, its number, and place 0.
+ * How many blocks a log has, and how they ended: `ending` is 0 at the file's end, and `place` the file's length; else `ending` is
+ * the number that refuses what stands at `place`. A refused header gives no blocks, its number, and place 0.
  */
 typedef struct {
     uint64_t blocks;
@@ -335,8 +336,9 @@ hg_span hg_mlg_info_span(const uint8_t *file, size_t len);
 
 /*
  * Writes the listing of a file, as the program loglist prints it: a refused file too has a listing, and one of over 65,536
- * bytes the line `too long`. Number: 27.
+ * bytes the line `too long`. No listing is longer than HG_LISTING bytes. Number: 27.
  */
+enum { HG_LISTING = 327680 };
 hg_written hg_list(uint8_t *out, size_t len, const uint8_t *file, size_t file_len);
 
 /*

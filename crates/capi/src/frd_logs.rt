@@ -9,10 +9,10 @@ use crate::flag;
 use frd::Block;
 use frd::Head;
 ghost use mathlib.Core.Path.{_≡_};
-ghost use lib.ListN.{length};
+ghost use lib.ListN.{length, take, drop};
 ghost use Rattle.wire.specs.Writer.{wrote, leaves};
 ghost use Rattle.frd.specs.Counter.{counterOf};
-ghost use Rattle.frd.specs.Header.{headNumber, headerOf, signaturePart};
+ghost use Rattle.frd.specs.Header.{headNumber, headerOf, signatureIn, signaturePart};
 ghost use Rattle.frd.specs.Blocks.{blockAt};
 ghost use Rattle.frd.specs.Log.{fileLog, tallyOf};
 ghost use Rattle.frd.specs.Writers.{headerBytes, headerNumber, dataBytes, dataNumber, timeBytes, roomNumber};
@@ -113,6 +113,7 @@ pub extern "C" fn hg_frd_count_blocks(file: &[u8]) -> frd::Tally
 #[no_mangle]
 pub extern "C" fn hg_frd_signature_span(file: &[u8]) -> frd::Part
     ensures { λ r. ⌜ r ≡ signaturePart (headNumber (now (file .entry))) ⌝ }
+    ensures part { λ r. ⌜ (r .number ≡ 0 → take (r .len) (drop (r .start) (now (file .entry))) ≡ signatureIn (now (file .entry))) ⌝ }
 {
     frd::read_signature(file)
 }

@@ -18,6 +18,7 @@ ghost use Rattle.mlgfile.specs.Log.{tallyIn};
 ghost use Rattle.mlgfile.specs.Parts.{fieldSpan, namesSpan, infoSpan};
 ghost use Rattle.mlgfile.specs.Writing.{headerBytes, headerNumber, dataBytes, markBytes, dataNumber, markNumber};
 ghost use Rattle.listing.specs.Listing.{listingOf, listingNumber};
+ghost use Rattle.listing.specs.Most.{longest};
 ghost use Rattle.capi.specs.Answers.{mlgHeader, noMlgBlock, foundMlgBlock, mlgBlock};
 
 #[no_mangle]
@@ -190,6 +191,7 @@ pub extern "C" fn hg_mlg_write_mark(
 pub extern "C" fn hg_list(out: &mut [u8], file: &[u8]) -> wire::Written
     ensures { λ r. ⌜ (r ≡ wrote (listingNumber (now (file .entry)) (length (now (out .entry)))) (listingOf (now (file .entry))))
         × (now (out .exit) ≡ leaves (listingNumber (now (file .entry)) (length (now (out .entry)))) (listingOf (now (file .entry))) (now (out .entry))) ⌝ }
+    ensures { λ r. ⌜ length (listingOf (now (file .entry))) ≤ longest ⌝ }
 {
     listing::list(out, file)
 }
