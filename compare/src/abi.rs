@@ -177,6 +177,15 @@ pub struct MlgBlock {
     pub right: u8,
 }
 
+/// `ending` is 0 at the file's end, else the number that refuses what stands at `place`.
+#[repr(C)]
+#[derive(Clone, Copy, Debug, Default, PartialEq, Eq)]
+pub struct Tally {
+    pub blocks: u64,
+    pub ending: u8,
+    pub place: usize,
+}
+
 #[repr(C)]
 #[derive(Clone, Copy, Debug, Default, PartialEq, Eq)]
 pub struct Written {
@@ -251,6 +260,7 @@ const _: () = {
     assert!(size_of::<Span>() == 24);
     assert!(size_of::<MlgHeader>() == 20);
     assert!(size_of::<MlgBlock>() == 32);
+    assert!(size_of::<Tally>() == 24);
     assert!(size_of::<Written>() == 16);
     assert!(size_of::<Raw>() == 16);
     assert!(size_of::<Shown>() == 8);

@@ -75,11 +75,20 @@ faults! {
     WriterTouchesRest,
     MarkPaddedWithSpaces,
     TooManyFieldsWritten,
+    TallyWithoutMarks,
+    TallyEndsAtWrongCounter,
+    TallyWithoutPlaceAtEnd,
+    FieldAfterTheLast,
+    NamesToBegin,
+    InfoWithItsZero,
+    EmptyInfoStartsAt0,
     // FRD
     FrdCounterModulo255,
     FrdBeginFree,
     FrdTimeWithoutCounter,
     FrdType0Taken,
+    FrdTallyPlace81OfRefused,
+    SignatureOf62,
     // listing
     NoMarkOfWrongCounter,
     ControlBytesPrinted,
@@ -354,6 +363,53 @@ impl Side for Faulty {
         block
     }
 
+    fn mlg_count_blocks(&self, file: &[u8]) -> Tally {
+        let mut tally = Model.mlg_count_blocks(file);
+        let header = Model.mlg_read_header(file);
+        let mut place = header.begin as usize;
+        for earlier in 0..tally.blocks {
+            let block = Model.mlg_read_block(file, header.size, earlier, place);
+            if self.has(TallyWithoutMarks) && block.kind == BLOCK_MARK {
+                tally.blocks -= 1;
+            }
+            if self.has(TallyEndsAtWrongCounter) && block.right == 0 {
+                return Tally { blocks: earlier, ending: 23, place };
+            }
+            place += if block.kind == BLOCK_DATA { 5 + header.size as usize } else { mlg::MARK };
+        }
+        if self.has(TallyWithoutPlaceAtEnd) && tally.ending == 0 {
+            tally.place = 0;
+        }
+        tally
+    }
+
+    fn mlg_field_span(&self, file: &[u8], index: u16) -> Span {
+        let header = Model.mlg_read_header(file);
+        if self.has(FieldAfterTheLast) && header.number == 0 && index == header.count {
+            return Span { number: 0, start: 24 + 89 * index as usize, count: 89 };
+        }
+        Model.mlg_field_span(file, index)
+    }
+
+    fn mlg_names_span(&self, file: &[u8]) -> Span {
+        let mut span = Model.mlg_names_span(file);
+        if self.has(NamesToBegin) && span.number == 0 {
+            span.count = Model.mlg_read_header(file).begin as usize - span.start;
+        }
+        span
+    }
+
+    fn mlg_info_span(&self, file: &[u8]) -> Span {
+        let mut span = Model.mlg_info_span(file);
+        if self.has(InfoWithItsZero) && span.start != 0 {
+            span.count += 1;
+        }
+        if self.has(EmptyInfoStartsAt0) && span.count == 0 {
+            span.start = 0;
+        }
+        span
+    }
+
     fn mlg_write_header(&self, out: &mut [u8], time: u32, fields: &[u8], names: &[u8], info: &[u8]) -> Written {
         let mut answer = Model.mlg_write_header(out, time, fields, names, info);
         if self.has(EmptyInfoHasZero) && info.is_empty() && answer.number == 0 && out.len() > answer.len {
@@ -436,6 +492,22 @@ impl Side for Faulty {
             block.number = 20;
         }
         block
+    }
+
+    fn frd_count_blocks(&self, file: &[u8]) -> Tally {
+        let tally = Model.frd_count_blocks(file);
+        if self.has(FrdTallyPlace81OfRefused) && Model.frd_read_header(file).number != 0 {
+            return Tally { place: 81, ..tally };
+        }
+        tally
+    }
+
+    fn frd_signature_span(&self, file: &[u8]) -> Span {
+        let mut span = Model.frd_signature_span(file);
+        if self.has(SignatureOf62) && span.number == 0 {
+            span.count = 62;
+        }
+        span
     }
 
     fn frd_write_header(&self, out: &mut [u8], time: u32, signature: &[u8], size: u16) -> Written {

@@ -30,6 +30,10 @@ extern "C" {
 
     fn hg_mlg_read_header(file: *const u8, len: usize) -> MlgHeader;
     fn hg_mlg_read_block(file: *const u8, len: usize, size: u16, earlier: u64, place: usize) -> MlgBlock;
+    fn hg_mlg_count_blocks(file: *const u8, len: usize) -> Tally;
+    fn hg_mlg_field_span(file: *const u8, len: usize, index: u16) -> Span;
+    fn hg_mlg_names_span(file: *const u8, len: usize) -> Span;
+    fn hg_mlg_info_span(file: *const u8, len: usize) -> Span;
     fn hg_mlg_write_header(out: *mut u8, len: usize, time: u32, fields: *const u8, fields_len: usize, names: *const u8, names_len: usize, info: *const u8, info_len: usize) -> Written;
     fn hg_mlg_write_data(out: *mut u8, len: usize, size: u16, earlier: u64, time: u16, record: *const u8, record_len: usize) -> Written;
     fn hg_mlg_write_mark(out: *mut u8, len: usize, earlier: u64, time: u16, text: *const u8, text_len: usize) -> Written;
@@ -38,6 +42,8 @@ extern "C" {
 
     fn hg_frd_read_header(file: *const u8, len: usize) -> FrdHeader;
     fn hg_frd_read_block(file: *const u8, len: usize, size: u16, earlier: u64, place: usize) -> FrdBlock;
+    fn hg_frd_count_blocks(file: *const u8, len: usize) -> Tally;
+    fn hg_frd_signature_span(file: *const u8, len: usize) -> Span;
     fn hg_frd_write_header(out: *mut u8, len: usize, time: u32, signature: *const u8, signature_len: usize, size: u16) -> Written;
     fn hg_frd_write_data(out: *mut u8, len: usize, size: u16, earlier: u64, record: *const u8, record_len: usize) -> Written;
     fn hg_frd_write_time(out: *mut u8, len: usize, earlier: u64, time: u32) -> Written;
@@ -128,6 +134,22 @@ impl Side for Library {
         unsafe { hg_mlg_read_block(file.as_ptr(), file.len(), size, earlier, place) }
     }
 
+    fn mlg_count_blocks(&self, file: &[u8]) -> Tally {
+        unsafe { hg_mlg_count_blocks(file.as_ptr(), file.len()) }
+    }
+
+    fn mlg_field_span(&self, file: &[u8], index: u16) -> Span {
+        unsafe { hg_mlg_field_span(file.as_ptr(), file.len(), index) }
+    }
+
+    fn mlg_names_span(&self, file: &[u8]) -> Span {
+        unsafe { hg_mlg_names_span(file.as_ptr(), file.len()) }
+    }
+
+    fn mlg_info_span(&self, file: &[u8]) -> Span {
+        unsafe { hg_mlg_info_span(file.as_ptr(), file.len()) }
+    }
+
     fn mlg_write_header(&self, out: &mut [u8], time: u32, fields: &[u8], names: &[u8], info: &[u8]) -> Written {
         let (start, len) = (out.as_mut_ptr(), out.len());
         let (f, n, i) = (fields.as_ptr(), names.as_ptr(), info.as_ptr());
@@ -158,6 +180,14 @@ impl Side for Library {
 
     fn frd_read_block(&self, file: &[u8], size: u16, earlier: u64, place: usize) -> FrdBlock {
         unsafe { hg_frd_read_block(file.as_ptr(), file.len(), size, earlier, place) }
+    }
+
+    fn frd_count_blocks(&self, file: &[u8]) -> Tally {
+        unsafe { hg_frd_count_blocks(file.as_ptr(), file.len()) }
+    }
+
+    fn frd_signature_span(&self, file: &[u8]) -> Span {
+        unsafe { hg_frd_signature_span(file.as_ptr(), file.len()) }
     }
 
     fn frd_write_header(&self, out: &mut [u8], time: u32, signature: &[u8], size: u16) -> Written {

@@ -26,6 +26,12 @@ impl Answer for Stepped {
     }
 }
 
+impl Answer for Tally {
+    fn number(&self) -> u8 {
+        self.ending
+    }
+}
+
 impl Answer for u8 {
     fn number(&self) -> u8 {
         *self

@@ -26,6 +26,10 @@ pub trait Side {
 
     fn mlg_read_header(&self, file: &[u8]) -> MlgHeader;
     fn mlg_read_block(&self, file: &[u8], size: u16, earlier: u64, place: usize) -> MlgBlock;
+    fn mlg_count_blocks(&self, file: &[u8]) -> Tally;
+    fn mlg_field_span(&self, file: &[u8], index: u16) -> Span;
+    fn mlg_names_span(&self, file: &[u8]) -> Span;
+    fn mlg_info_span(&self, file: &[u8]) -> Span;
     fn mlg_write_header(&self, out: &mut [u8], time: u32, fields: &[u8], names: &[u8], info: &[u8]) -> Written;
     fn mlg_write_data(&self, out: &mut [u8], size: u16, earlier: u64, time: u16, record: &[u8]) -> Written;
     fn mlg_write_mark(&self, out: &mut [u8], earlier: u64, time: u16, text: &[u8]) -> Written;
@@ -34,6 +38,8 @@ pub trait Side {
 
     fn frd_read_header(&self, file: &[u8]) -> FrdHeader;
     fn frd_read_block(&self, file: &[u8], size: u16, earlier: u64, place: usize) -> FrdBlock;
+    fn frd_count_blocks(&self, file: &[u8]) -> Tally;
+    fn frd_signature_span(&self, file: &[u8]) -> Span;
     fn frd_write_header(&self, out: &mut [u8], time: u32, signature: &[u8], size: u16) -> Written;
     fn frd_write_data(&self, out: &mut [u8], size: u16, earlier: u64, record: &[u8]) -> Written;
     fn frd_write_time(&self, out: &mut [u8], earlier: u64, time: u32) -> Written;
@@ -49,6 +55,14 @@ fn served(answer: Result<Option<Frame>, Number>) -> Served {
         Ok(Some(frame)) => Served { number: 0, answers: 1, frame },
         Ok(None) => Served::default(),
         Err(number) => Served { number, ..Served::default() },
+    }
+}
+
+/// A part of a buffer or of a file, as start and count.
+fn span_of(part: Result<(usize, usize), Number>) -> Span {
+    match part {
+        Ok((start, count)) => Span { number: 0, start, count },
+        Err(number) => Span { number, start: 0, count: 0 },
     }
 }
 
@@ -138,10 +152,7 @@ impl Side for Model {
     }
 
     fn span(&self, b: Bridge, buffer: &[u8], ticket: u32) -> Span {
-        match bridge::bytes(&b, buffer, ticket) {
-            Ok((start, count)) => Span { number: 0, start, count },
-            Err(number) => Span { number, start: 0, count: 0 },
-        }
+        span_of(bridge::bytes(&b, buffer, ticket))
     }
 
     fn close(&self, b: Bridge, ticket: u32) -> Changed {
@@ -209,6 +220,23 @@ impl Side for Model {
         }
     }
 
+    fn mlg_count_blocks(&self, file: &[u8]) -> Tally {
+        let (blocks, ending, place) = mlg::count_blocks(file);
+        Tally { blocks, ending, place }
+    }
+
+    fn mlg_field_span(&self, file: &[u8], index: u16) -> Span {
+        span_of(mlg::field_span(file, index))
+    }
+
+    fn mlg_names_span(&self, file: &[u8]) -> Span {
+        span_of(mlg::names_span(file))
+    }
+
+    fn mlg_info_span(&self, file: &[u8]) -> Span {
+        span_of(mlg::info_span(file))
+    }
+
     fn mlg_write_header(&self, out: &mut [u8], time: u32, fields: &[u8], names: &[u8], info: &[u8]) -> Written {
         let bytes = mlg::write_header(out.len(), time, fields, names, info);
         written(out, bytes)
@@ -257,6 +285,15 @@ impl Side for Model {
             Ok(frd::Block::End) => FrdBlock { kind: BLOCK_END, ..none },
             Err(number) => FrdBlock { place, number, kind: BLOCK_REFUSED, ..none },
         }
+    }
+
+    fn frd_count_blocks(&self, file: &[u8]) -> Tally {
+        let (blocks, ending, place) = frd::count_blocks(file);
+        Tally { blocks, ending, place }
+    }
+
+    fn frd_signature_span(&self, file: &[u8]) -> Span {
+        span_of(frd::signature_span(file))
     }
 
     fn frd_write_header(&self, out: &mut [u8], time: u32, signature: &[u8], size: u16) -> Written {

@@ -223,6 +223,39 @@ fn blocks_of_both_formats() {
 }
 
 #[test]
+fn counts_and_parts() {
+    let mut file = mlg::write_header(1000, 0, &[0; 2 * 89], b"n\0", b"info").unwrap();
+    assert_eq!(mlg::count_blocks(&file), (0, 0, 209));
+    assert_eq!(mlg::field_span(&file, 1), Ok((113, 89)));
+    assert_eq!(mlg::field_span(&file, 2), Err(23));
+    assert_eq!(mlg::names_span(&file), Ok((202, 2)));
+    assert_eq!(mlg::info_span(&file), Ok((204, 4)));
+    file.extend(mlg::write_data(7, 2, 0, 1, &[1, 2]).unwrap());
+    file.extend(mlg::write_mark(54, 9, 2, b"wrong counter").unwrap());
+    assert_eq!(mlg::count_blocks(&file), (2, 0, 270));
+    file.push(2);
+    assert_eq!(mlg::count_blocks(&file), (2, 25, 270));
+    file[23] = 3;
+    assert_eq!(mlg::count_blocks(&file), (0, 20, 0));
+    assert_eq!(mlg::field_span(&file, 9), Err(20));
+    let bare = mlg::write_header(24, 0, b"", b"", b"").unwrap();
+    assert_eq!(mlg::names_span(&bare), Ok((24, 0)));
+    assert_eq!(mlg::info_span(&bare).map(|(_, count)| count), Ok(0));
+
+    let mut file = frd::write_header(81, 5, &[9; 63], 2).unwrap();
+    assert_eq!(frd::count_blocks(&file), (0, 0, 81));
+    assert_eq!(frd::signature_span(&file), Ok((12, 63)));
+    assert_eq!(file[12..75], [9; 63]);
+    file.extend(frd::write_data(4, 2, 0, &[7, 8]).unwrap());
+    file.extend(frd::write_time(6, 7, 9).unwrap());
+    assert_eq!(frd::count_blocks(&file), (2, 0, 91));
+    assert_eq!(frd::count_blocks(&file[..90]), (1, 20, 85));
+    file[78] = 82;
+    assert_eq!(frd::count_blocks(&file), (0, 23, 0));
+    assert_eq!(frd::signature_span(&file), Err(23));
+}
+
+#[test]
 fn values_of_all_types() {
     let field = |kind: u8| {
         let mut field = vec![0; 89];

@@ -1,4 +1,4 @@
-//! FRD files: header, blocks at their places and at others, and the writers.
+//! FRD files: header, signature, blocks at their places, counted and at others, and the writers.
 
 use super::writers::compare_writer;
 use super::{earlier_blocks, output_length, Outcome};
@@ -55,6 +55,11 @@ fn read(rng: &mut Rng, judge: &mut Judge) -> Outcome {
     let input = || format!("file {lent:?}");
     let one = Model.frd_read_header(bytes);
     let header = judge.answer("frd_read_header", one, judge.library.frd_read_header(bytes), &input)?;
+
+    let one = Model.frd_signature_span(bytes);
+    judge.answer("frd_signature_span", one, judge.library.frd_signature_span(bytes), &input)?;
+    let one = Model.frd_count_blocks(bytes);
+    judge.answer("frd_count_blocks", one, judge.library.frd_count_blocks(bytes), &input)?;
 
     let size = if header.number == 0 { header.size } else { size };
     let (mut place, mut earlier) = (81, 0);

@@ -1,4 +1,5 @@
-//! MLG files: the header, the blocks one after the other, and blocks at many other places.
+//! MLG files: the header, the blocks one after the other and counted, blocks at many other
+//! places, and the parts of the header.
 
 use super::logs::{damage, random_log};
 use super::{earlier_blocks, Outcome};
@@ -53,6 +54,7 @@ pub fn run(rng: &mut Rng, judge: &mut Judge) -> Outcome {
         };
         block_at(judge, file, size, earlier_blocks(rng), place)?;
     }
+    parts(rng, judge, file, &header)?;
     judge.same("file afterwards", &Lent::new(&log.file), &lent, &input)?;
     if damages == 0 && !wrong_counters {
         rewrite(judge, &log.file)?;
@@ -65,6 +67,34 @@ fn block_at(judge: &mut Judge, file: &[u8], size: u16, earlier: u64, place: usiz
     let one = Model.mlg_read_block(file, size, earlier, place);
     let other = judge.library.mlg_read_block(file, size, earlier, place);
     judge.answer("mlg_read_block", one, other, &input)
+}
+
+/// The count of the blocks, and where fields, names and info lie.
+fn parts(rng: &mut Rng, judge: &mut Judge, file: &[u8], header: &MlgHeader) -> Outcome {
+    let (side, input) = (judge.library, || format!("file {}", hex(file)));
+    let one = Model.mlg_count_blocks(file);
+    judge.answer("mlg_count_blocks", one, side.mlg_count_blocks(file), &input)?;
+    for _ in 0..3 {
+        let index = match rng.below(6) {
+            0 => header.count,
+            1 => header.count.wrapping_sub(1),
+            2 => header.count.saturating_add(1 + rng.below(3) as u16),
+            3 => rng.u16(),
+            _ => rng.below(header.count.max(1) as usize) as u16,
+        };
+        let input = || format!("index {index} file {}", hex(file));
+        let one = Model.mlg_field_span(file, index);
+        judge.answer("mlg_field_span", one, side.mlg_field_span(file, index), &input)?;
+    }
+    let one = Model.mlg_names_span(file);
+    judge.answer("mlg_names_span", one, side.mlg_names_span(file), &input)?;
+    let mut other = side.mlg_info_span(file);
+    // where the part without bytes starts is open if there is no info, save that it is in the file
+    if header.number == 0 && header.info == 0 && other.count == 0 && other.start <= file.len() {
+        other.start = 0;
+    }
+    judge.answer("mlg_info_span", Model.mlg_info_span(file), other, &input)?;
+    Ok(())
 }
 
 /// A file in this layout, with right counters and zero-padded marks, rewritten from what

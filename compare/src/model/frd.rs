@@ -65,6 +65,31 @@ pub fn read_block(file: &[u8], size: u16, earlier: u64, place: usize) -> Result<
     }
 }
 
+/// How many blocks stand one after the other from 81 on, the number that ended them (0 at
+/// the file's end) and where. A refused header: no blocks, its number, place 0.
+pub fn count_blocks(file: &[u8]) -> (u64, Number, usize) {
+    let header = match read_header(file) {
+        Ok(header) => header,
+        Err(number) => return (0, number, 0),
+    };
+    let (mut blocks, mut place) = (0, HEADER);
+    loop {
+        match read_block(file, header.size, blocks, place) {
+            Ok(Block::Data { count, .. }) => place += 2 + count,
+            Ok(Block::Time { .. }) => place += 6,
+            Ok(Block::End) => return (blocks, 0, place),
+            Err(number) => return (blocks, number, place),
+        }
+        blocks += 1;
+    }
+}
+
+/// Where the signature starts, after name, version and time, and its length.
+pub fn signature_span(file: &[u8]) -> Result<(usize, usize), Number> {
+    read_header(file)?;
+    Ok((6 + 2 + 4, SIGNATURE))
+}
+
 /// 23 for a signature not of 63 bytes, then 27.
 pub fn write_header(output: usize, time: u32, signature: &[u8], size: u16) -> Result<Vec<u8>, Number> {
     if signature.len() != SIGNATURE {

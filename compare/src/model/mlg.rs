@@ -194,6 +194,45 @@ pub fn block_length(block: &Block) -> usize {
     }
 }
 
+/// How many blocks stand one after the other from data begin on, the number that ended them
+/// (0 at the file's end) and where. A refused header: no blocks, its number, place 0.
+pub fn count_blocks(file: &[u8]) -> (u64, Number, usize) {
+    let header = match read_header(file) {
+        Ok(header) => header,
+        Err(number) => return (0, number, 0),
+    };
+    let (mut blocks, mut place) = (0, header.begin as usize);
+    loop {
+        match read_block(file, header.size, blocks, place) {
+            Ok(Block::End) => return (blocks, 0, place),
+            Ok(block) => place += block_length(&block),
+            Err(number) => return (blocks, number, place),
+        }
+        blocks += 1;
+    }
+}
+
+/// Where a field's 89 bytes start, and their number; 23 for a field that is not there.
+pub fn field_span(file: &[u8], index: u16) -> Result<(usize, usize), Number> {
+    let header = read_header(file)?;
+    if index >= header.count {
+        return Err(23);
+    }
+    Ok((HEADER + FIELD * index as usize, FIELD))
+}
+
+/// The names area's start, which is the fields' end, and its length.
+pub fn names_span(file: &[u8]) -> Result<(usize, usize), Number> {
+    let header = read_header(file)?;
+    Ok((header.fields_end(), names_area(file, &header).len()))
+}
+
+/// Info start and the length of the text there; both 0 where there is no info.
+pub fn info_span(file: &[u8]) -> Result<(usize, usize), Number> {
+    let header = read_header(file)?;
+    Ok((header.info as usize, info_text(file, &header).len()))
+}
+
 /// The sum of the record's bytes, modulo 256.
 pub fn sum(record: &[u8]) -> u8 {
     (record.iter().map(|byte| *byte as usize).sum::<usize>() % 256) as u8
