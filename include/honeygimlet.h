@@ -327,7 +327,7 @@ hg_tally hg_mlg_count_blocks(const uint8_t *file, size_t len);
 
 /*
  * Parts of a file: the 89 bytes of field `index`, counted from 0; the names area, from the fields' end to the info or to data
- * begin; the info text without its zero (no bytes where there is none).
+ * begin; the info text without its zero (start 0 and no bytes where there is none).
  * Numbers: as hg_mlg_read_header, then 23 for a field that is not there.
  */
 hg_span hg_mlg_field_span(const uint8_t *file, size_t len, uint16_t index);

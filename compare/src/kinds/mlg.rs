@@ -88,12 +88,7 @@ fn parts(rng: &mut Rng, judge: &mut Judge, file: &[u8], header: &MlgHeader) -> O
     }
     let one = Model.mlg_names_span(file);
     judge.answer("mlg_names_span", one, side.mlg_names_span(file), &input)?;
-    let mut other = side.mlg_info_span(file);
-    // where the part without bytes starts is open if there is no info, save that it is in the file
-    if header.number == 0 && header.info == 0 && other.count == 0 && other.start <= file.len() {
-        other.start = 0;
-    }
-    judge.answer("mlg_info_span", Model.mlg_info_span(file), other, &input)?;
+    judge.answer("mlg_info_span", Model.mlg_info_span(file), side.mlg_info_span(file), &input)?;
     Ok(())
 }
 
