@@ -2,7 +2,8 @@
 ghost use mathlib.Core.Path.{_≡_};
 ghost use Prim.Native.Nat.{_+_, _<_, _≤_, _^_};
 ghost use lib.ListN.{length, getD};
-ghost use Rattle.mlgfile.specs.Block.{counterOf, blockLen, lastOf, blockNumber, partsOf, blockOf};
+ghost use Rattle.wire.specs.Text.{textLen};
+ghost use Rattle.mlgfile.specs.Block.{counterOf, blockLen, textIn, lastOf, blockNumber, partsOf, blockOf};
 use crate::Block;
 
 // The counter of a block after the given number of earlier blocks.
@@ -36,11 +37,20 @@ pub(crate) fn sum_number(t: &[u8], size: u16) -> u8
     0
 }
 
+// The length of a mark's text, before its zero. One function for both of its callers: the search is unrolled, and a block reader
+// that held it twice would be too long to inline.
+fn mark_len(t: &[u8]) -> usize
+    requires { ⌜ 54 ≤ length (now t) ⌝ }
+    ensures { λ r. ⌜ r ≡ textLen (textIn (now (t .entry))) ⌝ }
+{
+    wire::text_len(&t[4..54])
+}
+
 pub(crate) fn text_number(t: &[u8], size: u16) -> u8
     requires { ⌜ 54 ≤ length (now t) ⌝ }
     ensures { λ r. ⌜ r ≡ lastOf 1 size (now (t .entry)) ⌝ }
 {
-    if 50 <= wire::text_len(&t[4..54]) {
+    if 50 <= mark_len(t) {
         return 28;
     }
     0
@@ -82,7 +92,7 @@ pub(crate) fn block_parts(t: &[u8], size: u16, counter: u8, at: usize) -> Block
             right,
         };
     }
-    let len = wire::text_len(&t[4..54]);
+    let len = mark_len(t);
     Block::Mark {
         counter: own,
         time,

@@ -20,23 +20,14 @@ add-t14 c = search needs
 returns : tie.Need-returns
 returns c = rw (c .before .before .be16 .ensures) (sym (parts-data _ _ _ _ (c .if1 .taken)))
 
-sub-text-len : tie.Need-sub-text-len
-sub-text-len c = search needs
+mark-len-requires : tie.Need-mark-len-requires
+mark-len-requires c κs = omega (arith, mark-whole _ _ (c .before .before .before .before .before .pre .1) (c .if1 .left))
 
-part-text-len-start : tie.Need-part-text-len-start
-part-text-len-start c = search needs
-
-part-text-len-end : tie.Need-part-text-len-end
-part-text-len-end c = omega (arith, mark-whole _ _ (c .before .before .before .before .before .pre .1) (c .if1 .left))
-
-text-len-requires : tie.Need-text-len-requires
-text-len-requires c κs = search needs
-
-add-t16 : tie.Need-add-t16
-add-t16 c = search needs
+add-t15 : tie.Need-add-t15
+add-t15 c = search needs
 
 returns-2 : tie.Need-returns-2
-returns-2 c = rw (c .before .before .before .before .be16 .ensures, c .text-len .ensures) (sym (parts-mark _ _ _ _ (c .before .before .if1 .left)))
+returns-2 c = rw (c .before .before .before .be16 .ensures, c .mark-len .ensures) (sym (parts-mark _ _ _ _ (c .before .if1 .left)))
 
 pub block-parts-spec : {M : Type 1} → statement M
 block-parts-spec =
@@ -47,9 +38,6 @@ block-parts-spec =
     shared-slice-read-kind
     add-t14
     returns
-    sub-text-len
-    part-text-len-start
-    part-text-len-end
-    text-len-requires
-    add-t16
+    mark-len-requires
+    add-t15
     returns-2)
