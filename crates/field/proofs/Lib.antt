@@ -3,4 +3,3 @@ pub mod Types
 pub mod Raws
 pub mod Finite
 pub mod Scalings
-pub mod Reckonings

@@ -3,4 +3,3 @@ pub mod Types
 pub mod Field
 pub mod Raw
 pub mod Shown
-pub mod Reckonings

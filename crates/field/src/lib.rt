@@ -13,7 +13,6 @@ ghost use Rattle.field.specs.Field.{typeNumber, typeOf, fieldSize};
 ghost use Rattle.field.specs.Raw.{valueFieldNumber, valueNumber, rawOf, rawAt, rawAnswer};
 ghost use Rattle.field.specs.Shown.{shows, finite, rawFloat, scaled, scaledNumber, applied, shownNumber, shownOf, shownAt, zeroFloat, shownAnswer};
 ghost use Rattle.field.specs.Shown.{scalingIn, partsNumber, scalingNumber, scalingAt, zeroScaling, scalingAnswer};
-ghost use Rattle.field.specs.Reckonings.{Reckonings};
 
 // Bytes of a header, of the info start in it, and of a field.
 pub struct Layout {
@@ -294,7 +293,6 @@ fn shown_of(field: &[u8], raw: &[u8]) -> ShownValue
 pub fn shown_value(field: &[u8], raw: &[u8]) -> ShownValue
     ensures { λ r. ⌜ (r ≡ shownAt 2 (now (field .entry)) (now (raw .entry)))
         × (shownAnswer r ≡ result zeroFloat (shownNumber 2 (now (field .entry)) (now (raw .entry))) (shownOf (now (field .entry)) (now (raw .entry)))) ⌝ }
-    ensures reckoned { λ _. ⌜ Reckonings ⌝ }
 {
     let number = value_number(2, field, raw);
     if number != 0 {

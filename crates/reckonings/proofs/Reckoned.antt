@@ -12,8 +12,7 @@ use Rattle.field.specs.Types.{sizeOf}
 use Rattle.field.specs.Field.{typeNumber}
 use Rattle.field.specs.Raw.{valueFieldNumber, valueNumber, signedType, rawOf, rawAt}
 use Rattle.field.specs.Shown.{shows, finite, scalingIn, rawFloat, scaledNumber, shownNumber, shownAt}
-use Rattle.field.specs.Reckonings.{scalar}
-use Rattle.reckonings.specs.Reckonings.{Reckonings, table, compute, directory, f32}
+use Rattle.reckonings.specs.Reckonings.{Reckonings, table, compute, directory, scalar, f32}
 
 unfoldable floats : Unit {0}
 unfolding add mul div ofInt ofBits toBits ofFields round units odd climb span size

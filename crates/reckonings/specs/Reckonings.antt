@@ -24,10 +24,10 @@ use Rattle.transfer.specs.Model as B
 use Rattle.transfer.specs.Statement.{answerTo, runOf}
 use Rattle.mlgfile.specs.Block.{sumIn}
 use Rattle.mlgfile.specs.Writing.{dataBytes}
+use Rattle.wire.specs.BigEndian.{bytesOf}
 use Rattle.field.specs.Types.{U08, S08, S16}
 use Rattle.field.specs.Raw.{rawAt}
 use Rattle.field.specs.Shown.{shownAt}
-use Rattle.field.specs.Reckonings.{scalar}
 use Rattle.field.specs.declared.RawValue.{RawValue}
 use Rattle.field.specs.declared.RawValue.the-variants as R
 use Rattle.field.specs.declared.ShownValue.{ShownValue}
@@ -74,6 +74,10 @@ directory n = record {
   «write_blocking» = 0;
   own = 0;
 }
+
+-- a scalar field, by its type and the bits of its scale and its transform; all else 0
+unfoldable pub scalar : (type scale transform : ℕ) → List ℕ
+scalar t s m = t ∷ replicate 45 0 ++ bytesOf 4 s ++ bytesOf 4 m ++ replicate 35 0
 
 unfoldable pub compute : Question → Answer
 compute (identifier o k f t n) = packed (packOf (record { offset = o; kind = k; from = f; to = t; table = n }))

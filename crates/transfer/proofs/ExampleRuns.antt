@@ -638,11 +638,8 @@ late-shows = record {
 -- ── reckonings ─────────────────────────────────────────────────────────────────────────────────────────────────────
 
 reckoned : Reckonings
-unfolding everything alone reply silence sendsOf
+unfolding everything silence sendsOf
 reckoned = record {
-  first = refl;
-  replied = refl;
-  second = refl;
   sends = refl;
   notYet = refl;
   givenUp = refl;

@@ -247,7 +247,7 @@ pub record LateShows : Type 0 where
   -- the premise that fails: the transfer whose request is answered was closed
   pub closed : (y : Transfer (run late)) × Sent (run late) y 0 1 × (¬ Stands (run late) y 5)
 
--- ── 01's reckonings of the bridge ──────────────────────────────────────────────────────────────────────────────────
+-- ── 01's reckonings of the bridge that are not marked * ────────────────────────────────────────────────────────────
 
 -- one read, and a device that never replies: event k is turn k
 unfoldable pub silence : List Call
@@ -263,10 +263,6 @@ sendsOf r (suc n) = sendsOf r n ++ yielded (answer r n .sent) n
     yielded (some f) k = k ∷ []
 
 pub record Reckonings : Type 0 where
-  -- bridge 0 reads 10 bytes, device 5, table 7, offset 6: first 0x1882B8 `06 00 08`; after reply 0x12830, 0x3882B8 `06 01 02`
-  pub first : answer (run alone) 1 .sent ≡ some (frameOf 0x1882B8 (0x06 ∷ 0x00 ∷ 0x08 ∷ []))
-  pub replied : reply 5 0 [] .id ≡ 0x12830
-  pub second : answer (run alone) 3 .sent ≡ some (frameOf 0x3882B8 (0x06 ∷ 0x01 ∷ 0x02 ∷ []))
   -- silent device, alone: sends on turns 1, 21, 41; gives up on turn 61
   pub sends : sendsOf (run silence) 62 ≡ 1 ∷ 21 ∷ 41 ∷ []
   pub notYet : answerTo (run silence) 61 (status 1) .number ≡ 15
