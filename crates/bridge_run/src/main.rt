@@ -1,4 +1,4 @@
-// Runs 01's reckonings of the bridge, and a script of four askers.
+// Runs a whole read, and a script of four askers.
 use bridge::Bridge;
 use bridge::Opened;
 use bridge::Slot;
@@ -202,44 +202,6 @@ fn two_requests() {
     shown(w, 1);
 }
 
-// One turn of a silent device's reader: whether it sends, and whether it gives up.
-fn waited(w: World, i: u64) -> World {
-    let buffer = w.buffer;
-    let s = turn(w.bridge, &buffer);
-    let a = s.answer;
-    if a.answers == 1 {
-        line(b"sends on turn", i);
-    }
-    let before = status(w.bridge, 1);
-    let bridge = s.bridge;
-    let after = status(bridge, 1);
-    if before != after {
-        line(b"gives up on turn", i);
-    }
-    World {
-        bridge: bridge,
-        buffer: buffer,
-    }
-}
-
-// A silent device, alone: the turns that send, and the turn that gives up.
-fn silent() {
-    text(b"silent device\n");
-    let mut w = read(fresh(0), 5, 7, 6, 10);
-    let mut i: u64 = 1;
-    while i < 63 {
-        w = waited(w, i);
-        i += 1;
-    }
-}
-
-fn counts() {
-    text(b"counts 128, 129 and 0\n");
-    read(fresh(0), 5, 7, 6, 128);
-    read(fresh(0), 5, 7, 6, 129);
-    read(fresh(0), 5, 7, 6, 0);
-}
-
 // Four askers of bridge 2: reads from devices 5 and 3, a write, and a read that nobody answers. A fifth finds no slot.
 fn begin() -> World {
     let w = read(fresh(2), 5, 7, 6, 10);
@@ -280,7 +242,5 @@ fn four_askers() {
 
 fn main() {
     two_requests();
-    silent();
-    counts();
     four_askers();
 }

@@ -1,4 +1,4 @@
-// Runs the reckonings of the bus in 01, and the worked examples of 002, one line each.
+// Runs the worked examples of 002, one line each.
 use bus::Asked;
 use bus::Directory;
 use bus::Frame;
@@ -114,23 +114,6 @@ fn unpacks(id: u32) {
     }
 }
 
-// From device 5 to table 20 of device 0.
-fn parts_at(kind: u8, offset: u16) -> Parts {
-    Parts {
-        offset,
-        kind,
-        from: 5,
-        to: 0,
-        table: 20,
-    }
-}
-
-// What a CMD to an offset packs to.
-fn packs_offset(offset: u16) {
-    let l = labelled(empty(), b"offset ", offset as u64);
-    print(packs(l, parts_at(0, offset)));
-}
-
 // What request bytes ask for, and the bytes that ask for that.
 fn asks(a: u8, b: u8, c: u8) {
     let l = byte(byte(byte(text(empty(), b"request"), a), b), c);
@@ -172,47 +155,6 @@ fn directory(sizes: [u16; 32], rights: [u8; 32]) -> Directory {
     }
 }
 
-// Only table 20, of this size, to be read and written.
-fn one_table(size: u16) -> Directory {
-    let mut sizes = [0u16; 32];
-    let mut rights = [0u8; 32];
-    sizes[20] = size;
-    rights[20] = 2;
-    directory(sizes, rights)
-}
-
-// A frame to an offset; its identifier is 0 where the offset packs into none.
-fn frame_at(kind: u8, offset: u16, len: u8, bytes: [u8; 8]) -> Frame {
-    let packed = bus::ident::pack(parts_at(kind, offset));
-    match packed {
-        Packed::Is(id) => Frame { id, len, bytes },
-        Packed::Refused(_) => Frame { id: 0, len, bytes },
-    }
-}
-
-// A CMD of the bytes 1 to 8 at an offset, and the last two bytes of the table after it.
-fn command_at(size: u16, memory: &mut [u8], offset: u16) {
-    let l = labelled(empty(), b"table of ", size as u64);
-    let l = labelled(l, b", CMD of 8 bytes at ", offset as u64);
-    let f = frame_at(0, offset, 8, [1, 2, 3, 4, 5, 6, 7, 8]);
-    let l = answer(l, bus::holder::serve(one_table(size), memory, f));
-    let n = memory.len();
-    if n < 2 {
-        print(l);
-        return;
-    }
-    let l = text(l, b"; last two bytes");
-    print(byte(byte(l, memory[n - 2]), memory[n - 1]));
-}
-
-// A REQ for eight bytes at an offset, to table 6, offset 128.
-fn request_at(size: u16, memory: &mut [u8], offset: u16) {
-    let l = labelled(empty(), b"table of ", size as u64);
-    let l = labelled(l, b", REQ for 8 bytes at ", offset as u64);
-    let f = frame_at(1, offset, 3, [6, 16, 8, 0, 0, 0, 0, 0]);
-    print(answer(l, bus::holder::serve(one_table(size), memory, f)));
-}
-
 // The tables of 002's examples: table 7, of 8 bytes, and table 15, of 20 bytes, to be read.
 fn two_tables() -> Directory {
     let mut sizes = [0u16; 32];
@@ -240,15 +182,7 @@ fn replies(id: u32, a: u8, b: u8, c: u8, high: u8, low: u8) {
     print(answer(l, bus::holder::serve(two_tables(), &mut memory, f)));
 }
 
-fn identifiers_of_01() {
-    unpacks(0x18a838);
-    unpacks(0x24);
-    unpacks(0x1ffffffc);
-    unpacks(0x1ffffffd);
-    unpacks(0x20000000);
-}
-
-fn identifiers_of_002() {
+fn identifiers() {
     unpacks(0xb878);
     unpacks(0x103b0);
     unpacks(0x20b878);
@@ -257,32 +191,10 @@ fn identifiers_of_002() {
     unpacks(0x903b8);
 }
 
-fn ends_of_tables() {
-    let mut large = [0u8; 2056];
-    command_at(2056, &mut large, 2047);
-    request_at(2056, &mut large, 2047);
-    packs_offset(2047);
-    packs_offset(2048);
-    let mut small = [0u8; 1024];
-    command_at(1024, &mut small, 1017);
-    command_at(1024, &mut small, 1016);
-    request_at(1024, &mut small, 1016);
-    request_at(1024, &mut small, 1017);
-}
-
 fn main() {
-    print(text(empty(), b"01, identifiers"));
-    identifiers_of_01();
-    print(text(empty(), b"01, request bytes"));
-    asks(0x06, 0x10, 0x02);
-    asks(0x06, 0x10, 0x12);
-    asks(0x1f, 0xff, 0xe8);
-    replies(0x18a838, 0x06, 0x10, 0x02, 0x0b, 0xb8);
-    print(text(empty(), b"01, ends of tables"));
-    ends_of_tables();
-    print(text(empty(), b"002, identifiers"));
-    identifiers_of_002();
-    print(text(empty(), b"002, requests and replies"));
+    print(text(empty(), b"identifiers"));
+    identifiers();
+    print(text(empty(), b"requests and replies"));
     replies(0xb878, 0x06, 0x00, 0x08, 0, 0);
     replies(0x20b878, 0x06, 0x00, 0x08, 0, 0);
     replies(0x40b878, 0x06, 0x00, 0x04, 0, 0);
