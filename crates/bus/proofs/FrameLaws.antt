@@ -74,17 +74,16 @@ padded-after bs h i l =
     rw (padded-is bs h) ((rw e at (getD-append-add bs (replicate (8 - length bs) 0) (i - length bs) 0)) ∙ zeros-at (8 - length bs) (i - length bs))
 
 -- the bytes of a frame that count
-pub content-length : (f : Frame) → length (f .bytes) ≡ 8 → f .len ≤ 8 → length (content f) ≡ f .len
+pub content-min : (f : Frame) → length (f .bytes) ≡ 8 → length (content f) ≡ min (f .len) 8
 unfolding content
-content-length f h l = length-take-le (f .len) (f .bytes) (omega arith)
+content-min f h = simp length-take (omega arith)
+
+pub content-length : (f : Frame) → length (f .bytes) ≡ 8 → f .len ≤ 8 → length (content f) ≡ f .len
+content-length f h l = omega (arith, content-min f h)
 
 pub content-at : (f : Frame) (i : ℕ) → i < f .len → getD (content f) i 0 ≡ getD (f .bytes) i 0
 unfolding content
 content-at f i h = getD-take (f .len) (f .bytes) i 0 h
-
-pub content-min : (f : Frame) → length (f .bytes) ≡ 8 → length (content f) ≡ min (f .len) 8
-unfolding content
-content-min f h = rw h at (length-take (f .len) (f .bytes))
 
 -- the length of a frame that no receiver refuses
 pub head-short : (own : ℕ) (f : Frame) → headNumber own f ≡ 0 → f .len ≤ 8
@@ -102,17 +101,18 @@ part-is m at n = let e : at + n - at ≡ n = omega arith in rw e
 pub part-length : (m : List ℕ) (at n : ℕ) → at + n ≤ length m → length (take n (drop at m)) ≡ n
 part-length m at n h = length-take-le n (drop at m) (simp length-drop (omega arith))
 
--- bytes set one after the other from a place on: one more after the first, and after the first i of them byte i
+-- bytes set one after the other from a place on: the last of them
 sets-last : (bs m : List ℕ) (at b : ℕ) → sets m at (bs ++ (b ∷ [])) ≡ set (sets m at bs) (at + length bs) b
 sets-last [] m at b = rw add-zero
 sets-last (a ∷ bs) m at b = let e : at + suc (length bs) ≡ suc at + length bs = omega arith in rw e (sets-last bs (set m at a) (suc at) b)
 
 module _ (m : List ℕ) (at : ℕ) (bs : List ℕ) (i : ℕ) where
+  -- byte i, after the i before it
   pub sets-next : i < length bs → set (sets m at (take i bs)) (at + i) (getD bs i 0) ≡ sets m at (take (i + 1) bs)
   sets-next h =
       let l : length (take i bs) ≡ i = length-take-le i bs (omega arith) in
-      sym (rw (add-one, take-suc bs i 0 h) ((rw l at (sets-last (take i bs) m at (getD bs i 0)))))
+      sym (rw (add-one, take-suc bs i 0 h) (rw l at (sets-last (take i bs) m at (getD bs i 0))))
 
-  -- there are no more
+  -- none, past the last
   pub sets-done : length bs ≤ i → sets m at (take i bs) ≡ sets m at (take (i + 1) bs)
   sets-done h = ap (sets m at) (take-all i bs h ∙ sym (take-all (i + 1) bs (omega arith)))
