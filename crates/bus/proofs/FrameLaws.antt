@@ -1,15 +1,18 @@
--- Laws of frames: bytes padded with zeros, and the bytes that count.
+-- Laws of frames: bytes padded with zeros, the bytes that count, and bytes set one after the other.
 use mathlib.Core.Path.{_≡_, refl, sym, _∙_, ap}
 use mathlib.Core.List.{List, [], _∷_, _++_}
-use Prim.Native.Nat.{ℕ, zero, suc, _+_, _-_, _≤_, _<_}
-use native.Mathlib.Nat.{zero-add}
+use Prim.Native.Nat.{ℕ, zero, suc, _+_, _-_, _≤_, _<_, min}
+use native.Mathlib.Nat.{zero-add, add-zero}
+use native.Mathlib.Numerals.{add-one}
 use native.Mathlib.Omega.{arith}
-use lib.ListN.{length, getD, take, drop, replicate, length-append, length-take, length-drop, length-replicate, List·getD-append}
-use lib.Seq.{take-append-add, take-take, take-append-seam, getD-append-add, getD-take, length-take-le}
+use native.Mathlib.Decide.{decLt}
+use lib.ListN.{length, getD, take, drop, set, replicate, length-append, length-take, length-drop, length-replicate, List·getD-append}
+use lib.Seq.{sets, take-suc, take-all, take-append-le, take-append-add, take-take, getD-append-add, getD-take, length-take-le}
 use borrow.Author.Tests.{ltb-false}
 use Rattle.wire.specs.Put.{putAt, putOf}
 use Rattle.wire.proofs.Orders.{if-zero}
-use Rattle.wire.proofs.Puts.{put-fits}
+use Rattle.wire.proofs.Parts.{take-length-le}
+use Rattle.wire.proofs.Puts.{put-fits, put-sets}
 use Rattle.bus.specs.Frames.{Frame, padded, content, headNumber}
 
 drop-same : (n m a : ℕ) → drop n (replicate m a) ≡ replicate (m - n) a
@@ -42,6 +45,23 @@ padded-put bs h =
     ∙ rw zero-add (ap (λ (l : List ℕ). bs ++ l) (drop-same (length bs) 8 0))
     ∙ sym (padded-is bs h)
 
+-- only the first eight count
+padded-take : (bs : List ℕ) → padded (take 8 bs) ≡ padded bs
+unfolding padded
+padded-take bs = go (decLt (length bs) 8)
+  where
+    go : Dec (length bs < 8) → take 8 (take 8 bs ++ replicate 8 0) ≡ take 8 (bs ++ replicate 8 0)
+    go (yes p) = rw (take-all 8 bs (omega arith))
+    go (no p) =
+        let l : length (take 8 bs) ≡ 8 = length-take-le 8 bs (omega arith) in
+        take-append-le 8 (take 8 bs) (replicate 8 0) (omega arith) ∙ take-take 8 8 bs (omega arith) ∙ sym (take-append-le 8 bs (replicate 8 0) (omega arith))
+
+-- set one after the other in eight zeros
+pub padded-sets : (bs : List ℕ) → sets (replicate 8 0) 0 (take 8 bs) ≡ padded bs
+padded-sets bs =
+    let h = take-length-le 8 bs in
+    sym (put-sets (replicate 8 0) 0 (take 8 bs) (omega arith)) ∙ padded-put (take 8 bs) h ∙ padded-take bs
+
 pub padded-length : (bs : List ℕ) → length bs ≤ 8 → length (padded bs) ≡ 8
 padded-length bs h = rw (padded-is bs h, length-append, length-replicate) (omega arith)
 
@@ -54,9 +74,12 @@ padded-after bs h i l =
     rw (padded-is bs h) ((rw e at (getD-append-add bs (replicate (8 - length bs) 0) (i - length bs) 0)) ∙ zeros-at (8 - length bs) (i - length bs))
 
 -- the bytes of a frame that count
-pub content-length : (f : Frame) → length (f .bytes) ≡ 8 → f .len ≤ 8 → length (content f) ≡ f .len
+pub content-min : (f : Frame) → length (f .bytes) ≡ 8 → length (content f) ≡ min (f .len) 8
 unfolding content
-content-length f h l = length-take-le (f .len) (f .bytes) (omega arith)
+content-min f h = simp length-take (omega arith)
+
+pub content-length : (f : Frame) → length (f .bytes) ≡ 8 → f .len ≤ 8 → length (content f) ≡ f .len
+content-length f h l = omega (arith, content-min f h)
 
 pub content-at : (f : Frame) (i : ℕ) → i < f .len → getD (content f) i 0 ≡ getD (f .bytes) i 0
 unfolding content
@@ -77,3 +100,19 @@ part-is m at n = let e : at + n - at ≡ n = omega arith in rw e
 
 pub part-length : (m : List ℕ) (at n : ℕ) → at + n ≤ length m → length (take n (drop at m)) ≡ n
 part-length m at n h = length-take-le n (drop at m) (simp length-drop (omega arith))
+
+-- bytes set one after the other from a place on: the last of them
+sets-last : (bs m : List ℕ) (at b : ℕ) → sets m at (bs ++ (b ∷ [])) ≡ set (sets m at bs) (at + length bs) b
+sets-last [] m at b = rw add-zero
+sets-last (a ∷ bs) m at b = let e : at + suc (length bs) ≡ suc at + length bs = omega arith in rw e (sets-last bs (set m at a) (suc at) b)
+
+module _ (m : List ℕ) (at : ℕ) (bs : List ℕ) (i : ℕ) where
+  -- byte i, after the i before it
+  pub sets-next : i < length bs → set (sets m at (take i bs)) (at + i) (getD bs i 0) ≡ sets m at (take (i + 1) bs)
+  sets-next h =
+      let l : length (take i bs) ≡ i = length-take-le i bs (omega arith) in
+      sym (rw (add-one, take-suc bs i 0 h) (rw l at (sets-last (take i bs) m at (getD bs i 0))))
+
+  -- none, past the last
+  pub sets-done : length bs ≤ i → sets m at (take i bs) ≡ sets m at (take (i + 1) bs)
+  sets-done h = ap (sets m at) (take-all i bs h ∙ sym (take-all (i + 1) bs (omega arith)))

@@ -7,6 +7,8 @@ use crate::RSP;
 use crate::Request;
 use crate::Served;
 use crate::XTND;
+use crate::frames::copy_content;
+use crate::frames::padded;
 use crate::rows::from_of;
 use crate::rows::head_number;
 use crate::rows::id_of;
@@ -17,25 +19,32 @@ use crate::rows::request_of;
 use crate::rows::table_of;
 ghost use mathlib.Core.Path.{_≡_};
 ghost use Prim.Native.Nat.{ℕ, _+_, _*_, _≤_, _<_};
-ghost use mathlib.Core.List.{List};
 ghost use lib.ListN.{length, take, drop};
-ghost use lib.Seq.{sets};
-ghost use Rattle.bus.specs.Frames.{padded};
-ghost use Rattle.bus.specs.Holder.{startOf, totalOf, soundTables, directoryNumber, memoryNumber, commandNumber, askNumber, queryNumber, kindNumber, serveNumber, byteOf, requestAt, noAnswer, replyTo, placeOf, protocol, actOf, memoryAct, serveOf, memoryOf};
+ghost use Rattle.bus.specs.Holder.{startOf, sizeOf, rightOf, totalOf, soundTables, directoryNumber, memoryNumber, commandNumber, askNumber, queryNumber, kindNumber, serveNumber, requestAt, tableOf, noAnswer, replyTo, placeOf, protocol, actOf, memoryAct, serveOf, memoryOf};
 ghost use Rattle.bus.specs.Demand2.{Demand2};
 
-// Where table k starts: the sum of the sizes before it.
-fn start(d: Directory, k: usize) -> usize
-    requires { ⌜ k ≤ 32 ⌝ }
-    ensures { λ r. ⌜ (r ≡ startOf d k) × (r ≤ 65535 * k) ⌝ }
+// A table's start, which is the sum of the sizes before it, size and right.
+struct Table {
+    start: u32,
+    size: u16,
+    right: u8,
+}
+
+fn table_at(d: Directory, k: usize) -> Table
+    requires { ⌜ k < 32 ⌝ }
+    ensures { λ r. ⌜ (r .start ≡ startOf d k) × (r .size ≡ sizeOf d k) × (r .right ≡ rightOf d k) × (r .start ≤ 65535 * k) ⌝ }
 {
-    let mut sum: u32 = 0;
+    let mut start: u32 = 0;
     let mut i = 0;
     while i < k {
-        sum += d.sizes[i] as u32;
+        start += d.sizes[i] as u32;
         i += 1;
     }
-    sum as usize
+    Table {
+        start,
+        size: d.sizes[k],
+        right: d.rights[k],
+    }
 }
 
 // Whether all tables are sound, and the sum of their sizes.
@@ -166,9 +175,9 @@ fn query_number(len: u8, first: u8, reserved: bool, count: u8) -> u8
     9
 }
 
-// 5, 6, 7, 9 and 8, by the frame's type.
-fn kind_number(d: Directory, f: Frame) -> u8
-    ensures { λ r. ⌜ r ≡ kindNumber d f ⌝ }
+// 5, 6, 7, 9 and 8, by the frame's type; t is the table that the frame addresses.
+fn kind_number(t: Table, f: Frame) -> u8
+    ensures { λ r. ⌜ ((d : Directory) → t .size ≡ sizeOf d (tableOf f) → t .right ≡ rightOf d (tableOf f) → r ≡ kindNumber d f) ⌝ }
 {
     let id = f.id;
     let kind = kind_of(id);
@@ -176,21 +185,26 @@ fn kind_number(d: Directory, f: Frame) -> u8
         let reserved = is_reserved(f.bytes[1], f.bytes[3]);
         return query_number(f.len, f.bytes[0], reserved, f.bytes[3] % 16);
     }
-    let t = table_of(id) as usize;
-    let size = d.sizes[t];
-    let right = d.rights[t];
     if kind == CMD {
-        return command_number(f.len, size, right, offset_of(id));
+        return command_number(f.len, t.size, t.right, offset_of(id));
     }
     if kind == REQ {
         let reserved = is_reserved(f.bytes[0], f.bytes[2]);
-        return ask_number(f.len, reserved, size, right, offset_of(id), f.bytes[2] % 16);
+        return ask_number(
+            f.len,
+            reserved,
+            t.size,
+            t.right,
+            offset_of(id),
+            f.bytes[2] % 16,
+        );
     }
     5
 }
 
-// The number of the answer: the refusals in their order, or 0; n is the memory's length.
-fn serve_number(d: Directory, n: usize, f: Frame) -> u8
+// The number of the answer: the refusals in their order, or 0; t is the addressed table, n the memory's length.
+fn serve_number(d: Directory, t: Table, n: usize, f: Frame) -> u8
+    requires { ⌜ (t .size ≡ sizeOf d (tableOf f)) × (t .right ≡ rightOf d (tableOf f)) ⌝ }
     ensures { λ r. ⌜ r ≡ serveNumber d n f ⌝ }
 {
     let memory = memory_number(d, n);
@@ -201,7 +215,7 @@ fn serve_number(d: Directory, n: usize, f: Frame) -> u8
     if head != 0 {
         return head;
     }
-    kind_number(d, f)
+    kind_number(t, f)
 }
 
 // A number and no frame.
@@ -219,19 +233,9 @@ fn no_answer(number: u8) -> Served
     }
 }
 
-// The bytes, and zeros up to eight.
-fn eight(bytes: &[u8]) -> [u8; 8]
-    requires { ⌜ length (now bytes) ≤ 8 ⌝ }
-    ensures { λ r. ⌜ r ≡ padded (now (bytes .entry)) ⌝ }
-{
-    let mut out = [0u8; 8];
-    wire::put(&mut out, 0, bytes);
-    out
-}
-
 // RSP to the sender of a frame, to the table and offset that the request asks for.
 fn reply(d: Directory, f: Frame, q: Request, bytes: &[u8]) -> Served
-    requires { ⌜ (d .own ≤ 15) × (q .table ≤ 31) × (q .offset ≤ 2047) × (length (now bytes) ≤ 8) × (q .count ≡ length (now bytes)) ⌝ }
+    requires { ⌜ (d .own ≤ 15) × (q .table ≤ 31) × (q .offset ≤ 2047) × (q .count ≡ length (now bytes)) ⌝ }
     ensures { λ r. ⌜ r ≡ replyTo d f q (now (bytes .entry)) ⌝ }
 {
     let id = id_of(q.offset, RSP, d.own, from_of(f.id), q.table);
@@ -241,16 +245,9 @@ fn reply(d: Directory, f: Frame, q: Request, bytes: &[u8]) -> Served
         frame: Frame {
             id: id as u32,
             len: q.count,
-            bytes: eight(bytes),
+            bytes: padded(bytes),
         },
     }
-}
-
-// Where a frame's offset lies in memory.
-fn place(d: Directory, f: Frame) -> usize
-    ensures { λ r. ⌜ r ≡ placeOf d f ⌝ }
-{
-    start(d, table_of(f.id) as usize) + offset_of(f.id) as usize
 }
 
 // 2, then the two blocking factors, high byte first.
@@ -273,38 +270,28 @@ fn answer_query(d: Directory, f: Frame) -> Served
     reply(d, f, q, &bytes[..n])
 }
 
-// The answer to a request that is not refused.
-fn answer_ask(d: Directory, memory: &[u8], f: Frame) -> Served
-    requires { ⌜ (d .own ≤ 15) × (requestAt f 0 .count ≤ 8) × (placeOf d f + requestAt f 0 .count ≤ length (now memory)) ⌝ }
-    ensures { λ r. ⌜ r ≡ replyTo d f (requestAt f 0) (take (requestAt f 0 .count) (drop (placeOf d f) (now (memory .entry)))) ⌝ }
+// The answer to a request that is not refused; its range starts at the place given.
+fn answer_ask(d: Directory, at: usize, memory: &[u8], f: Frame) -> Served
+    requires { ⌜ (d .own ≤ 15) × (at + requestAt f 0 .count ≤ length (now memory)) ⌝ }
+    ensures { λ r. ⌜ r ≡ replyTo d f (requestAt f 0) (take (requestAt f 0 .count) (drop at (now (memory .entry)))) ⌝ }
 {
     let q = request_of(f.bytes[0], f.bytes[1], f.bytes[2]);
-    let at = place(d, f);
     let end = at + q.count as usize;
     reply(d, f, q, &memory[at..end])
 }
 
-// The first n bytes of an array, stored from a place on.
-fn store(memory: &mut [u8], at: usize, bytes: [u8; 8], n: usize)
-    requires { ⌜ (n ≤ 8) × (at + n ≤ length (now memory)) ⌝ }
-    ensures { λ _. ⌜ now (memory .exit) ≡ sets (now (memory .entry)) at (take n bytes) ⌝ }
-{
-    wire::put(memory, at, &bytes[..n]);
-}
-
-// What a frame that is not refused does.
-fn act(d: Directory, memory: &mut [u8], f: Frame) -> Served
-    requires { ⌜ serveNumber d (length (now memory)) f ≡ 0 ⌝ }
+// What a frame that is not refused does; its offset lies at the place given.
+fn act(d: Directory, at: usize, memory: &mut [u8], f: Frame) -> Served
+    requires { ⌜ (serveNumber d (length (now memory)) f ≡ 0) × (at ≡ placeOf d f) ⌝ }
     ensures { λ r. ⌜ (r ≡ actOf d (now (memory .entry)) f) × (now (memory .exit) ≡ memoryAct d (now (memory .entry)) f) ⌝ }
 {
     let kind = kind_of(f.id);
     if kind == CMD {
-        let bytes = f.bytes;
-        store(memory, place(d, f), bytes, f.len as usize);
+        copy_content(memory, at, f);
         return no_answer(0);
     }
     if kind == REQ {
-        return answer_ask(d, &memory[..], f);
+        return answer_ask(d, at, &memory[..], f);
     }
     answer_query(d, f)
 }
@@ -314,9 +301,10 @@ pub fn serve(d: Directory, memory: &mut [u8], f: Frame) -> Served
     ensures { λ r. ⌜ (r ≡ serveOf d (now (memory .entry)) f) × (now (memory .exit) ≡ memoryOf d (now (memory .entry)) f) ⌝ }
     ensures demand2 { λ r. ⌜ Demand2 d (now (memory .entry)) f r (now (memory .exit)) ⌝ }
 {
-    let number = serve_number(d, memory.len(), f);
+    let t = table_at(d, table_of(f.id) as usize);
+    let number = serve_number(d, t, memory.len(), f);
     if number != 0 {
         return no_answer(number);
     }
-    act(d, memory, f)
+    act(d, t.start as usize + offset_of(f.id) as usize, memory, f)
 }

@@ -1,4 +1,5 @@
 // The CAN bus of a Megasquirt: identifiers, frames, request bytes, and the table holder.
+pub mod frames;
 pub mod holder;
 pub mod ident;
 pub mod requests;

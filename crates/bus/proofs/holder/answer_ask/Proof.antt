@@ -1,13 +1,11 @@
-use Rattle.bus.specs.Request.{Request}
 use borrow.Author.Needs.{needs}
 use Rattle.bus.proofs.holder.answer_ask.Statement.{statement}
 use Rattle.bus.proofs.holder.answer_ask.Tie as tie
+use Rattle.bus.specs.Request.{Request}
 use Rattle.bus.specs.Holder.{byteOf, requestAt}
 use native.Mathlib.Omega.{arith}
-use mathlib.Core.Path.{_≡_, sym, _∙_, ap}
+use mathlib.Core.Path.{sym, ap}
 use Rattle.bus.proofs.FrameLaws.{part-is, part-length}
-use Rattle.bus.specs.Holder.{byteOf, requestAt, placeOf, replyTo}
-use lib.ListN.{length, take, drop}
 
 element-copy-out-request-of : tie.Need-element-copy-out-request-of
 element-copy-out-request-of c = search needs
@@ -20,9 +18,6 @@ element-copy-out-request-of-3 c = search needs
 
 request-of-requires : tie.Need-request-of-requires
 request-of-requires c κs = search needs
-
-place-requires : tie.Need-place-requires
-place-requires c κs = search needs
 
 cast-end : tie.Need-cast-end
 cast-end c = search needs
@@ -38,18 +33,18 @@ part-reply-start c = search needs
 
 part-reply-end : tie.Need-part-reply-end
 unfolding requestAt byteOf
-part-reply-end c = omega (arith, c .before .before .before .before .before .before .before .pre, c .before .place .ensures, ap (λ (q : Request). q .count) (c .before .before .request-of .ensures .0))
+part-reply-end c = omega (arith, c .before .before .before .before .before .before .pre, ap (λ (q : Request). q .count) (c .before .request-of .ensures .0))
 
 reply-requires : tie.Need-reply-requires
 unfolding requestAt byteOf
-reply-requires c κs = let s = c .before .before .before .request-of .ensures in
+reply-requires c κs = let s = c .before .before .request-of .ensures in
     let k = ap (λ (q : Request). q .count) (s .0) in
-    let l = part-length (c .before .before .before .before .before .before .before .before .args .memory .now) (c .before .before .place .result) (c .before .before .before .request-of .result .count) (omega (arith, c .before .before .before .before .before .before .before .before .pre, c .before .before .place .ensures, k)) in
-    (c .before .before .before .before .before .before .before .before .pre .0, s .1, s .2, rw part-is (omega (arith, l, c .before .before .before .before .before .before .before .before .pre, k)), rw part-is (sym l))
+    let l = part-length (c .before .before .before .before .before .before .before .args .memory .now) (c .before .before .before .before .before .before .before .args .at) (c .before .before .request-of .result .count) (omega (arith, c .before .before .before .before .before .before .before .pre, k)) in
+    (c .before .before .before .before .before .before .before .pre .0, s .1, s .2, rw part-is (sym l))
 
 returns : tie.Need-returns
 unfolding requestAt byteOf
-returns c = rw (part-is, c .before .before .before .before .request-of .ensures .0, c .before .before .before .place .ensures) at (c .reply .ensures)
+returns c = rw (part-is, c .before .before .before .request-of .ensures .0) at (c .reply .ensures)
 
 pub answer-ask-spec : {M : Type 1} → statement M
 answer-ask-spec =
@@ -59,7 +54,6 @@ answer-ask-spec =
     element-copy-out-request-of-2
     element-copy-out-request-of-3
     request-of-requires
-    place-requires
     cast-end
     add-end
     sub-reply

@@ -42,7 +42,7 @@ unfolding requestAt byteOf
 reply-requires c κs = let s = c .before .before .before .request-of .ensures in
     let n : c .before .before .before .request-of .result .count ≤ 5 = omega (arith, c .before .before .before .before .before .before .before .pre, ap (λ (q : Request). q .count) (s .0)) in
     let l = length-take-le (c .before .before .before .request-of .result .count) (c .before .before .protocol-of .result) (omega arith) in
-    (c .before .before .before .before .before .before .before .pre .0, s .1, s .2, omega (arith, l), sym l)
+    (c .before .before .before .before .before .before .before .pre .0, s .1, s .2, sym l)
 
 returns : tie.Need-returns
 unfolding requestAt byteOf

@@ -5,7 +5,6 @@ use Rattle.bus.proofs.IdentLaws.{from-small, id-small}
 use Rattle.bus.specs.Holder.{replyTo, answerWith}
 use Rattle.bus.specs.Frames.{frameOf}
 use native.Mathlib.Omega.{arith}
-use mathlib.Core.Path.{refl}
 
 from-of-requires : tie.Need-from-of-requires
 from-of-requires c κs = search needs
@@ -19,12 +18,12 @@ cast-t7 c = let a = c .before .before .before .args in
     let k = from-small (a .f .id) in
     omega (arith, c .id-of .ensures, c .before .from-of .ensures, id-small (a .q .offset) 2 (a .d .own) (c .before .from-of .result) (a .q .table) (omega arith) (omega arith) (omega arith) (omega (arith, c .before .from-of .ensures)) (omega arith))
 
-eight-requires : tie.Need-eight-requires
-eight-requires c κs = search needs
+padded-requires : tie.Need-padded-requires
+padded-requires c κs = search needs
 
 returns : tie.Need-returns
 unfolding replyTo answerWith frameOf
-returns c = rw (c .before .id-of .ensures, c .before .before .from-of .ensures, c .eight .ensures, c .before .before .before .before .pre .4)
+returns c = rw (c .before .id-of .ensures, c .before .before .from-of .ensures, c .padded .ensures, c .before .before .before .before .pre .3)
 
 pub reply-spec : {M : Type 1} → statement M
-reply-spec = tie.close (tie.spec from-of-requires id-of-requires cast-t7 eight-requires returns)
+reply-spec = tie.close (tie.spec from-of-requires id-of-requires cast-t7 padded-requires returns)

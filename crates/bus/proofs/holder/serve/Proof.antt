@@ -1,44 +1,94 @@
-use mir.Val.{Fits}
-use mir.Syntax.{w8}
 use borrow.Author.Needs.{needs}
 use Rattle.bus.proofs.holder.serve.Statement.{statement}
 use Rattle.bus.proofs.holder.serve.Tie as tie
-use Rattle.bus.proofs.Demands.{demand2}
+use mir.Val.{Fits}
+use mir.Syntax.{w8}
+use Rattle.bus.proofs.Demands.{IsFrame, demand2}
 use Rattle.bus.proofs.Cases.{served-case, refused-case}
-use Rattle.bus.specs.Holder.{byteOf}
-use lib.ListN.{length, getD}
+use Rattle.bus.proofs.IdentLaws.{table-small}
+use Rattle.bus.specs.Holder.{Served, byteOf, sizeOf, rightOf, placeOf, serveOf, memoryOf}
+use Rattle.bus.specs.Demand2.{Demand2}
+use lib.ListN.{getD}
 use native.Mathlib.Omega.{arith}
 use mathlib.Core.Path.{_≡_, sym, _∙_, ap}
+use mathlib.Core.List.{List}
+use Prim.Native.Nat.{ℕ}
+
+-- demand 2, of the values that the code's arguments have
+demanded : (s : tie.Start) (r : Served) (after : List ℕ) → r ≡ serveOf (s .args .d) (s .args .memory .now) (s .args .f)
+    → after ≡ memoryOf (s .args .d) (s .args .memory .now) (s .args .f) → Demand2 (s .args .d) (s .args .memory .now) (s .args .f) r after
+unfolding byteOf
+demanded s r after p q =
+    let a = s .args in
+    let w : IsFrame (a .f) =
+    record { eight = search needs; bytes = λ i l. let h : Fits w8 (getD (a .f .bytes) i 0) = search needs in omega arith } in
+    demand2 (a .d) (a .memory .now) (a .f) r after p q w (search needs) (search needs)
+
+table-of-requires : tie.Need-table-of-requires
+table-of-requires c κs = search needs
+
+cast-table-at : tie.Need-cast-table-at
+cast-table-at c = search needs
+
+table-at-requires : tie.Need-table-at-requires
+table-at-requires c κs = omega (arith, c .table-of .ensures, table-small (c .before .before .args .f .id))
 
 serve-number-requires : tie.Need-serve-number-requires
-serve-number-requires c κs = search needs
+serve-number-requires c κs = let t = c .table-at .ensures in
+    (t .1 ∙ ap (sizeOf (c .before .before .before .args .d)) (c .before .table-of .ensures), t .2 ∙ ap (rightOf (c .before .before .before .args .d)) (c .before .table-of .ensures))
 
 no-answer-requires : tie.Need-no-answer-requires
 no-answer-requires c κs = search needs
 
 returns : tie.Need-returns
-unfolding byteOf
-returns c = let a = c .before .before .before .before .args in
+returns c = let s = c .before .before .before .before .before .before in
+    let a = s .args in
     let e = refused-case (a .d) (a .memory .now) (a .f) (c .before .before .serve-number .result) (sym (c .before .before .serve-number .ensures)) (c .before .if1 .taken) in
     let p = c .no-answer .ensures ∙ sym (e .0) in
     let q = sym (e .1) in
-    ((p, q), demand2 (a .d) (a .memory .now) (a .f) _ _ p q (record { eight = search needs; bytes = λ i l. let h : Fits w8 (getD (a .f .bytes) i 0) = search needs in omega arith }) (search needs) (search needs))
+    ((p, q), demanded s _ _ p q)
+
+cast-act : tie.Need-cast-act
+cast-act c = search needs
+
+offset-of-requires : tie.Need-offset-of-requires
+offset-of-requires c κs = search needs
+
+cast-act-2 : tie.Need-cast-act-2
+cast-act-2 c = search needs
+
+add-act : tie.Need-add-act
+add-act c = search needs
 
 act-requires : tie.Need-act-requires
-act-requires c κs = search needs
+unfolding placeOf
+act-requires c κs = (sym (c .before .before .before .before .serve-number .ensures) ∙ c .before .before .before .if1 .left, rw (c .before .offset-of .ensures, c .before .before .before .before .before .table-at .ensures .0, c .before .before .before .before .before .before .table-of .ensures))
 
 same-length : tie.Need-same-length
 same-length c = search needs
 
 returns-2 : tie.Need-returns-2
-unfolding byteOf
-returns-2 c = let a = c .before .before .before .before .before .before .before .args in
-    let e = served-case (a .d) (a .memory .now) (a .f) (sym (c .before .before .before .before .before .serve-number .ensures) ∙ c .before .before .before .before .if1 .left) in
+returns-2 c = let s = c .before .before .before .before .before .before .before .before .before .before .before in
+    let a = s .args in
+    let e = served-case (a .d) (a .memory .now) (a .f) (sym (c .before .before .before .before .before .before .before .serve-number .ensures) ∙ c .before .before .before .before .before .before .if1 .left) in
     let p = c .before .before .act .ensures .0 ∙ sym (e .0) in
     let q = c .before .before .act .ensures .1 ∙ sym (e .1) in
-    ((p, q), demand2 (a .d) (a .memory .now) (a .f) _ _ p q (record { eight = search needs; bytes = λ i l. let h : Fits w8 (getD (a .f .bytes) i 0) = search needs in omega arith }) (search needs) (search needs))
+    ((p, q), demanded s _ _ p q)
 
 pub serve-spec : {M : Type 1} → statement M
 serve-spec =
     tie.close
-    (tie.spec serve-number-requires no-answer-requires returns act-requires same-length returns-2)
+    (tie.spec
+    table-of-requires
+    cast-table-at
+    table-at-requires
+    serve-number-requires
+    no-answer-requires
+    returns
+    cast-act
+    offset-of-requires
+    cast-act-2
+    add-act
+    act-requires
+    same-length
+    returns-2)

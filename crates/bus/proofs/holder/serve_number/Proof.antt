@@ -1,31 +1,29 @@
+use borrow.Author.Needs.{needs}
 use Rattle.bus.proofs.holder.serve_number.Statement.{statement}
 use Rattle.bus.proofs.holder.serve_number.Tie as tie
 use Rattle.wire.proofs.Orders.{order}
 use Rattle.bus.specs.Holder.{serveNumber}
 
 memory-number-requires : tie.Need-memory-number-requires
-unfolding serveNumber
-memory-number-requires c κs = search order depth 12
+memory-number-requires c κs = search needs
 
 returns : tie.Need-returns
 unfolding serveNumber
 returns c = search order depth 12
 
 head-number-requires : tie.Need-head-number-requires
-unfolding serveNumber
-head-number-requires c κs = search order depth 12
+head-number-requires c κs = search needs
 
 returns-2 : tie.Need-returns-2
 unfolding serveNumber
 returns-2 c = search order depth 12
 
 kind-number-requires : tie.Need-kind-number-requires
-unfolding serveNumber
-kind-number-requires c κs = search order depth 12
+kind-number-requires c κs = search needs
 
 returns-3 : tie.Need-returns-3
 unfolding serveNumber
-returns-3 c = search order depth 12
+returns-3 c = let k = c .kind-number .ensures (c .before .before .before .before .before .args .d) (c .before .before .before .before .before .pre .0) (c .before .before .before .before .before .pre .1) in search order depth 12
 
 pub serve-number-spec : {M : Type 1} → statement M
 serve-number-spec =

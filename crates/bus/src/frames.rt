@@ -1,0 +1,59 @@
+// The bytes of frames.
+use crate::Frame;
+ghost use mathlib.Core.Path.{_≡_};
+ghost use Prim.Native.Nat.{_+_, _≤_};
+ghost use lib.ListN.{length};
+ghost use lib.Seq.{sets};
+ghost use Rattle.wire.specs.Put.{putOf};
+ghost use Rattle.bus.specs.Frames.{padded, content};
+
+// The first eight bytes given, and zeros where there are fewer.
+pub fn padded(bytes: &[u8]) -> [u8; 8]
+    ensures { λ r. ⌜ r ≡ padded (now (bytes .entry)) ⌝ }
+{
+    let mut out = [0u8; 8];
+    let mut i = 0;
+    while i < 8 {
+        if i < bytes.len() {
+            out[i] = bytes[i];
+        }
+        i += 1;
+    }
+    out
+}
+
+// How many bytes of a frame count.
+fn content_len(f: Frame) -> usize
+    ensures { λ r. ⌜ r ≡ length (content f) ⌝ }
+{
+    let n = f.len as usize;
+    if n < 8 { n } else { 8 }
+}
+
+// The bytes of a frame that count, copied to a place. Eight tests of the length take the place of a call.
+pub(crate) fn copy_content(out: &mut [u8], at: usize, f: Frame)
+    requires { ⌜ at + length (content f) ≤ length (now out) ⌝ }
+    ensures { λ _. ⌜ now (out .exit) ≡ sets (now (out .entry)) at (content f) ⌝ }
+{
+    let n = f.len as usize;
+    let mut i = 0;
+    while i < 8 {
+        if i < n {
+            out[at + i] = f.bytes[i];
+        }
+        i += 1;
+    }
+}
+
+// Puts the bytes of a frame that count at a place of the output; nothing changes where they do not fit.
+pub fn put_content(out: &mut [u8], at: usize, f: Frame)
+    ensures { λ _. ⌜ now (out .exit) ≡ putOf (now (out .entry)) at (content f) ⌝ }
+{
+    if out.len() < at {
+        return;
+    }
+    if out.len() - at < content_len(f) {
+        return;
+    }
+    copy_content(out, at, f);
+}
