@@ -1,12 +1,13 @@
 -- Laws of slots by which the code's functions are proved: four slots one by one, and searches.
 use Prim.Native.Nat.{ℕ, zero, suc, _+_, _-_, _%_, _≤_, _<_, min}
 use mathlib.Core.Path.{_≡_, refl, sym, _∙_, ap}
-use mathlib.Core.Bool.{Bool, true, false, cond, not, _&&_, _||_}
+use mathlib.Core.Bool.{Bool, true, false, cond, not, _&&_, _||_, and-true, and-assoc}
 use mathlib.Core.List.{List, [], _∷_, map}
 use mathlib.Core.Option.{Option, none, some}
 use native.Mathlib.Omega.{arith}
 use native.Mathlib.Numerals.{add-one}
-use lib.ListN.{length, getD}
+use lib.ListN.{length, getD, drop, drop-of-length-le}
+use lib.Seq.{drop-cons}
 use lib.Dec.{eqb, leb}
 use borrow.Author.Needs.{length-unmapped}
 use borrow.Author.Tests.{le-leb, lt-leb, lt-ltb, le-ltb, eq-eqb}
@@ -30,32 +31,31 @@ four d (a ∷ b ∷ c ∷ e ∷ f ∷ l) h = absurd (omega arith)
 pub slots-four-of : (s : Bridge) → length (map (λ (x : Slot). x) (s .slots)) ≡ 4 → length (s .slots) ≡ 4
 slots-four-of s h = length-unmapped Slot (s .slots) 4 h
 
-and-yes : (b : Bool) → (b && true) ≡ b
-and-yes true = refl
-and-yes false = refl
-
 abbrev pub apart : Slot → Slot → Bool
 apart x y = eqb (x .ticket) 0 || not (eqb (y .ticket) (x .ticket))
 
 module _ (a b c d : Slot) where
-  slots-of : (t : ℕ) → (soundSlot t a && (soundSlot t b && (soundSlot t c && soundSlot t d))) ≡ soundSlots t (a ∷ b ∷ c ∷ d ∷ [])
-  unfolding soundSlots
-  slots-of t = simp and-yes
-
   distinct-of : ((apart a b && (apart a c && apart a d)) && ((apart b c && apart b d) && apart c d)) ≡ distinct (a ∷ b ∷ c ∷ d ∷ [])
   unfolding distinct absent
-  distinct-of = simp and-yes
+  distinct-of = simp and-true
 
 module _ (l : List Slot) (h : length l ≡ 4) where
-  pub slots-four : (t : ℕ) → (soundSlot t (getD l 0 blank) && (soundSlot t (getD l 1 blank) && (soundSlot t (getD l 2 blank) && soundSlot t (getD l 3 blank)))) ≡ soundSlots t l
-  slots-four t = slots-of _ _ _ _ t ∙ ap (soundSlots t) (sym (four blank l h))
-
   pub distinct-four : ((apart (getD l 0 blank) (getD l 1 blank) && (apart (getD l 0 blank) (getD l 2 blank) && apart (getD l 0 blank) (getD l 3 blank)))
       && ((apart (getD l 1 blank) (getD l 2 blank) && apart (getD l 1 blank) (getD l 3 blank)) && apart (getD l 2 blank) (getD l 3 blank))) ≡ distinct l
   distinct-four = distinct-of _ _ _ _ ∙ ap distinct (sym (four blank l h))
 
   pub aged-four : aged (getD l 0 blank) ∷ aged (getD l 1 blank) ∷ aged (getD l 2 blank) ∷ aged (getD l 3 blank) ∷ [] ≡ map aged l
   aged-four = ap (map aged) (sym (four blank l h))
+
+-- the test of the slots from i on, with what the slots before said
+module _ (t : ℕ) (l : List Slot) (ok : Bool) (i : ℕ) where
+  pub slots-step : i < length l → (ok && soundSlots t (drop i l)) ≡ (ok && soundSlot t (getD l i blank) && soundSlots t (drop (i + 1) l))
+  unfolding soundSlots
+  slots-step h = rw (add-one, drop-cons l i blank h, and-assoc)
+
+  pub slots-end : length l ≤ i → (ok && soundSlots t (drop i l)) ≡ ok
+  unfolding soundSlots
+  slots-end h = rw (drop-of-length-le l h, and-true)
 
 pub sound-parts : (s : Bridge) → s .tickets ≤ 4294967295 → length (s .slots) ≡ 4
     → (leb (s .own) 15 && leb (s .last) 3 && soundSlots (s .tickets) (s .slots) && distinct (s .slots)) ≡ sound s

@@ -155,9 +155,14 @@ fn sound_slot(x: Slot, tickets: u32) -> bool
 fn sound_slots(slots: [Slot; 4], tickets: u32) -> bool
     ensures { λ r. ⌜ r ≡ soundSlots tickets slots ⌝ }
 {
-    sound_slot(slots[0], tickets)
-        & (sound_slot(slots[1], tickets)
-            & (sound_slot(slots[2], tickets) & sound_slot(slots[3], tickets)))
+    let mut ok = true;
+    let mut i: usize = 0;
+    while i < 4 {
+        let x = slots[i];
+        ok = ok & sound_slot(x, tickets);
+        i += 1;
+    }
+    ok
 }
 
 // Whether a slot's ticket differs from another's; 0 is none.
