@@ -113,12 +113,17 @@ pub fn frame(b: Bridge, buffer: &mut [u8], f: bus::Frame) -> Stepped
         return plain(b, n);
     }
     let k = judged.slot;
-    let slots = b.slots;
+    let mut slots = b.slots;
     let x = slots[k];
     let bytes = f.bytes;
     store(buffer, 128 * k + x.progress as usize, bytes, f.len as usize);
     let y = advance(x);
-    let mut t = b;
-    t.slots[k] = y;
+    slots[k] = y;
+    let t = Bridge {
+        slots: slots,
+        tickets: b.tickets,
+        own: b.own,
+        last: b.last,
+    };
     plain(t, 0)
 }
