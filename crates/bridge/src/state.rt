@@ -222,7 +222,7 @@ pub(crate) fn plain(b: Bridge, number: u8) -> Stepped
 }
 
 // The first of four tests that holds, or 4.
-pub(crate) fn first(a: bool, b: bool, c: bool, d: bool) -> usize
+fn first(a: bool, b: bool, c: bool, d: bool) -> usize
     ensures { λ r. ⌜ r ≡ orFour (firstSlot (λ k. getD (a ∷ b ∷ c ∷ d ∷ []) k false) 0 4) ⌝ }
 {
     if a {
