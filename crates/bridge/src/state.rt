@@ -315,12 +315,22 @@ fn age(x: Slot) -> Slot
     moved(x, GAVE_UP, x.progress, x.sends, 0)
 }
 
-// The bridge with every slot one turn older.
+// The bridge with every slot one turn older. The order does not matter: a start that is not constant keeps the slots in memory.
 pub(crate) fn age_all(b: Bridge) -> Bridge
     ensures { λ r. ⌜ r ≡ agedBridge b ⌝ }
 {
-    let old = b.slots;
-    let slots = [age(old[0]), age(old[1]), age(old[2]), age(old[3])];
+    let start = b.last as usize;
+    let mut slots = b.slots;
+    let mut i: usize = 0;
+    while i < 4 {
+        let k = (start + i) % 4;
+        let x = slots[k];
+        if x.phase == WAITING {
+            let y = age(x);
+            slots[k] = y;
+        }
+        i += 1;
+    }
     Bridge {
         slots: slots,
         tickets: b.tickets,
