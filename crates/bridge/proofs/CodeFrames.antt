@@ -1,7 +1,7 @@
 -- Laws of frames by which the code's functions are proved: what a ready slot sends, and what a waiting one takes.
-use Prim.Native.Nat.{ℕ, zero, suc, _+_, _*_, _-_, _≤_, _<_}
+use Prim.Native.Nat.{ℕ, zero, suc, _+_, _*_, _/_, _-_, _≤_, _<_}
 use mathlib.Core.Path.{_≡_, refl, sym, _∙_, ap}
-use mathlib.Core.Bool.{true, false, not, true≢false}
+use mathlib.Core.Bool.{Bool, true, false, not, _&&_, true≢false}
 use mathlib.Core.Logic.{_⊎_, inl, inr}
 use mathlib.Core.List.{List}
 use mathlib.Core.Option.{none, some}
@@ -14,7 +14,7 @@ use borrow.Author.Tests.{le-ltb, eq-eqb, ne-eqb}
 use Rattle.wire.specs.Order.{_if_else_, _orElse_}
 use Rattle.wire.specs.Answer.{answer}
 use Rattle.wire.proofs.Orders.{if-zero, else-zero}
-use Rattle.bus.specs.Ident.{idOf, idKind, packNumber, packOf, partsOf}
+use Rattle.bus.specs.Ident.{idOf, idOffset, idKind, packNumber, packOf, partsOf}
 use Rattle.bus.specs.Frames.{rsp, content, headNumber, receiveNumber, headOf}
 use Rattle.bus.specs.Request.{request, requestNumber, wroteRequest, requestBytesOf}
 use Rattle.bus.specs.Holder.{noAnswer}
@@ -29,10 +29,10 @@ use Rattle.transfer.specs.declared.Bridge.{Bridge}
 use Rattle.transfer.specs.declared.Slot.{Slot}
 use Rattle.transfer.specs.Model.{Frame, slot, sound, isReady, isNone, from, orFour, nextReady, agedBridge, lentRefusal, turn′}
 use Rattle.transfer.specs.Model.{sendFor, chunkLen, outgoing, awaits, awaiting, contentRefusal, replyRefusal, frame′, advanced, withSlots}
-use Rattle.transfer.specs.Model.{waiting, asks, moved, requested, sentSlot}
+use Rattle.transfer.specs.Model.{waiting, isWaiting, asks, moved, requested, sentSlot}
 use Rattle.transfer.specs.declared.Stepped.{Stepped}
 use Rattle.transfer.specs.Answers.{steppedOf}
-use Rattle.transfer.proofs.Search.{search-some, lowest-some, option-cases}
+use Rattle.transfer.proofs.Search.{search-some, lowest-some, lowest-none, option-cases}
 use Rattle.transfer.proofs.Sound.{ReadyOk, ready-ok, true-sound, sound-true}
 use Rattle.transfer.proofs.CallKinds.{aged-sound, AwaitsOk, awaits-ok, wait-ok}
 use Rattle.transfer.proofs.FrameLaws.{len-eight, len-inside}
@@ -161,6 +161,48 @@ module _ (own : ℕ) (f : Frame) where
     pub content-parts : (n : ℕ) {A : Type 0} → own ≤ 15 → headOf own f ≡ U.Refused n → A
     content-parts n o q = let h = head-refused n o q in absurd (h .1 (sym (h .0) ∙ content-head))
 
+-- the test of slot k with a frame's parts and length
+abbrev pub takes : Slot → ℕ → Parts → ℕ → Bool
+takes x k p len =
+    isWaiting (x .phase) && eqb (p .table) 6 && eqb (p .from) (x .device) && eqb (p .offset) (128 * k + x .progress)
+    && eqb len (chunkLen (x .count) (x .progress))
+
+takes-of : (s : Bridge) (f : Frame) (k : ℕ) (p : Parts) → p ≡ partsOf (f .id) → takes (slot s k) k p (f .len) ≡ awaits s f k
+unfolding awaits partsOf
+takes-of s f k p e = rw e
+
+-- a reply's offset says which slot of a sound bridge may await it: slot k's part of the buffer begins at 128 k
+module _ (s : Bridge) (f : Frame) (h : sound s ≡ true) (p : Parts) (e : headOf (s .own) f ≡ U.Is p) (k : ℕ) (q : k ≡ p .offset / 128) where
+  whose : (j : ℕ) → j < 4 → awaits s f j ≡ true → j ≡ k
+  unfolding partsOf
+  whose j l z =
+      let a = awaits-ok s f j z in
+      let w = wait-ok (s .tickets) (slot s j) (true-sound s h .each j l) (a .waits) in
+      let o : p .offset ≡ idOffset (f .id) = ap (λ (x : Parts). x .offset) (head-is (s .own) f p e .1) in
+      omega (arith, a .place, w .mid .below, w .common .few)
+
+  tests : takes (slot s k) k p (f .len) ≡ awaits s f k
+  tests = takes-of s f k p (head-is (s .own) f p e .1)
+
+  pub awaited-there : k < 4 → takes (slot s k) k p (f .len) ≡ true → k ≡ orFour (awaiting s f)
+  unfolding awaiting
+  awaited-there l t = go (option-cases (awaiting s f))
+    where
+      go : (awaiting s f ≡ none) ⊎ ((j : ℕ) × (awaiting s f ≡ some j)) → k ≡ orFour (awaiting s f)
+      go (inl z) = absurd (true≢false (sym t ∙ tests ∙ lowest-none (awaits s f) z k l))
+      go (inr (j, z)) = let w = lowest-some (awaits s f) j z in sym (ap orFour z ∙ whose j (w .bound) (w .passes))
+
+  pub awaited-nowhere : (k < 4 → takes (slot s k) k p (f .len) ≡ false) → 4 ≡ orFour (awaiting s f)
+  unfolding awaiting
+  awaited-nowhere n = go (option-cases (awaiting s f))
+    where
+      go : (awaiting s f ≡ none) ⊎ ((j : ℕ) × (awaiting s f ≡ some j)) → 4 ≡ orFour (awaiting s f)
+      go (inl z) = sym (ap orFour z)
+      go (inr (j, z)) =
+          let w = lowest-some (awaits s f) j z in
+          let g : j ≡ k = whose j (w .bound) (w .passes) in
+          absurd (true≢false (sym (w .passes) ∙ ap (awaits s f) g ∙ sym tests ∙ n (omega (arith, w .bound))))
+
 module _ (s : Bridge) (b : List ℕ) (f : Frame) where
   pub frame-refused : (n : ℕ) → n ≡ replyRefusal s (length b) f → (n ≡ 0 → ⊥)
       → _≡_ {A = Stepped} (record { bridge = s; answer = noAnswer n }) (steppedOf (frame′ s b f)) × (b ≡ frame′ s b f .buffer)
@@ -172,10 +214,7 @@ module _ (s : Bridge) (b : List ℕ) (f : Frame) where
     unfolding replyRefusal
     reply-lent = lent-ok s (length b) (else-zero _ _ e .0)
 
-    pub reply-own : s .own ≤ 15
-    reply-own = true-sound s (reply-lent .0) .own
-
-    pub reply-content : contentRefusal (s .own) f ≡ 0
+    reply-content : contentRefusal (s .own) f ≡ 0
     unfolding replyRefusal
     reply-content = else-zero _ _ (else-zero _ _ e .1) .0
 

@@ -1,14 +1,14 @@
--- Laws of slots by which the code's functions are proved: four slots one by one, and searches.
+-- Laws of slots by which the code's functions are proved: four slots one by one, searches, and aging.
 use Prim.Native.Nat.{ℕ, zero, suc, _+_, _-_, _%_, _≤_, _<_, min}
 use mathlib.Core.Path.{_≡_, refl, sym, _∙_, ap}
-use mathlib.Core.Bool.{Bool, true, false, cond, not, _&&_, _||_}
+use mathlib.Core.Bool.{Bool, true, false, cond, not, _&&_, _||_, and-true, and-assoc}
 use mathlib.Core.List.{List, [], _∷_, map}
 use mathlib.Core.Option.{Option, none, some}
 use native.Mathlib.Omega.{arith}
 use native.Mathlib.Numerals.{add-one}
-use lib.ListN.{length, getD}
+use lib.ListN.{length, getD, set, drop, drop-of-length-le, length-map}
+use lib.Seq.{drop-cons, set-getD}
 use lib.Dec.{eqb, leb}
-use borrow.Author.Needs.{length-unmapped}
 use borrow.Author.Tests.{le-leb, lt-leb, lt-ltb, le-ltb, eq-eqb}
 use Rattle.transfer.specs.declared.Bridge.{Bridge}
 use Rattle.transfer.specs.declared.Slot.{Slot}
@@ -18,7 +18,7 @@ use Rattle.transfer.specs.Model.{Frame, isNone, from, ticked, aged, advanced}
 
 -- ── Four slots one by one ──────────────────────────────────────────────────────────────────────────────────────────
 
-pub four : {A : Type 0} (d : A) (l : List A) → length l ≡ 4 → l ≡ getD l 0 d ∷ getD l 1 d ∷ getD l 2 d ∷ getD l 3 d ∷ []
+four : {A : Type 0} (d : A) (l : List A) → length l ≡ 4 → l ≡ getD l 0 d ∷ getD l 1 d ∷ getD l 2 d ∷ getD l 3 d ∷ []
 four d [] h = absurd (omega arith)
 four d (a ∷ []) h = absurd (omega arith)
 four d (a ∷ b ∷ []) h = absurd (omega arith)
@@ -27,35 +27,31 @@ four d (a ∷ b ∷ c ∷ e ∷ []) h = refl
 four d (a ∷ b ∷ c ∷ e ∷ f ∷ l) h = absurd (omega arith)
 
 -- a bridge has four slots, as its declared type says it
-pub slots-four-of : (s : Bridge) → length (map (λ (x : Slot). x) (s .slots)) ≡ 4 → length (s .slots) ≡ 4
-slots-four-of s h = length-unmapped Slot (s .slots) 4 h
-
-and-yes : (b : Bool) → (b && true) ≡ b
-and-yes true = refl
-and-yes false = refl
+pub four-slots : {B : Type 0} (s : Bridge) (f : Slot → B) → length (map f (s .slots)) ≡ 4 → length (s .slots) ≡ 4
+four-slots s f h = sym (length-map (s .slots) f) ∙ h
 
 abbrev pub apart : Slot → Slot → Bool
 apart x y = eqb (x .ticket) 0 || not (eqb (y .ticket) (x .ticket))
 
 module _ (a b c d : Slot) where
-  slots-of : (t : ℕ) → (soundSlot t a && (soundSlot t b && (soundSlot t c && soundSlot t d))) ≡ soundSlots t (a ∷ b ∷ c ∷ d ∷ [])
-  unfolding soundSlots
-  slots-of t = simp and-yes
-
   distinct-of : ((apart a b && (apart a c && apart a d)) && ((apart b c && apart b d) && apart c d)) ≡ distinct (a ∷ b ∷ c ∷ d ∷ [])
   unfolding distinct absent
-  distinct-of = simp and-yes
+  distinct-of = simp and-true
 
 module _ (l : List Slot) (h : length l ≡ 4) where
-  pub slots-four : (t : ℕ) → (soundSlot t (getD l 0 blank) && (soundSlot t (getD l 1 blank) && (soundSlot t (getD l 2 blank) && soundSlot t (getD l 3 blank)))) ≡ soundSlots t l
-  slots-four t = slots-of _ _ _ _ t ∙ ap (soundSlots t) (sym (four blank l h))
-
   pub distinct-four : ((apart (getD l 0 blank) (getD l 1 blank) && (apart (getD l 0 blank) (getD l 2 blank) && apart (getD l 0 blank) (getD l 3 blank)))
       && ((apart (getD l 1 blank) (getD l 2 blank) && apart (getD l 1 blank) (getD l 3 blank)) && apart (getD l 2 blank) (getD l 3 blank))) ≡ distinct l
   distinct-four = distinct-of _ _ _ _ ∙ ap distinct (sym (four blank l h))
 
-  pub aged-four : aged (getD l 0 blank) ∷ aged (getD l 1 blank) ∷ aged (getD l 2 blank) ∷ aged (getD l 3 blank) ∷ [] ≡ map aged l
-  aged-four = ap (map aged) (sym (four blank l h))
+-- the test of the slots from i on, with what the slots before said
+module _ (t : ℕ) (l : List Slot) (ok : Bool) (i : ℕ) where
+  pub slots-step : i < length l → (ok && soundSlots t (drop i l)) ≡ (ok && soundSlot t (getD l i blank) && soundSlots t (drop (i + 1) l))
+  unfolding soundSlots
+  slots-step h = rw (add-one, drop-cons l i blank h, and-assoc)
+
+  pub slots-end : length l ≤ i → (ok && soundSlots t (drop i l)) ≡ ok
+  unfolding soundSlots
+  slots-end h = rw (drop-of-length-le l h, and-true)
 
 pub sound-parts : (s : Bridge) → s .tickets ≤ 4294967295 → length (s .slots) ≡ 4
     → (leb (s .own) 15 && leb (s .last) 3 && soundSlots (s .tickets) (s .slots) && distinct (s .slots)) ≡ sound s
@@ -208,6 +204,47 @@ module _ (x : Slot) where
     age-over l s =
         let z : x .left - 1 ≡ 0 = omega arith in
         rw (waits, le-leb (x .left) 1 l, le-leb 3 (x .sends) s, z)
+
+-- one slot aged
+abbrev agedAt : ℕ → List Slot → List Slot
+agedAt k l = set l k (aged (getD l k blank))
+
+-- n slots aged one by one from `start` on, slot 0 after slot 3
+unfoldable pub agedOn : ℕ → ℕ → List Slot → List Slot
+agedOn zero start l = l
+agedOn (suc n) start l = agedOn n (suc start) (agedAt (start % 4) l)
+
+-- i slots on: the next is aged, or left as it is where it does not wait; after four, none is left to age
+module _ (s i : ℕ) (l : List Slot) where
+  pub ages : i < 4 → (y : Slot) → y ≡ aged (getD l ((s + i) % 4) blank) → agedOn (4 - i) (s + i) l ≡ agedOn (4 - (i + 1)) (s + (i + 1)) (set l ((s + i) % 4) y)
+  unfolding agedOn
+  ages h y e =
+      let z : suc (s + i) ≡ s + (i + 1) = omega arith in
+      ap (λ (n : ℕ). agedOn n (s + i) l) (fuel i h) ∙ rw (e, ← z)
+
+  pub stays : i < 4 → isWaiting (getD l ((s + i) % 4) blank .phase) ≡ false → agedOn (4 - i) (s + i) l ≡ agedOn (4 - (i + 1)) (s + (i + 1)) l
+  stays h e = ages h _ (age-none _ e) ∙ ap (agedOn (4 - (i + 1)) (s + (i + 1))) (set-getD l ((s + i) % 4) blank)
+
+  pub rests : 4 ≤ i → agedOn (4 - i) (s + i) l ≡ l
+  unfolding agedOn
+  rests h = let z : 4 - i ≡ 0 = omega arith in ap (λ (n : ℕ). agedOn n (s + i) l) z
+
+-- four slots aged in any order that a start gives
+module _ (s : ℕ) (l : List Slot) where
+  order : (i j k n : ℕ) → s % 4 ≡ i → suc s % 4 ≡ j → suc (suc s) % 4 ≡ k → suc (suc (suc s)) % 4 ≡ n
+      → agedOn 4 s l ≡ agedAt n (agedAt k (agedAt j (agedAt i l)))
+  unfolding agedOn
+  order i j k n a b c d = rw (a, b, c, d)
+
+aged-from : (s i : ℕ) (a b c d : Slot) → s % 4 ≡ i → agedOn 4 s (a ∷ b ∷ c ∷ d ∷ []) ≡ map aged (a ∷ b ∷ c ∷ d ∷ [])
+aged-from s zero a b c d e = order s _ 0 1 2 3 e (omega arith) (omega arith) (omega arith)
+aged-from s (suc zero) a b c d e = order s _ 1 2 3 0 e (omega arith) (omega arith) (omega arith)
+aged-from s (suc (suc zero)) a b c d e = order s _ 2 3 0 1 e (omega arith) (omega arith) (omega arith)
+aged-from s (suc (suc (suc zero))) a b c d e = order s _ 3 0 1 2 e (omega arith) (omega arith) (omega arith)
+aged-from s (suc (suc (suc (suc i)))) a b c d e = absurd (omega arith)
+
+pub aged-four : (s : ℕ) (l : List Slot) → length l ≡ 4 → agedOn 4 s l ≡ map aged l
+aged-four s l h = rw (four blank l h) (aged-from s (s % 4) _ _ _ _ refl)
 
 module _ (x : Slot) where
   pub advance-on : x .progress + 8 < x .count → moved x ready (x .progress + 8) 0 0 ≡ advanced x

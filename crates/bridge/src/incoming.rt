@@ -5,16 +5,15 @@ use crate::Stepped;
 use crate::WAITING;
 use crate::state::advance;
 use crate::state::chunk_len;
-use crate::state::first;
 use crate::state::lent_number;
 use crate::state::plain;
 ghost use mathlib.Core.Path.{_≡_};
-ghost use mathlib.Core.Bool.{_&&_};
+ghost use mathlib.Core.Bool.{true, _&&_};
 ghost use Prim.Native.Nat.{_+_, _*_, _≤_, _<_};
 ghost use lib.Dec.{eqb};
 ghost use lib.ListN.{length, take};
 ghost use lib.Seq.{sets};
-ghost use Rattle.transfer.specs.Model.{isWaiting, chunkLen, contentRefusal, awaiting, orFour, replyRefusal, frame′};
+ghost use Rattle.transfer.specs.Model.{sound, isWaiting, chunkLen, contentRefusal, awaiting, orFour, replyRefusal, frame′};
 ghost use Rattle.transfer.specs.Answers.{steppedOf};
 
 // 1 to 5, by which a bridge of this own number judges a frame; else 0.
@@ -46,22 +45,25 @@ fn awaits(x: Slot, k: usize, p: bus::Parts, len: u8) -> bool
         & (len == chunk_len(x.count, x.progress))
 }
 
-// The slot that awaits a frame, or 4.
+// The slot that awaits a frame, or 4. Slot k's part of the buffer begins at 128 k, so the reply's offset says which slot to ask.
 fn awaiting(b: Bridge, f: bus::Frame) -> usize
-    requires { ⌜ (b .own ≤ 15) × (contentRefusal (b .own) f ≡ 0) ⌝ }
+    requires { ⌜ (sound b ≡ true) × (contentRefusal (b .own) f ≡ 0) ⌝ }
     ensures { λ r. ⌜ r ≡ orFour (awaiting b f) ⌝ }
 {
     // The frame was judged, so it has parts.
     let bus::Unpacked::Is(p) = bus::ident::read_head(b.own, f) else {
         return 4;
     };
+    let k = (p.offset / 128) as usize;
+    if 4 <= k {
+        return 4;
+    }
     let slots = b.slots;
-    first(
-        awaits(slots[0], 0, p, f.len),
-        awaits(slots[1], 1, p, f.len),
-        awaits(slots[2], 2, p, f.len),
-        awaits(slots[3], 3, p, f.len),
-    )
+    let x = slots[k];
+    if awaits(x, k, p, f.len) {
+        return k;
+    }
+    4
 }
 
 // A frame's number, and, where that is 0, the slot that awaits it.
@@ -113,12 +115,17 @@ pub fn frame(b: Bridge, buffer: &mut [u8], f: bus::Frame) -> Stepped
         return plain(b, n);
     }
     let k = judged.slot;
-    let slots = b.slots;
+    let mut slots = b.slots;
     let x = slots[k];
     let bytes = f.bytes;
     store(buffer, 128 * k + x.progress as usize, bytes, f.len as usize);
     let y = advance(x);
-    let mut t = b;
-    t.slots[k] = y;
+    slots[k] = y;
+    let t = Bridge {
+        slots: slots,
+        tickets: b.tickets,
+        own: b.own,
+        last: b.last,
+    };
     plain(t, 0)
 }

@@ -155,9 +155,14 @@ fn sound_slot(x: Slot, tickets: u32) -> bool
 fn sound_slots(slots: [Slot; 4], tickets: u32) -> bool
     ensures { λ r. ⌜ r ≡ soundSlots tickets slots ⌝ }
 {
-    sound_slot(slots[0], tickets)
-        & (sound_slot(slots[1], tickets)
-            & (sound_slot(slots[2], tickets) & sound_slot(slots[3], tickets)))
+    let mut ok = true;
+    let mut i: usize = 0;
+    while i < 4 {
+        let x = slots[i];
+        ok = ok & sound_slot(x, tickets);
+        i += 1;
+    }
+    ok
 }
 
 // Whether a slot's ticket differs from another's; 0 is none.
@@ -217,7 +222,7 @@ pub(crate) fn plain(b: Bridge, number: u8) -> Stepped
 }
 
 // The first of four tests that holds, or 4.
-pub(crate) fn first(a: bool, b: bool, c: bool, d: bool) -> usize
+fn first(a: bool, b: bool, c: bool, d: bool) -> usize
     ensures { λ r. ⌜ r ≡ orFour (firstSlot (λ k. getD (a ∷ b ∷ c ∷ d ∷ []) k false) 0 4) ⌝ }
 {
     if a {
@@ -310,12 +315,22 @@ fn age(x: Slot) -> Slot
     moved(x, GAVE_UP, x.progress, x.sends, 0)
 }
 
-// The bridge with every slot one turn older.
+// The bridge with every slot one turn older. The order does not matter: a start that is not constant keeps the slots in memory.
 pub(crate) fn age_all(b: Bridge) -> Bridge
     ensures { λ r. ⌜ r ≡ agedBridge b ⌝ }
 {
-    let old = b.slots;
-    let slots = [age(old[0]), age(old[1]), age(old[2]), age(old[3])];
+    let start = b.last as usize;
+    let mut slots = b.slots;
+    let mut i: usize = 0;
+    while i < 4 {
+        let k = (start + i) % 4;
+        let x = slots[k];
+        if x.phase == WAITING {
+            let y = age(x);
+            slots[k] = y;
+        }
+        i += 1;
+    }
     Bridge {
         slots: slots,
         tickets: b.tickets,

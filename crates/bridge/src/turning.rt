@@ -117,13 +117,17 @@ fn send(b: Bridge, k: usize, buffer: &[u8]) -> Stepped
     requires { ⌜ (sound b ≡ true) × (k < 4) × (isReady (slot b k .phase) ≡ true) × (length (now buffer) ≡ 512) ⌝ }
     ensures { λ r. ⌜ r ≡ steppedOf (sendFor b (now (buffer .entry)) (some k)) ⌝ }
 {
-    let slots = b.slots;
+    let mut slots = b.slots;
     let x = slots[k];
     let frame = frame_for(b.own, k, x, buffer);
     let y = sent_slot(x);
-    let mut t = b;
-    t.slots[k] = y;
-    t.last = k as u8;
+    slots[k] = y;
+    let t = Bridge {
+        slots: slots,
+        tickets: b.tickets,
+        own: b.own,
+        last: k as u8,
+    };
     let answer = bus::Served {
         number: 0,
         answers: 1,

@@ -1,10 +1,11 @@
 use borrow.Author.Needs.{needs}
 use Rattle.bridge.proofs.incoming.awaiting.Statement.{statement}
 use Rattle.bridge.proofs.incoming.awaiting.Tie as tie
-use mathlib.Core.Path.{sym, _∙_}
-use Rattle.bus.specs.Ident.{partsOf}
-use Rattle.transfer.specs.Model.{awaiting, awaits, slot, firstSlot}
-use Rattle.bridge.proofs.CodeFrames.{content-parts, head-is}
+use mathlib.Core.Path.{refl, sym, _∙_}
+use native.Mathlib.Omega.{arith}
+use Rattle.transfer.specs.Model.{slot}
+use Rattle.transfer.proofs.Sound.{true-sound}
+use Rattle.bridge.proofs.CodeFrames.{content-parts, awaited-there, awaited-nowhere}
 
 read-head-requires : tie.Need-read-head-requires
 read-head-requires c κs = search needs
@@ -16,38 +17,41 @@ enum-told : tie.Need-enum-told
 enum-told c = search needs
 
 returns : tie.Need-returns
-returns c = content-parts (c .before .before .before .args .b .own) (c .before .before .before .args .f) (c .before .before .before .pre .1) _ (c .before .before .before .pre .0) (sym (c .before .before .read-head .ensures .0) ∙ c .enum-told .given .1)
+returns c =
+    let s = c .before .before .before in
+    content-parts (s .args .b .own) (s .args .f) (s .pre .1) _ (true-sound (s .args .b) (s .pre .0) .own) (sym (c .before .before .read-head .ensures .0) ∙ c .enum-told .given .1)
 
-array-copy-out-awaits : tie.Need-array-copy-out-awaits
-array-copy-out-awaits c = search needs
+cast-k : tie.Need-cast-k
+cast-k c = search needs
+
+returns-2 : tie.Need-returns-2
+returns-2 c =
+    let s = c .before .before .before .before .before .before in
+    let e = sym (c .before .before .before .before .before .read-head .ensures .0) ∙ c .before .before .before .p .given .1 in
+    awaited-nowhere (s .args .b) (s .args .f) (s .pre .0) _ e _ refl (λ l. absurd (omega arith))
+
+mul-x : tie.Need-mul-x
+mul-x c = search needs
+
+array-copy-out-x : tie.Need-array-copy-out-x
+array-copy-out-x c = search needs
 
 awaits-requires : tie.Need-awaits-requires
 awaits-requires c κs = search needs
 
-array-copy-out-awaits-2 : tie.Need-array-copy-out-awaits-2
-array-copy-out-awaits-2 c = search needs
+returns-3 : tie.Need-returns-3
+unfolding slot
+returns-3 c =
+    let s = c .before .before .before .before .before .before .before .before .before .before in
+    let e = sym (c .before .before .before .before .before .before .before .before .before .read-head .ensures .0) ∙ c .before .before .before .before .before .before .before .p .given .1 in
+    awaited-there (s .args .b) (s .args .f) (s .pre .0) _ e _ refl (omega arith) (rw (← c .before .awaits .ensures) (c .if2 .taken))
 
-awaits-requires-2 : tie.Need-awaits-requires-2
-awaits-requires-2 c κs = search needs
-
-array-copy-out-awaits-3 : tie.Need-array-copy-out-awaits-3
-array-copy-out-awaits-3 c = search needs
-
-awaits-requires-3 : tie.Need-awaits-requires-3
-awaits-requires-3 c κs = search needs
-
-array-copy-out-awaits-4 : tie.Need-array-copy-out-awaits-4
-array-copy-out-awaits-4 c = search needs
-
-awaits-requires-4 : tie.Need-awaits-requires-4
-awaits-requires-4 c κs = search needs
-
-first-requires : tie.Need-first-requires
-first-requires c κs = search needs
-
-returns-2 : tie.Need-returns-2
-unfolding awaiting awaits slot firstSlot partsOf
-returns-2 c = c .first .ensures ∙ rw (c .before .before .before .before .before .before .before .awaits .ensures, c .before .before .before .before .before .awaits2 .ensures, c .before .before .before .awaits3 .ensures, c .before .awaits4 .ensures, head-is (c .before .before .before .before .before .before .before .before .before .before .before .before .before .before .args .b .own) (c .before .before .before .before .before .before .before .before .before .before .before .before .before .before .args .f) _ (sym (c .before .before .before .before .before .before .before .before .before .before .before .before .before .read-head .ensures .0) ∙ c .before .before .before .before .before .before .before .before .before .before .before .p .given .1) .1)
+returns-4 : tie.Need-returns-4
+unfolding slot
+returns-4 c =
+    let s = c .before .before .before .before .before .before .before .before .before .before in
+    let e = sym (c .before .before .before .before .before .before .before .before .before .read-head .ensures .0) ∙ c .before .before .before .before .before .before .before .p .given .1 in
+    awaited-nowhere (s .args .b) (s .args .f) (s .pre .0) _ e _ refl (λ l. rw (← c .before .awaits .ensures) (c .if2 .left))
 
 pub awaiting-spec : {M : Type 1} → statement M
 awaiting-spec =
@@ -57,13 +61,10 @@ awaiting-spec =
     enum-known-p
     enum-told
     returns
-    array-copy-out-awaits
+    cast-k
+    returns-2
+    mul-x
+    array-copy-out-x
     awaits-requires
-    array-copy-out-awaits-2
-    awaits-requires-2
-    array-copy-out-awaits-3
-    awaits-requires-3
-    array-copy-out-awaits-4
-    awaits-requires-4
-    first-requires
-    returns-2)
+    returns-3
+    returns-4)

@@ -1,11 +1,13 @@
 use borrow.Author.Needs.{needs}
 use Rattle.bridge.proofs.incoming.frame.Statement.{statement}
 use Rattle.bridge.proofs.incoming.frame.Tie as tie
-use mathlib.Core.Path.{sym, _∙_}
+use Prim.Native.Nat.{_<_}
+use mathlib.Core.Path.{_≡_, sym, _∙_}
 use native.Mathlib.Omega.{arith}
+use lib.ListN.{length}
 use Rattle.bus.specs.Frames.{content}
-use Rattle.transfer.specs.Model.{slot}
-use Rattle.bridge.proofs.CodeFrames.{frame-refused, reply-own, reply-content, reply-len, reply-at, reply-fits, frame-is}
+use Rattle.transfer.specs.Model.{slot, replyRefusal, orFour, awaiting}
+use Rattle.bridge.proofs.CodeFrames.{frame-refused, reply-len, reply-at, reply-fits, frame-is}
 
 judge-reply-requires : tie.Need-judge-reply-requires
 judge-reply-requires c κs = search needs
@@ -14,40 +16,55 @@ plain-requires : tie.Need-plain-requires
 plain-requires c κs = search needs
 
 returns : tie.Need-returns
-returns c = (c .plain .ensures ∙ frame-refused (c .before .before .before .before .args .b) (c .before .before .before .before .args .buffer .now) (c .before .before .before .before .args .f) _ (c .before .before .judge-reply .ensures .0) (c .before .if1 .taken) .0, frame-refused (c .before .before .before .before .args .b) (c .before .before .before .before .args .buffer .now) (c .before .before .before .before .args .f) _ (c .before .before .judge-reply .ensures .0) (c .before .if1 .taken) .1)
+returns c =
+    let a = c .before .before .before .before .args in
+    let g = frame-refused (a .b) (a .buffer .now) (a .f) _ (c .before .before .judge-reply .ensures .0) (c .before .if1 .taken) in
+    (c .plain .ensures ∙ g .0, g .1)
+
+-- a frame that is not refused, and its slot
+module _ (c : tie.After-slots) where
+  judged : replyRefusal (c .before .before .before .before .args .b) (length (c .before .before .before .before .args .buffer .now)) (c .before .before .before .before .args .f) ≡ 0
+  judged = sym (c .before .before .judge-reply .ensures .0) ∙ c .before .if1 .left
+
+  awaited : c .before .before .judge-reply .result .slot ≡ orFour (awaiting (c .before .before .before .before .args .b) (c .before .before .before .before .args .f))
+  awaited = c .before .before .judge-reply .ensures .1 (c .before .if1 .left)
+
+  four : c .before .before .judge-reply .result .slot < 4
+  four = let a = c .before .before .before .before .args in reply-at (a .b) (a .buffer .now) (a .f) judged _ awaited .1
 
 mul-x : tie.Need-mul-x
-mul-x c = omega (arith, reply-at (c .before .before .before .before .args .b) (c .before .before .before .before .args .buffer .now) (c .before .before .before .before .args .f) (sym (c .before .before .judge-reply .ensures .0) ∙ c .before .if1 .left) _ (c .before .before .judge-reply .ensures .1 (c .before .if1 .left)) .1)
+mul-x c = omega (arith, four c)
 
 array-copy-out-x : tie.Need-array-copy-out-x
-array-copy-out-x c = omega (arith, reply-at (c .before .before .before .before .args .b) (c .before .before .before .before .args .buffer .now) (c .before .before .before .before .args .f) (sym (c .before .before .judge-reply .ensures .0) ∙ c .before .if1 .left) _ (c .before .before .judge-reply .ensures .1 (c .before .if1 .left)) .1)
+array-copy-out-x c = omega (arith, four c)
 
 mul-store : tie.Need-mul-store
-unfolding slot
-mul-store c = omega (arith, reply-at (c .before .before .before .before .before .before .before .args .b) (c .before .before .before .before .before .before .before .args .buffer .now) (c .before .before .before .before .before .before .before .args .f) (sym (c .before .before .before .before .before .judge-reply .ensures .0) ∙ c .before .before .before .before .if1 .left) _ (c .before .before .before .before .before .judge-reply .ensures .1 (c .before .before .before .before .if1 .left)) .1)
+mul-store c = omega (arith, four (c .before .before .before))
 
 cast-store : tie.Need-cast-store
 cast-store c = search needs
 
 add-store : tie.Need-add-store
-unfolding slot
-add-store c = omega (arith, reply-at (c .before .before .before .before .before .before .before .before .args .b) (c .before .before .before .before .before .before .before .before .args .buffer .now) (c .before .before .before .before .before .before .before .before .args .f) (sym (c .before .before .before .before .before .before .judge-reply .ensures .0) ∙ c .before .before .before .before .before .if1 .left) _ (c .before .before .before .before .before .before .judge-reply .ensures .1 (c .before .before .before .before .before .if1 .left)) .1)
+add-store c = omega (arith, four (c .before .before .before .before))
 
 cast-store-2 : tie.Need-cast-store-2
 cast-store-2 c = search needs
 
 store-requires : tie.Need-store-requires
 unfolding slot
-store-requires c κs = (reply-len (c .before .before .before .before .before .before .before .before .before .args .b) (c .before .before .before .before .before .before .before .before .before .args .buffer .now) (c .before .before .before .before .before .before .before .before .before .args .f) (sym (c .before .before .before .before .before .before .before .judge-reply .ensures .0) ∙ c .before .before .before .before .before .before .if1 .left), reply-fits (c .before .before .before .before .before .before .before .before .before .args .b) (c .before .before .before .before .before .before .before .before .before .args .buffer .now) (c .before .before .before .before .before .before .before .before .before .args .f) (sym (c .before .before .before .before .before .before .before .judge-reply .ensures .0) ∙ c .before .before .before .before .before .before .if1 .left) _ (c .before .before .before .before .before .before .before .judge-reply .ensures .1 (c .before .before .before .before .before .before .if1 .left)))
+store-requires c κs =
+    let s = c .before .before .before .before .before in
+    let a = s .before .before .before .before .args in
+    (reply-len (a .b) (a .buffer .now) (a .f) (judged s), reply-fits (a .b) (a .buffer .now) (a .f) (judged s) _ (awaited s))
 
 advance-requires : tie.Need-advance-requires
 advance-requires c κs = search needs
 
-mul-y : tie.Need-mul-y
-mul-y c = omega (arith, reply-at (c .before .before .before .before .before .before .before .before .before .before .before .before .before .args .b) (c .before .before .before .before .before .before .before .before .before .before .before .before .before .args .buffer .now) (c .before .before .before .before .before .before .before .before .before .before .before .before .before .args .f) (sym (c .before .before .before .before .before .before .before .before .before .before .before .judge-reply .ensures .0) ∙ c .before .before .before .before .before .before .before .before .before .before .if1 .left) _ (c .before .before .before .before .before .before .before .before .before .before .before .judge-reply .ensures .1 (c .before .before .before .before .before .before .before .before .before .before .if1 .left)) .1)
+mul-slots : tie.Need-mul-slots
+mul-slots c = omega (arith, four (c .before .before .before .before .before .before .before .before .before))
 
-element-set-from-y : tie.Need-element-set-from-y
-element-set-from-y c = omega (arith, reply-at (c .before .before .before .before .before .before .before .before .before .before .before .before .before .args .b) (c .before .before .before .before .before .before .before .before .before .before .before .before .before .args .buffer .now) (c .before .before .before .before .before .before .before .before .before .before .before .before .before .args .f) (sym (c .before .before .before .before .before .before .before .before .before .before .before .judge-reply .ensures .0) ∙ c .before .before .before .before .before .before .before .before .before .before .if1 .left) _ (c .before .before .before .before .before .before .before .before .before .before .before .judge-reply .ensures .1 (c .before .before .before .before .before .before .before .before .before .before .if1 .left)) .1)
+array-set-from-slots : tie.Need-array-set-from-slots
+array-set-from-slots c = omega (arith, four (c .before .before .before .before .before .before .before .before .before))
 
 plain-requires-2 : tie.Need-plain-requires-2
 plain-requires-2 c κs = search needs
@@ -57,7 +74,10 @@ same-length c = search needs
 
 returns-2 : tie.Need-returns-2
 unfolding slot content
-returns-2 c = let g = frame-is (c .before .before .before .before .before .before .before .before .before .before .before .before .before .before .args .b) (c .before .before .before .before .before .before .before .before .before .before .before .before .before .before .args .buffer .now) (c .before .before .before .before .before .before .before .before .before .before .before .before .before .before .args .f) (sym (c .before .before .before .before .before .before .before .before .before .before .before .before .judge-reply .ensures .0) ∙ c .before .before .before .before .before .before .before .before .before .before .before .if1 .left) _ (c .before .before .before .before .before .before .before .before .before .before .before .before .judge-reply .ensures .1 (c .before .before .before .before .before .before .before .before .before .before .before .if1 .left)) in
+returns-2 c =
+    let s = c .before .before .before .before .before .before .before .before .before .before in
+    let a = s .before .before .before .before .args in
+    let g = frame-is (a .b) (a .buffer .now) (a .f) (judged s) _ (awaited s) in
     (c .plain2 .ensures ∙ rw (c .before .advance .ensures) (g .0), c .before .before .before .before .store .ensures ∙ g .1)
 
 pub frame-spec : {M : Type 1} → statement M
@@ -75,8 +95,8 @@ frame-spec =
     cast-store-2
     store-requires
     advance-requires
-    mul-y
-    element-set-from-y
+    mul-slots
+    array-set-from-slots
     plain-requires-2
     same-length
     returns-2)

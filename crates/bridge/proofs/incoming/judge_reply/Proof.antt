@@ -1,11 +1,12 @@
 use borrow.Author.Needs.{needs}
 use Rattle.bridge.proofs.incoming.judge_reply.Statement.{statement}
 use Rattle.bridge.proofs.incoming.judge_reply.Tie as tie
-use Rattle.transfer.specs.Model.{replyRefusal}
+use Rattle.transfer.specs.Model.{sound, replyRefusal}
 use Rattle.wire.proofs.Orders.{order}
 use native.Mathlib.Omega.{arith}
 use Rattle.bridge.proofs.CodeSlots.{awaiting-none, awaiting-some}
-use mathlib.Core.Path.{sym, _∙_}
+use mathlib.Core.Path.{_≡_, sym, _∙_}
+use mathlib.Core.Bool.{true}
 use Rattle.transfer.proofs.Sound.{true-sound}
 use Rattle.transfer.proofs.Refusals.{lent-ok}
 
@@ -16,19 +17,19 @@ returns : tie.Need-returns
 unfolding replyRefusal
 returns c = (search order depth 12, λ e. absurd (c .if1 .taken e))
 
+-- a bridge whose lent number is 0 is sound
+sounds : (c : tie.Else1) → sound (c .before .before .args .b) ≡ true
+sounds c = lent-ok (c .before .before .args .b) _ (sym (c .before .lent-number .ensures) ∙ c .if1 .left) .0
+
 content-number-requires : tie.Need-content-number-requires
-content-number-requires c κs =
-    let b = c .before .before .args .b in
-    true-sound b (lent-ok b _ (sym (c .before .lent-number .ensures) ∙ c .if1 .left) .0) .own
+content-number-requires c κs = true-sound (c .before .before .args .b) (sounds c) .own
 
 returns-2 : tie.Need-returns-2
 unfolding replyRefusal
 returns-2 c = (search order depth 12, λ e. absurd (c .if2 .taken e))
 
 awaiting-requires : tie.Need-awaiting-requires
-awaiting-requires c κs =
-    let b = c .before .before .before .before .args .b in
-    (true-sound b (lent-ok b _ (sym (c .before .before .before .lent-number .ensures) ∙ c .before .before .if1 .left) .0) .own, sym (c .before .content-number .ensures) ∙ c .if2 .left)
+awaiting-requires c κs = (sounds (c .before .before), sym (c .before .content-number .ensures) ∙ c .if2 .left)
 
 returns-3 : tie.Need-returns-3
 unfolding replyRefusal

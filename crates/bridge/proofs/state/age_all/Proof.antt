@@ -1,49 +1,83 @@
 use borrow.Author.Needs.{needs}
 use Rattle.bridge.proofs.state.age_all.Statement.{statement}
 use Rattle.bridge.proofs.state.age_all.Tie as tie
-use Rattle.transfer.specs.Model.{agedBridge}
-use Rattle.bridge.proofs.CodeSlots.{aged-four}
-use mathlib.Core.Path.{sym, _∙_}
-use lib.ListN.{length-map}
+use Prim.Native.Nat.{ℕ, _+_, _-_, _≤_}
+use mathlib.Core.Path.{_≡_, sym, _∙_, ap}
+use mathlib.Core.Logic.{⊎-elim}
+use native.Mathlib.Omega.{arith}
+use borrow.Author.Tests.{ne-eqb}
+use Rattle.transfer.specs.Model.{withSlots, agedBridge}
+use Rattle.bridge.proofs.CodeSlots.{four-slots, agedOn, ages, stays, rests, aged-four}
 
-array-copy-out-age : tie.Need-array-copy-out-age
-array-copy-out-age c = search needs
+abbrev Inv-loop : tie.InvT-loop
+Inv-loop b start slots₀ i₀ slots i = (i ≤ 4) × (agedOn 4 start slots₀ ≡ agedOn (4 - i) (start + i) slots)
 
-age-requires : tie.Need-age-requires
+abbrev μ-loop : tie.MeasureT-loop
+μ-loop b start slots₀ i₀ slots i = 4 - i
+
+cast-start : tie.Need-cast-start Inv-loop μ-loop
+cast-start c = search needs
+
+loop-holds : tie.Need-loop-holds Inv-loop μ-loop
+loop-holds c = (omega arith, ap (λ (n : ℕ). agedOn 4 n (c .before .before .args .b .slots)) (omega arith))
+
+add-k : tie.Need-add-k Inv-loop μ-loop
+add-k c = search needs
+
+mul-x : tie.Need-mul-x Inv-loop μ-loop
+mul-x c = search needs
+
+array-copy-out-x : tie.Need-array-copy-out-x Inv-loop μ-loop
+array-copy-out-x c = search needs
+
+age-requires : tie.Need-age-requires Inv-loop μ-loop
 age-requires c κs = search needs
 
-array-copy-out-age-2 : tie.Need-array-copy-out-age-2
-array-copy-out-age-2 c = search needs
+mul-slots : tie.Need-mul-slots Inv-loop μ-loop
+mul-slots c = search needs
 
-age-requires-2 : tie.Need-age-requires-2
-age-requires-2 c κs = search needs
+array-set-from-slots : tie.Need-array-set-from-slots Inv-loop μ-loop
+array-set-from-slots c = search needs
 
-array-copy-out-age-3 : tie.Need-array-copy-out-age-3
-array-copy-out-age-3 c = search needs
+add-i : tie.Need-add-i Inv-loop μ-loop
+add-i c = search needs
 
-age-requires-3 : tie.Need-age-requires-3
-age-requires-3 c κs = search needs
+loop-less : tie.Need-loop-less Inv-loop μ-loop
+loop-less c = search needs
 
-array-copy-out-age-4 : tie.Need-array-copy-out-age-4
-array-copy-out-age-4 c = search needs
+loop-again : tie.Need-loop-again Inv-loop μ-loop
+loop-again c =
+    let l = c .before .before .before .before .loop in (
+      omega arith,
+      l .inv .1 ∙ ⊎-elim
+          (λ w. ages _ (l .i) (l .slots) (omega arith) _ (w .1 .ensures) ∙ ap (agedOn _ _) (sym (w .2)))
+          (λ w. stays _ (l .i) (l .slots) (omega arith) (ne-eqb _ 2 (w .0 .left)) ∙ ap (agedOn _ _) (sym (w .1)))
+          (c .if1 .came),
+    )
 
-age-requires-4 : tie.Need-age-requires-4
-age-requires-4 c κs = search needs
-
-returns : tie.Need-returns
+returns : tie.Need-returns Inv-loop μ-loop
 unfolding agedBridge
-returns c = rw (c .before .before .before .before .before .before .age .ensures, c .before .before .before .before .age2 .ensures, c .before .before .age3 .ensures, c .age4 .ensures, aged-four (c .before .before .before .before .before .before .before .before .before .args .b .slots) (sym (length-map (c .before .before .before .before .before .before .before .before .before .args .b .slots) _) ∙ c .before .before .before .before .before .before .before .before .before .good .0 .1 .1 .0 .1 .0 .1))
+returns c =
+    let s = c .before .before .before .before in
+    let b = s .args .b in
+    let l = c .before .loop in
+    ap (withSlots b) (sym (l .inv .1 ∙ rests _ (l .i) (l .slots) (omega arith)) ∙ aged-four (b .last) (b .slots) (four-slots b _ (s .good .0 .1 .1 .0 .1 .0 .1)))
 
 pub age-all-spec : {M : Type 1} → statement M
 age-all-spec =
     tie.close
     (tie.spec
-    array-copy-out-age
+    Inv-loop
+    μ-loop
+    cast-start
+    loop-holds
+    add-k
+    mul-x
+    array-copy-out-x
     age-requires
-    array-copy-out-age-2
-    age-requires-2
-    array-copy-out-age-3
-    age-requires-3
-    array-copy-out-age-4
-    age-requires-4
+    mul-slots
+    array-set-from-slots
+    add-i
+    loop-less
+    loop-again
     returns)

@@ -1,9 +1,7 @@
 use borrow.Author.Needs.{needs}
 use Rattle.bridge.proofs.state.sound.Statement.{statement}
 use Rattle.bridge.proofs.state.sound.Tie as tie
-use Rattle.bridge.proofs.CodeSlots.{sound-parts}
-use mathlib.Core.Path.{sym, _∙_}
-use lib.ListN.{length-map}
+use Rattle.bridge.proofs.CodeSlots.{four-slots, sound-parts}
 
 sound-slots-requires : tie.Need-sound-slots-requires
 sound-slots-requires c κs = search needs
@@ -12,7 +10,9 @@ distinct-requires : tie.Need-distinct-requires
 distinct-requires c κs = search needs
 
 returns : tie.Need-returns
-returns c = rw (c .before .sound-slots .ensures, c .distinct .ensures) (sound-parts (c .before .before .before .before .before .args .b) (search needs) (sym (length-map (c .before .before .before .before .before .args .b .slots) _) ∙ c .before .before .before .before .before .good .0 .1 .1 .0 .1 .0 .1))
+returns c =
+    let s = c .before .before .before .before .before in
+    rw (c .before .sound-slots .ensures, c .distinct .ensures) (sound-parts (s .args .b) (search needs) (four-slots (s .args .b) _ (s .good .0 .1 .1 .0 .1 .0 .1)))
 
 pub sound-spec : {M : Type 1} → statement M
 sound-spec = tie.close (tie.spec sound-slots-requires distinct-requires returns)

@@ -1,45 +1,61 @@
 use borrow.Author.Needs.{needs}
 use Rattle.bridge.proofs.state.sound_slots.Statement.{statement}
 use Rattle.bridge.proofs.state.sound_slots.Tie as tie
-use Rattle.bridge.proofs.CodeSlots.{slots-four}
+use Prim.Native.Nat.{_-_, _≤_}
+use mathlib.Core.Path.{_≡_, refl, sym, _∙_}
+use mathlib.Core.Bool.{_&&_}
+use native.Mathlib.Omega.{arith}
+use lib.ListN.{length, drop}
+use Rattle.transfer.specs.Model.{soundSlots}
+use Rattle.bridge.proofs.CodeSlots.{slots-step, slots-end}
 
-array-copy-out-sound-slot : tie.Need-array-copy-out-sound-slot
-array-copy-out-sound-slot c = search needs
+abbrev Inv-loop : tie.InvT-loop
+Inv-loop tickets slots ok₀ i₀ ok i = (i ≤ 4) × (soundSlots tickets slots ≡ (ok && soundSlots tickets (drop i slots))) × (length slots ≡ 4)
 
-sound-slot-requires : tie.Need-sound-slot-requires
+abbrev μ-loop : tie.MeasureT-loop
+μ-loop tickets slots ok₀ i₀ ok i = 4 - i
+
+loop-holds : tie.Need-loop-holds Inv-loop μ-loop
+loop-holds c = (omega arith, refl, search needs)
+
+mul-x : tie.Need-mul-x Inv-loop μ-loop
+mul-x c = search needs
+
+array-copy-out-x : tie.Need-array-copy-out-x Inv-loop μ-loop
+array-copy-out-x c = search needs
+
+sound-slot-requires : tie.Need-sound-slot-requires Inv-loop μ-loop
 sound-slot-requires c κs = search needs
 
-array-copy-out-sound-slot-2 : tie.Need-array-copy-out-sound-slot-2
-array-copy-out-sound-slot-2 c = search needs
+add-i : tie.Need-add-i Inv-loop μ-loop
+add-i c = search needs
 
-sound-slot-requires-2 : tie.Need-sound-slot-requires-2
-sound-slot-requires-2 c κs = search needs
+loop-less : tie.Need-loop-less Inv-loop μ-loop
+loop-less c = search needs
 
-array-copy-out-sound-slot-3 : tie.Need-array-copy-out-sound-slot-3
-array-copy-out-sound-slot-3 c = search needs
+loop-again : tie.Need-loop-again Inv-loop μ-loop
+loop-again c =
+    let a = c .before .before .before .before .args in
+    let l = c .before .before .before .loop in
+    (omega arith, rw (c .sound-slot .ensures) (l .inv .1 ∙ slots-step (a .tickets) (a .t1) (l .ok) (l .i) (omega arith)), l .inv .2)
 
-sound-slot-requires-3 : tie.Need-sound-slot-requires-3
-sound-slot-requires-3 c κs = search needs
-
-array-copy-out-sound-slot-4 : tie.Need-array-copy-out-sound-slot-4
-array-copy-out-sound-slot-4 c = search needs
-
-sound-slot-requires-4 : tie.Need-sound-slot-requires-4
-sound-slot-requires-4 c κs = search needs
-
-returns : tie.Need-returns
-returns c = rw (c .before .before .before .before .before .before .sound-slot .ensures, c .before .before .before .before .sound-slot2 .ensures, c .before .before .sound-slot3 .ensures, c .sound-slot4 .ensures) (slots-four (c .before .before .before .before .before .before .before .before .args .t1) (search needs) _)
+returns : tie.Need-returns Inv-loop μ-loop
+returns c =
+    let a = c .before .before .args in
+    let l = c .before .loop in
+    sym (l .inv .1 ∙ slots-end (a .tickets) (a .t1) (l .ok) (l .i) (omega arith))
 
 pub sound-slots-spec : {M : Type 1} → statement M
 sound-slots-spec =
     tie.close
     (tie.spec
-    array-copy-out-sound-slot
+    Inv-loop
+    μ-loop
+    loop-holds
+    mul-x
+    array-copy-out-x
     sound-slot-requires
-    array-copy-out-sound-slot-2
-    sound-slot-requires-2
-    array-copy-out-sound-slot-3
-    sound-slot-requires-3
-    array-copy-out-sound-slot-4
-    sound-slot-requires-4
+    add-i
+    loop-less
+    loop-again
     returns)

@@ -21,14 +21,14 @@ sent-slot-requires : tie.Need-sent-slot-requires
 unfolding slot
 sent-slot-requires c κs = readies (c .before .before .before .before .args .b) (c .before .before .before .before .args .k) (c .before .before .before .before .pre .0) (c .before .before .before .before .pre .1) (c .before .before .before .before .pre .2) .sends
 
-mul-y : tie.Need-mul-y
-mul-y c = search needs
+mul-slots : tie.Need-mul-slots
+mul-slots c = search needs
 
-element-set-from-y : tie.Need-element-set-from-y
-element-set-from-y c = search needs
+array-set-from-slots : tie.Need-array-set-from-slots
+array-set-from-slots c = search needs
 
-cast-t : tie.Need-cast-t
-cast-t c = search needs
+cast-t17 : tie.Need-cast-t17
+cast-t17 c = search needs
 
 returns : tie.Need-returns
 unfolding sendFor slot steppedOf
@@ -42,7 +42,7 @@ send-spec =
     array-copy-out-x
     frame-for-requires
     sent-slot-requires
-    mul-y
-    element-set-from-y
-    cast-t
+    mul-slots
+    array-set-from-slots
+    cast-t17
     returns)
