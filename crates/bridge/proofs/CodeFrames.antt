@@ -7,13 +7,15 @@ use mathlib.Core.List.{List}
 use mathlib.Core.Option.{none, some}
 use native.Mathlib.Omega.{arith}
 use native.Mathlib.Numerals.{add-one}
-use lib.ListN.{length, set}
+use lib.ListN.{length, length-take, set}
 use lib.Seq.{sets}
 use lib.Dec.{eqb}
 use borrow.Author.Tests.{le-ltb, eq-eqb, ne-eqb}
 use Rattle.wire.specs.Order.{_if_else_, _orElse_}
 use Rattle.wire.specs.Answer.{answer}
+use Rattle.wire.specs.Put.{putOf}
 use Rattle.wire.proofs.Orders.{if-zero, else-zero}
+use Rattle.wire.proofs.Puts.{put-sets}
 use Rattle.bus.specs.Ident.{idOf, idOffset, idKind, packNumber, packOf, partsOf}
 use Rattle.bus.specs.Frames.{rsp, content, headNumber, receiveNumber, headOf}
 use Rattle.bus.specs.Request.{request, requestNumber, wroteRequest, requestBytesOf}
@@ -68,9 +70,6 @@ module _ (k : ℕ) (x : Slot) (b : List ℕ) (hk : k < 4) (hp : x .progress < x 
   pub goes-length : length (outgoing k x b) ≡ chunkLen (x .count) (x .progress)
   unfolding outgoing
   goes-length = part-length b (128 * k + x .progress) (chunkLen (x .count) (x .progress)) goes-inside
-
-  pub goes-eight : length (outgoing k x b) ≤ 8
-  goes-eight = omega (arith, goes-length, len-eight (x .count) (x .progress))
 
 -- a slot that sent
 pub sent-asks : (x : Slot) → asks (x .kind) ≡ true → moved x waiting (x .progress) (x .sends + 1) 20 ≡ sentSlot x
@@ -222,9 +221,6 @@ module _ (s : Bridge) (b : List ℕ) (f : Frame) where
     unfolding replyRefusal
     reply-found = if-zero 16 _ _ (else-zero _ _ (else-zero _ _ e .1) .1) .0
 
-    pub reply-len : f .len ≤ 8
-    reply-len = head-short (s .own) f (content-head (s .own) f reply-content)
-
     module _ (k : ℕ) (q : k ≡ orFour (awaiting s f)) where
       pub reply-at : (k ≡ from (awaiting s f)) × (k < 4)
       reply-at = awaiting-from s f k q reply-found
@@ -239,12 +235,16 @@ module _ (s : Bridge) (b : List ℕ) (f : Frame) where
               let g : k ≡ j = reply-at .0 ∙ ap from z in
               rw g (awaits-ok s f j (lowest-some (awaits s f) j z .passes))
 
-      pub reply-fits : 128 * k + slot s k .progress + f .len ≤ length b
+      reply-fits : 128 * k + slot s k .progress + f .len ≤ length b
       reply-fits =
           let w = wait-ok (s .tickets) (slot s k) (true-sound s (reply-lent .0) .each k (reply-at .1)) (reply-awaited .waits) in
           omega (arith, reply-at .1, reply-lent .1, reply-awaited .len, w .common .few, w .mid .below, len-inside (slot s k .count) (slot s k .progress) (w .mid .below))
 
+      reply-puts : putOf b (128 * k + slot s k .progress) (content f) ≡ sets b (128 * k + slot s k .progress) (content f)
+      unfolding content
+      reply-puts = put-sets b (128 * k + slot s k .progress) (content f) (omega (arith, reply-fits, length-take (f .len) (f .bytes)))
+
       pub frame-is : _≡_ {A = Stepped} (record { bridge = withSlots s (set (s .slots) k (advanced (slot s k))); answer = noAnswer 0 }) (steppedOf (frame′ s b f))
-          × (sets b (128 * k + slot s k .progress) (content f) ≡ frame′ s b f .buffer)
+          × (putOf b (128 * k + slot s k .progress) (content f) ≡ frame′ s b f .buffer)
       unfolding frame′ steppedOf
-      frame-is = rw (← reply-at .0, eq-eqb _ 0 e) (refl, refl)
+      frame-is = rw (reply-puts, ← reply-at .0, eq-eqb _ 0 e) (refl, refl)

@@ -11,8 +11,6 @@ ghost use mathlib.Core.Path.{_≡_};
 ghost use mathlib.Core.Bool.{true, _&&_};
 ghost use Prim.Native.Nat.{_+_, _*_, _≤_, _<_};
 ghost use lib.Dec.{eqb};
-ghost use lib.ListN.{length, take};
-ghost use lib.Seq.{sets};
 ghost use Rattle.transfer.specs.Model.{sound, isWaiting, chunkLen, contentRefusal, awaiting, orFour, replyRefusal, frame′};
 ghost use Rattle.transfer.specs.Answers.{steppedOf};
 
@@ -97,14 +95,6 @@ fn judge_reply(b: Bridge, n: usize, f: bus::Frame) -> Judged
     Judged { number: 0, slot }
 }
 
-// The first n bytes of an array, stored from a place on.
-fn store(buffer: &mut [u8], at: usize, bytes: [u8; 8], n: usize)
-    requires { ⌜ (n ≤ 8) × (at + n ≤ length (now buffer)) ⌝ }
-    ensures { λ _. ⌜ now (buffer .exit) ≡ sets (now (buffer .entry)) at (take n bytes) ⌝ }
-{
-    wire::put(buffer, at, &bytes[..n]);
-}
-
 // An incoming frame: 17 where no waiting read awaits it; else its bytes are stored, and the read goes on or is done.
 pub fn frame(b: Bridge, buffer: &mut [u8], f: bus::Frame) -> Stepped
     ensures { λ r. ⌜ (r ≡ steppedOf (frame′ b (now (buffer .entry)) f)) × (now (buffer .exit) ≡ frame′ b (now (buffer .entry)) f .buffer) ⌝ }
@@ -117,8 +107,7 @@ pub fn frame(b: Bridge, buffer: &mut [u8], f: bus::Frame) -> Stepped
     let k = judged.slot;
     let mut slots = b.slots;
     let x = slots[k];
-    let bytes = f.bytes;
-    store(buffer, 128 * k + x.progress as usize, bytes, f.len as usize);
+    bus::frames::put_content(buffer, 128 * k + x.progress as usize, f);
     let y = advance(x);
     slots[k] = y;
     let t = Bridge {

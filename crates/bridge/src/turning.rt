@@ -18,7 +18,6 @@ ghost use mathlib.Core.Option.{some};
 ghost use Prim.Native.Nat.{_+_, _≤_, _<_};
 ghost use lib.ListN.{length};
 ghost use Rattle.bus.specs.Ident.{idOf};
-ghost use Rattle.bus.specs.Frames.{padded};
 ghost use Rattle.transfer.specs.Model.{slot, sound, isReady, readFrame, writeFrame, sentFrame, sentSlot, sendFor, turn′};
 ghost use Rattle.transfer.specs.Answers.{steppedOf};
 
@@ -63,16 +62,6 @@ fn request_frame(own: u8, k: usize, x: Slot) -> bus::Frame
     }
 }
 
-// The bytes given, and zeros up to eight.
-fn eight(bytes: &[u8]) -> [u8; 8]
-    requires { ⌜ length (now bytes) ≤ 8 ⌝ }
-    ensures { λ r. ⌜ r ≡ padded (now (bytes .entry)) ⌝ }
-{
-    let mut out = [0u8; 8];
-    wire::put(&mut out, 0, bytes);
-    out
-}
-
 // The CMD of a write in slot k, with the next of its bytes.
 fn command_frame(own: u8, k: usize, x: Slot, buffer: &[u8]) -> bus::Frame
     requires { ⌜ (own ≤ 15) × (k < 4) × (x .device ≤ 15) × (x .table ≤ 31) × (x .progress < x .count) × (x .count ≤ 128) × (x .offset + x .count ≤ 2048) × (length (now buffer) ≡ 512) ⌝ }
@@ -82,7 +71,7 @@ fn command_frame(own: u8, k: usize, x: Slot, buffer: &[u8]) -> bus::Frame
     let n = next_len(x.count, x.progress);
     let start = 128 * k + x.progress as usize;
     let end = start + n as usize;
-    let bytes = eight(&buffer[start..end]);
+    let bytes = bus::frames::padded(&buffer[start..end]);
     bus::Frame {
         id: id,
         len: n,

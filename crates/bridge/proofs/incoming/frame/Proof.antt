@@ -5,9 +5,8 @@ use Prim.Native.Nat.{_<_}
 use mathlib.Core.Path.{_≡_, sym, _∙_}
 use native.Mathlib.Omega.{arith}
 use lib.ListN.{length}
-use Rattle.bus.specs.Frames.{content}
 use Rattle.transfer.specs.Model.{slot, replyRefusal, orFour, awaiting}
-use Rattle.bridge.proofs.CodeFrames.{frame-refused, reply-len, reply-at, reply-fits, frame-is}
+use Rattle.bridge.proofs.CodeFrames.{frame-refused, reply-at, frame-is}
 
 judge-reply-requires : tie.Need-judge-reply-requires
 judge-reply-requires c κs = search needs
@@ -38,33 +37,26 @@ mul-x c = omega (arith, four c)
 array-copy-out-x : tie.Need-array-copy-out-x
 array-copy-out-x c = omega (arith, four c)
 
-mul-store : tie.Need-mul-store
-mul-store c = omega (arith, four (c .before .before .before))
+mul-put-content : tie.Need-mul-put-content
+mul-put-content c = omega (arith, four (c .before .before))
 
-cast-store : tie.Need-cast-store
-cast-store c = search needs
+cast-put-content : tie.Need-cast-put-content
+cast-put-content c = search needs
 
-add-store : tie.Need-add-store
-add-store c = omega (arith, four (c .before .before .before .before))
+add-put-content : tie.Need-add-put-content
+add-put-content c = omega (arith, four (c .before .before .before))
 
-cast-store-2 : tie.Need-cast-store-2
-cast-store-2 c = search needs
-
-store-requires : tie.Need-store-requires
-unfolding slot
-store-requires c κs =
-    let s = c .before .before .before .before .before in
-    let a = s .before .before .before .before .args in
-    (reply-len (a .b) (a .buffer .now) (a .f) (judged s), reply-fits (a .b) (a .buffer .now) (a .f) (judged s) _ (awaited s))
+put-content-requires : tie.Need-put-content-requires
+put-content-requires c κs = search needs
 
 advance-requires : tie.Need-advance-requires
 advance-requires c κs = search needs
 
 mul-slots : tie.Need-mul-slots
-mul-slots c = omega (arith, four (c .before .before .before .before .before .before .before .before .before))
+mul-slots c = omega (arith, four (c .before .before .before .before .before .before .before))
 
 array-set-from-slots : tie.Need-array-set-from-slots
-array-set-from-slots c = omega (arith, four (c .before .before .before .before .before .before .before .before .before))
+array-set-from-slots c = omega (arith, four (c .before .before .before .before .before .before .before))
 
 plain-requires-2 : tie.Need-plain-requires-2
 plain-requires-2 c κs = search needs
@@ -73,12 +65,12 @@ same-length : tie.Need-same-length
 same-length c = search needs
 
 returns-2 : tie.Need-returns-2
-unfolding slot content
+unfolding slot
 returns-2 c =
-    let s = c .before .before .before .before .before .before .before .before .before .before in
+    let s = c .before .before .before .before .before .before .before .before in
     let a = s .before .before .before .before .args in
     let g = frame-is (a .b) (a .buffer .now) (a .f) (judged s) _ (awaited s) in
-    (c .plain2 .ensures ∙ rw (c .before .advance .ensures) (g .0), c .before .before .before .before .store .ensures ∙ g .1)
+    (c .plain2 .ensures ∙ rw (c .before .advance .ensures) (g .0), c .before .before .before .before .put-content .ensures ∙ g .1)
 
 pub frame-spec : {M : Type 1} → statement M
 frame-spec =
@@ -89,11 +81,10 @@ frame-spec =
     returns
     mul-x
     array-copy-out-x
-    mul-store
-    cast-store
-    add-store
-    cast-store-2
-    store-requires
+    mul-put-content
+    cast-put-content
+    add-put-content
+    put-content-requires
     advance-requires
     mul-slots
     array-set-from-slots

@@ -5,7 +5,7 @@ use native.Mathlib.Omega.{arith}
 use Rattle.bus.specs.Frames.{frameOf}
 use Rattle.bus.proofs.FrameLaws.{part-is}
 use Rattle.transfer.specs.Model.{writeFrame, outgoing}
-use Rattle.bridge.proofs.CodeFrames.{goes-inside, goes-length, goes-eight}
+use Rattle.bridge.proofs.CodeFrames.{goes-inside, goes-length}
 
 identifier-requires : tie.Need-identifier-requires
 identifier-requires c κs = search needs
@@ -28,22 +28,21 @@ cast-end c = search needs
 add-end : tie.Need-add-end
 add-end c = search needs
 
-sub-eight : tie.Need-sub-eight
-sub-eight c = search needs
+sub-padded : tie.Need-sub-padded
+sub-padded c = search needs
 
-part-eight-start : tie.Need-part-eight-start
-part-eight-start c = search needs
+part-padded-start : tie.Need-part-padded-start
+part-padded-start c = search needs
 
-part-eight-end : tie.Need-part-eight-end
-part-eight-end c = omega (arith, c .before .next-len .ensures, goes-inside (c .before .before .before .before .args .k) (c .before .before .before .before .args .x) (c .before .before .before .before .args .buffer .now) (c .before .before .before .before .pre .1) (c .before .before .before .before .pre .4) (c .before .before .before .before .pre .5) (c .before .before .before .before .pre .7))
+part-padded-end : tie.Need-part-padded-end
+part-padded-end c = omega (arith, c .before .next-len .ensures, goes-inside (c .before .before .before .before .args .k) (c .before .before .before .before .args .x) (c .before .before .before .before .args .buffer .now) (c .before .before .before .before .pre .1) (c .before .before .before .before .pre .4) (c .before .before .before .before .pre .5) (c .before .before .before .before .pre .7))
 
-eight-requires : tie.Need-eight-requires
-unfolding outgoing
-eight-requires c κs = rw (part-is (c .before .before .before .before .before .args .buffer .now) _ _, c .before .before .next-len .ensures) (goes-eight (c .before .before .before .before .before .args .k) (c .before .before .before .before .before .args .x) (c .before .before .before .before .before .args .buffer .now) (c .before .before .before .before .before .pre .1) (c .before .before .before .before .before .pre .4) (c .before .before .before .before .before .pre .5) (c .before .before .before .before .before .pre .7))
+padded-requires : tie.Need-padded-requires
+padded-requires c κs = search needs
 
 returns : tie.Need-returns
 unfolding writeFrame frameOf outgoing
-returns c = rw (goes-length (c .before .before .before .before .before .before .args .k) (c .before .before .before .before .before .before .args .x) (c .before .before .before .before .before .before .args .buffer .now) (c .before .before .before .before .before .before .pre .1) (c .before .before .before .before .before .before .pre .4) (c .before .before .before .before .before .before .pre .5) (c .before .before .before .before .before .before .pre .7), c .before .before .before .before .identifier .ensures, c .eight .ensures, part-is (c .before .before .before .before .before .before .args .buffer .now) _ _, c .before .before .before .next-len .ensures)
+returns c = rw (goes-length (c .before .before .before .before .before .before .args .k) (c .before .before .before .before .before .before .args .x) (c .before .before .before .before .before .before .args .buffer .now) (c .before .before .before .before .before .before .pre .1) (c .before .before .before .before .before .before .pre .4) (c .before .before .before .before .before .before .pre .5) (c .before .before .before .before .before .before .pre .7), c .before .before .before .before .identifier .ensures, c .padded .ensures, part-is (c .before .before .before .before .before .before .args .buffer .now) _ _, c .before .before .before .next-len .ensures)
 
 pub command-frame-spec : {M : Type 1} → statement M
 command-frame-spec =
@@ -56,8 +55,8 @@ command-frame-spec =
     add-start
     cast-end
     add-end
-    sub-eight
-    part-eight-start
-    part-eight-end
-    eight-requires
+    sub-padded
+    part-padded-start
+    part-padded-end
+    padded-requires
     returns)
