@@ -222,7 +222,3 @@ table-small id = omega arith
 pub from-small : (id : ℕ) → idFrom id ≤ 15
 unfolding idFrom
 from-small id = omega arith
-
-pub offset-small : (id : ℕ) → idOffset id ≤ 2047
-unfolding idOffset
-offset-small id = omega arith

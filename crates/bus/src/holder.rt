@@ -18,7 +18,7 @@ use crate::rows::offset_of;
 use crate::rows::request_of;
 use crate::rows::table_of;
 ghost use mathlib.Core.Path.{_≡_};
-ghost use Prim.Native.Nat.{ℕ, _+_, _*_, _≤_, _<_};
+ghost use Prim.Native.Nat.{_+_, _*_, _≤_, _<_};
 ghost use lib.ListN.{length, take, drop};
 ghost use Rattle.bus.specs.Holder.{startOf, sizeOf, rightOf, totalOf, soundTables, directoryNumber, memoryNumber, commandNumber, askNumber, queryNumber, kindNumber, serveNumber, requestAt, tableOf, noAnswer, replyTo, placeOf, protocol, actOf, memoryAct, serveOf, memoryOf};
 ghost use Rattle.bus.specs.Demand2.{Demand2};

@@ -2,10 +2,8 @@ use Rattle.bus.specs.Request.{Request}
 use borrow.Author.Needs.{needs}
 use Rattle.bus.proofs.holder.answer_query.Statement.{statement}
 use Rattle.bus.proofs.holder.answer_query.Tie as tie
-use Rattle.bus.specs.Holder.{byteOf, requestAt}
-use Rattle.bus.specs.Request.{requestOf}
 use native.Mathlib.Omega.{arith}
-use mathlib.Core.Path.{_≡_, sym, _∙_, ap}
+use mathlib.Core.Path.{sym, ap}
 use Rattle.bus.specs.Holder.{byteOf, requestAt, protocol}
 use lib.Seq.{length-take-le}
 use lib.ListN.{length}

@@ -3,8 +3,8 @@ use Rattle.bus.proofs.holder.table_at.Tie as tie
 use mir.Val.{Fits}
 use mir.Syntax.{w16}
 use lib.ListN.{getD}
-use Prim.Native.Nat.{ℕ, _≤_, _<_, _+_, _-_, _*_}
-use mathlib.Core.Path.{_≡_, refl, sym, _∙_, ap}
+use Prim.Native.Nat.{_≤_, _-_, _*_}
+use mathlib.Core.Path.{_≡_, refl, _∙_, ap}
 use native.Mathlib.Omega.{arith}
 use borrow.Author.Needs.{needs}
 use Rattle.bus.specs.Holder.{sizeOf, rightOf, startOf}
