@@ -15,11 +15,11 @@ enum-known-v-2 : tie.Need-enum-known-v-2
 enum-known-v-2 c = search needs
 
 returns : tie.Need-returns
-returns c = ap shownOut (sym (c .before .v .given .1) ∙ c .before .before .before .shown-value .ensures .0 .0)
+returns c = ap shownOut (sym (c .before .v .given .1) ∙ c .before .before .before .shown-value .ensures .0)
 
 returns-2 : tie.Need-returns-2
 unfolding ofBits
-returns-2 c = ap shownOut (sym (c .before .v2 .given .1) ∙ c .before .before .before .shown-value .ensures .0 .0)
+returns-2 c = ap shownOut (sym (c .before .v2 .given .1) ∙ c .before .before .before .shown-value .ensures .0)
 
 pub hg-shown-value-spec : {M : Type 1} → statement M
 hg-shown-value-spec =
