@@ -1,5 +1,5 @@
 -- Laws of frames by which the code's functions are proved: what a ready slot sends, and what a waiting one takes.
-use Prim.Native.Nat.{ℕ, zero, suc, _+_, _*_, _/_, _-_, _≤_, _<_}
+use Prim.Native.Nat.{ℕ, zero, suc, _+_, _*_, _/_, _≤_, _<_}
 use mathlib.Core.Path.{_≡_, refl, sym, _∙_, ap}
 use mathlib.Core.Bool.{Bool, true, false, not, _&&_, true≢false}
 use mathlib.Core.Logic.{_⊎_, inl, inr}
@@ -26,7 +26,7 @@ use Rattle.bus.specs.declared.Packed.the-variants as P
 use Rattle.bus.specs.declared.Unpacked.the-variants as U
 use Rattle.bus.specs.declared.Request.{Request}
 use Rattle.bus.proofs.IdentLaws.{unpacked-is}
-use Rattle.bus.proofs.FrameLaws.{part-length, head-short}
+use Rattle.bus.proofs.FrameLaws.{part-length}
 use Rattle.transfer.specs.declared.Bridge.{Bridge}
 use Rattle.transfer.specs.declared.Slot.{Slot}
 use Rattle.transfer.specs.Model.{Frame, slot, sound, isReady, isNone, from, orFour, nextReady, agedBridge, lentRefusal, turn′}
@@ -37,7 +37,7 @@ use Rattle.transfer.specs.Answers.{steppedOf}
 use Rattle.transfer.proofs.Search.{search-some, lowest-some, lowest-none, option-cases}
 use Rattle.transfer.proofs.Sound.{ReadyOk, ready-ok, true-sound, sound-true}
 use Rattle.transfer.proofs.CallKinds.{aged-sound, AwaitsOk, awaits-ok, wait-ok}
-use Rattle.transfer.proofs.FrameLaws.{len-eight, len-inside}
+use Rattle.transfer.proofs.FrameLaws.{len-inside}
 use Rattle.transfer.proofs.Refusals.{lent-ok}
 use Rattle.bridge.proofs.CodeSlots.{awaiting-from}
 
@@ -212,10 +212,6 @@ module _ (s : Bridge) (b : List ℕ) (f : Frame) where
     reply-lent : (sound s ≡ true) × (length b ≡ 512)
     unfolding replyRefusal
     reply-lent = lent-ok s (length b) (else-zero _ _ e .0)
-
-    reply-content : contentRefusal (s .own) f ≡ 0
-    unfolding replyRefusal
-    reply-content = else-zero _ _ (else-zero _ _ e .1) .0
 
     reply-found : isNone (awaiting s f) ≡ false
     unfolding replyRefusal

@@ -7,6 +7,7 @@ use crate::state::advance;
 use crate::state::chunk_len;
 use crate::state::lent_number;
 use crate::state::plain;
+use crate::state::with_slots;
 ghost use mathlib.Core.Path.{_≡_};
 ghost use mathlib.Core.Bool.{true, _&&_};
 ghost use Prim.Native.Nat.{_+_, _*_, _≤_, _<_};
@@ -110,11 +111,5 @@ pub fn frame(b: Bridge, buffer: &mut [u8], f: bus::Frame) -> Stepped
     bus::frames::put_content(buffer, 128 * k + x.progress as usize, f);
     let y = advance(x);
     slots[k] = y;
-    let t = Bridge {
-        slots: slots,
-        tickets: b.tickets,
-        own: b.own,
-        last: b.last,
-    };
-    plain(t, 0)
+    plain(with_slots(b, slots), 0)
 }

@@ -6,7 +6,7 @@ ghost use mathlib.Core.List.{[], _∷_};
 ghost use lib.ListN.{getD};
 ghost use lib.Dec.{eqb};
 ghost use Rattle.bus.specs.Holder.{noAnswer};
-ghost use Rattle.transfer.specs.Model.{asks, carries, isFree, isReady, isWaiting, blank, moved, askRefusal, soundPhase, soundSlot};
+ghost use Rattle.transfer.specs.Model.{waiting, asks, carries, isFree, isReady, blank, withSlots, moved, askRefusal, soundPhase, soundSlot};
 ghost use Rattle.transfer.specs.Model.{soundSlots, distinct, sound, lentRefusal, firstSlot, orFour, lowestFree, holderOf, nextReady};
 ghost use Rattle.transfer.specs.Model.{aged, agedBridge, chunkLen, advanced};
 use crate::Bridge;
@@ -299,13 +299,23 @@ pub(crate) fn next_ready(b: Bridge) -> usize
     found
 }
 
-// A slot one turn older.
+// The bridge with other slots.
+pub(crate) fn with_slots(b: Bridge, slots: [Slot; 4]) -> Bridge
+    ensures { λ r. ⌜ r ≡ withSlots b slots ⌝ }
+{
+    Bridge {
+        slots: slots,
+        tickets: b.tickets,
+        own: b.own,
+        last: b.last,
+    }
+}
+
+// A waiting slot one turn older.
 fn age(x: Slot) -> Slot
+    requires { ⌜ x .phase ≡ waiting ⌝ }
     ensures { λ r. ⌜ r ≡ aged x ⌝ }
 {
-    if x.phase != WAITING {
-        return x;
-    }
     if 1 < x.left {
         return moved(x, WAITING, x.progress, x.sends, x.left - 1);
     }
@@ -315,7 +325,8 @@ fn age(x: Slot) -> Slot
     moved(x, GAVE_UP, x.progress, x.sends, 0)
 }
 
-// The bridge with every slot one turn older. The order does not matter: a start that is not constant keeps the slots in memory.
+// The bridge with every slot one turn older. It starts at the slot last served only for speed: with a constant start the compiler
+// takes the array apart.
 pub(crate) fn age_all(b: Bridge) -> Bridge
     ensures { λ r. ⌜ r ≡ agedBridge b ⌝ }
 {
@@ -331,12 +342,7 @@ pub(crate) fn age_all(b: Bridge) -> Bridge
         }
         i += 1;
     }
-    Bridge {
-        slots: slots,
-        tickets: b.tickets,
-        own: b.own,
-        last: b.last,
-    }
+    with_slots(b, slots)
 }
 
 // How many bytes the next frame of an unfinished transfer asks for or carries: eight, the last fewer.

@@ -1,19 +1,19 @@
 -- The holder's definitions by cases, and what an answer of 0 says.
-use mathlib.Core.Path.{_≡_, refl, sym, _∙_, ap}
+use mathlib.Core.Path.{_≡_, refl, sym, _∙_}
 use mathlib.Core.Logic.{_⊎_, inl, inr, _≢_}
-use mathlib.Core.Bool.{Bool, true, false, cond, not}
+use mathlib.Core.Bool.{Bool, true, false}
 use mathlib.Core.List.{List}
-use Prim.Native.Nat.{ℕ, zero, suc, _+_, _≤_, _<_}
+use Prim.Native.Nat.{ℕ, zero, suc, _+_, _≤_}
 use native.Mathlib.Omega.{arith}
 use lib.Dec.{eqb}
 use lib.ListN.{length, take, drop}
 use lib.Seq.{sets}
-use borrow.Author.Tests.{ltb-false, eqb-true, eqb-false, eq-eqb, ne-eqb, not-false}
+use borrow.Author.Tests.{ltb-false, eqb-true, eqb-false, eq-eqb, ne-eqb}
 use Rattle.wire.specs.Order.{_if_else_}
 use Rattle.wire.proofs.Orders.{if-zero, else-zero}
 use Rattle.bus.specs.Ident.{idKind, idOffset}
 use Rattle.bus.specs.Frames.{Frame, cmd, req, xtnd, content, headNumber}
-use Rattle.bus.specs.Holder.{Directory, Served, totalOf, sizeOf, rightOf, memoryNumber, commandNumber, askNumber, queryNumber, kindNumber}
+use Rattle.bus.specs.Holder.{Directory, totalOf, sizeOf, rightOf, memoryNumber, commandNumber, askNumber, queryNumber, kindNumber}
 use Rattle.bus.specs.Holder.{serveNumber, byteOf, requestAt, reservedAt, tableOf, byKind, noAnswer, replyTo, placeOf, protocol, actOf, memoryAct, servedBy, memoryBy}
 use Rattle.bus.specs.Holder.{serveOf, memoryOf}
 use Rattle.bus.specs.Demand2.{SoundDirectory}

@@ -1,23 +1,22 @@
 -- Demand 2 of the table holder, proved.
-use mathlib.Core.Path.{_≡_, refl, sym, _∙_, ap, subst}
+use mathlib.Core.Path.{_≡_, refl, sym, _∙_, subst}
 use mathlib.Core.Logic.{_⊎_, inl, inr, _≢_}
 use mathlib.Core.Bool.{Bool, true, false, cond}
-use mathlib.Core.List.{List, [], _∷_, _++_}
+use mathlib.Core.List.{List, [], _∷_}
 use lib.Dec.{eqb}
-use Prim.Native.Nat.{ℕ, zero, suc, _+_, _*_, _/_, _%_, _≤_, _<_}
+use Prim.Native.Nat.{ℕ, zero, suc, _+_, _/_, _%_, _≤_, _<_}
 use native.Mathlib.Omega.{arith}
 use lib.ListN.{length, getD, take, drop}
 use lib.Seq.{sets, length-sets, getD-take, getD-drop, length-take-le}
-use Rattle.wire.specs.BigEndian.{bytesOf}
 use Rattle.wire.proofs.Puts.{sets-in, sets-outside}
-use Rattle.bus.specs.Ident.{idFrom, idKind, idOffset, idOf, unpackOf}
+use Rattle.bus.specs.Ident.{idFrom, idKind, idOffset}
 use Rattle.bus.specs.Frames.{Frame, cmd, req, rsp, xtnd, padded, content, frameOf}
 use Rattle.bus.specs.Request.{Request, requestOf}
 use Rattle.bus.specs.Holder.{Directory, Served, startOf, sizeOf, serveNumber, byteOf, requestAt, tableOf, noAnswer, answerWith, replyTo, placeOf, protocol}
-use Rattle.bus.specs.Holder.{byKind, actOf, memoryAct, servedBy, serveOf, memoryOf}
+use Rattle.bus.specs.Holder.{byKind, actOf, servedBy, serveOf, memoryOf}
 use Rattle.bus.specs.Demand2.{CommandServed, Replied, RequestServed, QueryServed, ServeNumber, Demand2}
 use Rattle.bus.specs.declared.Unpacked.the-variants as U
-use Rattle.bus.proofs.IdentLaws.{Lawful, unpack-id, from-small}
+use Rattle.bus.proofs.IdentLaws.{unpack-id, from-small}
 use Rattle.bus.proofs.FrameLaws.{padded-length, padded-in, padded-after, content-length, content-at, head-short, part-length}
 use Rattle.bus.proofs.Cases.{Accepted, accepted, command-fits, ask-fits, query-fits, act-command, act-ask, act-query, served-case, refused-case}
 use Rattle.bus.proofs.Numbers.{serve-numbers}

@@ -1,17 +1,17 @@
 -- Laws of directories: where tables lie, and what a sound directory says.
-use mathlib.Core.Path.{_≡_, refl, sym, _∙_, ap}
+use mathlib.Core.Path.{_≡_, refl}
 use mathlib.Core.Logic.{_⊎_, inl, inr, _≢_}
-use mathlib.Core.Bool.{Bool, true, false, not, _&&_}
-use Prim.Native.Nat.{ℕ, zero, suc, _+_, _-_, _*_, _≤_, _<_}
+use mathlib.Core.Bool.{Bool, true, false, _&&_}
+use Prim.Native.Nat.{ℕ, zero, suc, _+_, _-_, _≤_, _<_}
 use native.Mathlib.Numerals.{add-one}
 use native.Mathlib.Nat.{zero-add, suc-add}
 use native.Mathlib.Omega.{arith}
 use native.Mathlib.Decide.{decLt}
-use lib.Dec.{leb, ltb, eqb}
-use borrow.Author.Tests.{leb-true, leb-false, le-leb, lt-leb, not-false, eqb-true}
+use lib.Dec.{leb}
+use borrow.Author.Tests.{leb-true, le-leb, lt-leb, not-false, eqb-true}
 use Rattle.wire.proofs.Orders.{order, if-zero, else-zero}
 use Rattle.bus.specs.Holder.{Directory, startOf, totalOf, sizeOf, rightOf, soundTables, soundDirectory, directoryNumber, lengthNumber, memoryNumber}
-use Rattle.bus.specs.Demand2.{SoundTable, SoundDirectory}
+use Rattle.bus.specs.Demand2.{SoundDirectory}
 
 -- ── Starts ───────────────────────────────────────────────────────────────────────────────────────────────────────────
 

@@ -38,7 +38,7 @@ padded-is bs h =
     (rw e at (take-append-add bs (replicate 8 0) (8 - length bs))) ∙ ap (λ (l : List ℕ). bs ++ l) (take-same (8 - length bs) 8 0 (omega arith))
 
 -- a copy into eight zeros
-pub padded-put : (bs : List ℕ) → length bs ≤ 8 → putOf (replicate 8 0) 0 bs ≡ padded bs
+padded-put : (bs : List ℕ) → length bs ≤ 8 → putOf (replicate 8 0) 0 bs ≡ padded bs
 unfolding putAt
 padded-put bs h =
     put-fits (replicate 8 0) 0 bs (omega arith)

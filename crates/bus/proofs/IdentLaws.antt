@@ -1,16 +1,16 @@
 -- Packing and unpacking undo each other, on lawful parts and lawful identifiers; the law of the rows.
 use mathlib.Core.Path.{_≡_, refl, sym, _∙_, ap}
-use Prim.Native.Nat.{ℕ, zero, suc, _+_, _*_, _/_, _%_, _^_, _≤_, _<_}
+use Prim.Native.Nat.{ℕ, _+_, _*_, _/_, _%_, _^_, _≤_, _<_}
 use native.Mathlib.Nat.{mul-add-div-right, div-eq-of-lt, mul-add-mod-self-right, mod-eq-of-lt, mod-lt, div-add-mod', div-div-eq-div-mul, add-zero, zero-mul, zero-add, div-one}
 use native.Mathlib.Omega.{arith}
 use lib.Dec.{lit<, ltb, eqb}
-use mathlib.Core.Bool.{false, true, not}
-use borrow.Author.Tests.{lt-leb, le-ltb, eq-eqb, ltb-false, leb-false, eqb-true, not-false}
+use mathlib.Core.Bool.{not}
+use borrow.Author.Tests.{ltb-false, leb-false, eqb-true, not-false}
 use Rattle.wire.specs.Order.{_if_else_, _orElse_}
 use Rattle.wire.specs.Answer.{answer, result}
 use Rattle.wire.proofs.Answers.{answered, means}
 use Rattle.wire.proofs.Orders.{order, if-zero, if-orElse, zero-orElse}
-use Rattle.bus.specs.Ident.{Parts, row, idSpare, idTable, idTo, idFrom, idKind, idOffset, idOf, idIn, partsOf, packNumber, packOf, packedAnswer, noParts, unpackNumber, unpackOf, unpackedAnswer}
+use Rattle.bus.specs.Ident.{Parts, row, idSpare, idTable, idTo, idFrom, idKind, idOffset, idOf, partsOf, packNumber, packOf, packedAnswer, noParts, unpackNumber, unpackOf, unpackedAnswer}
 use Rattle.bus.specs.Frames.{Frame, headNumber}
 use Rattle.bus.specs.Rows.{Rows}
 use Rattle.bus.specs.declared.Packed.{Packed}

@@ -1,21 +1,21 @@
 -- Input bytes past a frame's length are ignored.
 use mathlib.Core.Path.{_≡_, refl, sym, _∙_, ap, ap₂}
-use mathlib.Core.Logic.{_⊎_, inl, inr, _≢_}
-use mathlib.Core.Bool.{Bool, true, false, cond, not}
+use mathlib.Core.Logic.{_≢_}
+use mathlib.Core.Bool.{Bool, true, false, not}
 use mathlib.Core.List.{List}
-use Prim.Native.Nat.{ℕ, zero, suc, _+_, _≤_, _<_}
+use Prim.Native.Nat.{ℕ, zero, suc, _+_, _<_}
 use native.Mathlib.Omega.{arith}
 use lib.Dec.{eqb, ltb}
 use lib.ListN.{length, getD, take, drop}
 use lib.Seq.{sets}
 use borrow.Author.Tests.{eqb-true, eqb-false, not-false}
-use Rattle.wire.specs.Order.{_if_else_, _orElse_}
+use Rattle.wire.specs.Order.{_if_else_}
 use Rattle.wire.proofs.Orders.{if-zero}
-use Rattle.bus.specs.Ident.{idTable, idFrom, idKind, idOffset, idOf}
-use Rattle.bus.specs.Frames.{Frame, cmd, req, rsp, xtnd, content, frameOf, headNumber}
+use Rattle.bus.specs.Ident.{idTable, idKind, idOffset}
+use Rattle.bus.specs.Frames.{Frame, cmd, req, xtnd, content, headNumber}
 use Rattle.bus.specs.Request.{Request}
 use Rattle.bus.specs.Holder.{Directory, sizeOf, rightOf, askNumber, queryNumber, commandNumber, kindNumber, serveNumber, byteOf, requestAt, reservedAt, tableOf}
-use Rattle.bus.specs.Holder.{memoryNumber, answerWith, replyTo, placeOf, protocol, actOf, memoryAct, servedBy, memoryBy, serveOf, memoryOf}
+use Rattle.bus.specs.Holder.{replyTo, placeOf, protocol, actOf, memoryAct, serveOf, memoryOf}
 use Rattle.bus.proofs.FrameLaws.{content-at}
 use Rattle.bus.proofs.Cases.{Accepted, accepted, command-case, ask-case, query-case, other-case, is-query, act-command, act-ask, act-query, served-case, refused-case}
 

@@ -1,5 +1,5 @@
 -- Each number is given exactly when the paper says.
-use mathlib.Core.Path.{_≡_, refl, sym, _∙_, ap, subst}
+use mathlib.Core.Path.{_≡_, refl, sym, subst}
 use mathlib.Core.Logic.{_⊎_, inl, inr, _≢_}
 use mathlib.Core.Bool.{Bool, true, false, not}
 use mathlib.Core.List.{List}
@@ -8,15 +8,15 @@ use native.Mathlib.Omega.{arith}
 use lib.Dec.{leb, ltb, eqb}
 use lib.ListN.{length}
 use borrow.Author.Tests.{ltb-true, ltb-false, leb-true, leb-false, eqb-true, eqb-false, not-true, not-false}
-use Rattle.wire.specs.Order.{_if_else_, _orElse_}
+use Rattle.wire.specs.Order.{_if_else_}
 use Rattle.wire.specs.First.{First, Unless, Zero}
 use Rattle.wire.proofs.Firsts.{link, links, unless, unlesses, neither}
 use Rattle.wire.proofs.Orders.{if-orElse, zero-orElse}
-use Rattle.bus.specs.Ident.{idSpare, idTo, idKind, idOffset}
-use Rattle.bus.specs.Frames.{Frame, cmd, req, xtnd, headNumber}
-use Rattle.bus.specs.Holder.{Directory, soundDirectory, totalOf, sizeOf, rightOf, directoryNumber, lengthNumber, memoryNumber, commandNumber, askNumber, queryNumber}
-use Rattle.bus.specs.Holder.{kindNumber, serveNumber, byteOf, requestAt, reservedAt, tableOf}
-use Rattle.bus.specs.Demand2.{SoundDirectory, CommandNumber, AskNumber, QueryNumber, KindNumber, ServeNumber}
+use Rattle.bus.specs.Ident.{idSpare, idTo}
+use Rattle.bus.specs.Frames.{Frame, headNumber}
+use Rattle.bus.specs.Holder.{Directory, soundDirectory, totalOf, directoryNumber, lengthNumber, memoryNumber, commandNumber, askNumber, queryNumber}
+use Rattle.bus.specs.Holder.{kindNumber, serveNumber}
+use Rattle.bus.specs.Demand2.{CommandNumber, AskNumber, QueryNumber, KindNumber, ServeNumber}
 use Rattle.bus.proofs.Directories.{sound-says, says-sound}
 use Rattle.bus.proofs.Cases.{command-case, ask-case, query-case, other-case}
 

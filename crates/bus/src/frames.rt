@@ -30,7 +30,7 @@ fn content_len(f: Frame) -> usize
     if n < 8 { n } else { 8 }
 }
 
-// The bytes of a frame that count, copied to a place. Eight tests of the length take the place of a call.
+// The bytes of a frame that count, copied to a place. Eight tests of the length are quicker than a call of memcpy.
 pub(crate) fn copy_content(out: &mut [u8], at: usize, f: Frame)
     requires { ⌜ at + length (content f) ≤ length (now out) ⌝ }
     ensures { λ _. ⌜ now (out .exit) ≡ sets (now (out .entry)) at (content f) ⌝ }

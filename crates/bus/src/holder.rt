@@ -23,13 +23,14 @@ ghost use lib.ListN.{length, take, drop};
 ghost use Rattle.bus.specs.Holder.{startOf, sizeOf, rightOf, totalOf, soundTables, directoryNumber, memoryNumber, commandNumber, askNumber, queryNumber, kindNumber, serveNumber, requestAt, tableOf, noAnswer, replyTo, placeOf, protocol, actOf, memoryAct, serveOf, memoryOf};
 ghost use Rattle.bus.specs.Demand2.{Demand2};
 
-// A table's start, which is the sum of the sizes before it, size and right.
+// A table: its start (the sum of the sizes before it), its size and its right.
 struct Table {
     start: u32,
     size: u16,
     right: u8,
 }
 
+// Table k of a directory.
 fn table_at(d: Directory, k: usize) -> Table
     requires { ⌜ k < 32 ⌝ }
     ensures { λ r. ⌜ (r .start ≡ startOf d k) × (r .size ≡ sizeOf d k) × (r .right ≡ rightOf d k) × (r .start ≤ 65535 * k) ⌝ }

@@ -58,6 +58,9 @@ mul-slots c = omega (arith, four (c .before .before .before .before .before .bef
 array-set-from-slots : tie.Need-array-set-from-slots
 array-set-from-slots c = omega (arith, four (c .before .before .before .before .before .before .before))
 
+with-slots-requires : tie.Need-with-slots-requires
+with-slots-requires c κs = search needs
+
 plain-requires-2 : tie.Need-plain-requires-2
 plain-requires-2 c κs = search needs
 
@@ -67,10 +70,10 @@ same-length c = search needs
 returns-2 : tie.Need-returns-2
 unfolding slot
 returns-2 c =
-    let s = c .before .before .before .before .before .before .before .before in
+    let s = c .before .before .before .before .before .before .before .before .before in
     let a = s .before .before .before .before .args in
     let g = frame-is (a .b) (a .buffer .now) (a .f) (judged s) _ (awaited s) in
-    (c .plain2 .ensures ∙ rw (c .before .advance .ensures) (g .0), c .before .before .before .before .put-content .ensures ∙ g .1)
+    (c .plain2 .ensures ∙ rw (c .before .with-slots .ensures, c .before .before .advance .ensures) (g .0), c .before .before .before .before .before .put-content .ensures ∙ g .1)
 
 pub frame-spec : {M : Type 1} → statement M
 frame-spec =
@@ -88,6 +91,7 @@ frame-spec =
     advance-requires
     mul-slots
     array-set-from-slots
+    with-slots-requires
     plain-requires-2
     same-length
     returns-2)

@@ -55,13 +55,16 @@ loop-again c =
           (c .if1 .came),
     )
 
+with-slots-requires : tie.Need-with-slots-requires Inv-loop μ-loop
+with-slots-requires c κs = search needs
+
 returns : tie.Need-returns Inv-loop μ-loop
 unfolding agedBridge
 returns c =
-    let s = c .before .before .before .before in
+    let s = c .before .before .before .before .before in
     let b = s .args .b in
-    let l = c .before .loop in
-    ap (withSlots b) (sym (l .inv .1 ∙ rests _ (l .i) (l .slots) (omega arith)) ∙ aged-four (b .last) (b .slots) (four-slots b _ (s .good .0 .1 .1 .0 .1 .0 .1)))
+    let l = c .before .before .loop in
+    c .with-slots .ensures ∙ ap (withSlots b) (sym (l .inv .1 ∙ rests _ (l .i) (l .slots) (omega arith)) ∙ aged-four (b .last) (b .slots) (four-slots b _ (s .good .0 .1 .1 .0 .1 .0 .1)))
 
 pub age-all-spec : {M : Type 1} → statement M
 age-all-spec =
@@ -80,4 +83,5 @@ age-all-spec =
     add-i
     loop-less
     loop-again
+    with-slots-requires
     returns)

@@ -4,9 +4,8 @@ use Rattle.bus.proofs.holder.answer_query.Statement.{statement}
 use Rattle.bus.proofs.holder.answer_query.Tie as tie
 use native.Mathlib.Omega.{arith}
 use mathlib.Core.Path.{sym, ap}
-use Rattle.bus.specs.Holder.{byteOf, requestAt, protocol}
+use Rattle.bus.specs.Holder.{byteOf, requestAt}
 use lib.Seq.{length-take-le}
-use lib.ListN.{length}
 use Prim.Native.Nat.{_≤_}
 
 element-copy-out-request-of : tie.Need-element-copy-out-request-of

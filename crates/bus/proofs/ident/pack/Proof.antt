@@ -1,9 +1,9 @@
 use borrow.Author.Needs.{needs}
 use Rattle.bus.proofs.ident.pack.Statement.{statement}
 use Rattle.bus.proofs.ident.pack.Tie as tie
-use mathlib.Core.Path.{_≡_, sym, _∙_}
+use mathlib.Core.Path.{sym, _∙_}
 use native.Mathlib.Omega.{arith}
-use Rattle.bus.specs.Ident.{packOf, idOf}
+use Rattle.bus.specs.Ident.{packOf}
 use Rattle.wire.proofs.Answers.{refuses, stands}
 use Rattle.bus.proofs.IdentLaws.{packed-means, unpack-after-pack, lawful, id-small}
 use Rattle.bus.specs.declared.Packed.the-variants as P

@@ -1,7 +1,7 @@
 use borrow.Author.Needs.{needs}
 use Rattle.bus.proofs.ident.unpack.Statement.{statement}
 use Rattle.bus.proofs.ident.unpack.Tie as tie
-use mathlib.Core.Path.{_≡_, sym, _∙_}
+use mathlib.Core.Path.{sym, _∙_}
 use Rattle.bus.specs.Ident.{unpackOf}
 use Rattle.wire.proofs.Answers.{refuses, stands}
 use Rattle.bus.proofs.IdentLaws.{unpacked-means, pack-after-unpack, row-law}

@@ -1,7 +1,7 @@
 use borrow.Author.Needs.{needs}
 use Rattle.bus.proofs.requests.read_request.Statement.{statement}
 use Rattle.bus.proofs.requests.read_request.Tie as tie
-use mathlib.Core.Path.{_≡_, sym, _∙_}
+use mathlib.Core.Path.{sym, _∙_}
 use native.Mathlib.Omega.{arith}
 use Rattle.bus.specs.Request.{readRequestOf}
 use Rattle.wire.proofs.Answers.{refuses, stands}

@@ -1,7 +1,7 @@
 use borrow.Author.Needs.{needs}
 use Rattle.bus.proofs.requests.request_bytes.Statement.{statement}
 use Rattle.bus.proofs.requests.request_bytes.Tie as tie
-use mathlib.Core.Path.{_≡_, sym, _∙_}
+use mathlib.Core.Path.{sym, _∙_}
 use native.Mathlib.Omega.{arith}
 use Rattle.bus.specs.Request.{requestBytesOf, request}
 use Rattle.bus.proofs.RequestLaws.{holds, wrote-no, wrote-yes, answer-back}

@@ -1,6 +1,6 @@
 use Rattle.bus.proofs.rows.unpack_number.Statement.{statement}
 use Rattle.bus.proofs.rows.unpack_number.Tie as tie
-use Rattle.bus.specs.Ident.{unpackNumber, idSpare}
+use Rattle.bus.specs.Ident.{unpackNumber}
 use Rattle.bus.proofs.IdentLaws.{spare-is}
 use Rattle.wire.proofs.Orders.{order}
 
