@@ -123,31 +123,37 @@ pub(crate) fn requests() {
     asks(0x1f, 0xff, 0xe8);
 }
 
-// A CMD of eight bytes to table 20 of a size, and its number.
-fn served(memory: &mut [u8], size: u16, id: u32) {
-    let f = Frame {
+// A CMD of the bytes 1 to 8, or a REQ for eight bytes to table 6, offset 128.
+fn eight_bytes(kind: u8, id: u32) -> Frame {
+    if kind == CMD {
+        return Frame {
+            id,
+            len: 8,
+            bytes: [1, 2, 3, 4, 5, 6, 7, 8],
+        };
+    }
+    Frame {
         id,
-        len: 8,
-        bytes: [1, 2, 3, 4, 5, 6, 7, 8],
-    };
-    answer(serve(one_table(20, size), memory, f));
+        len: 3,
+        bytes: [0x06, 0x10, 0x08, 0, 0, 0, 0, 0],
+    }
 }
 
-// The same to an offset, unless no identifier has it.
-fn stores(memory: &mut [u8], size: u16, offset: u16) {
+// What the holder of table 20, of a size, answers to it, unless no identifier has the offset.
+fn reaches(memory: &mut [u8], size: u16, kind: u8, offset: u16) {
     labelled(b"size ", size as u64);
     labelled(b", offset ", offset as u64);
-    text(b", 8 bytes");
+    labelled(b", 8 bytes by type ", kind as u64);
     let p = Parts {
         offset,
-        kind: CMD,
+        kind,
         from: 5,
         to: 0,
         table: 20,
     };
     let packed = pack(p);
     match packed {
-        Packed::Is(id) => served(memory, size, id),
+        Packed::Is(id) => answer(serve(one_table(20, size), memory, eight_bytes(kind, id))),
         Packed::Refused(n) => number(n),
     }
 }
@@ -161,15 +167,18 @@ fn stored(memory: &[u8], size: u16, at: usize) {
     }
 }
 
-// Bytes 1 to 8 are written. No CMD reaches byte 2,055.
+// No frame reaches byte 2,055.
 pub(crate) fn tables() {
     text(b"ends of tables\n");
     let mut large = [0u8; 2056];
-    stores(&mut large, 2056, 2047);
-    stores(&mut large, 2056, 2048);
+    reaches(&mut large, 2056, CMD, 2047);
+    reaches(&mut large, 2056, REQ, 2047);
+    reaches(&mut large, 2056, CMD, 2048);
     stored(&large, 2056, 2054);
     stored(&large, 2056, 2055);
     let mut small = [0u8; 1024];
-    stores(&mut small, 1024, 1016);
-    stores(&mut small, 1024, 1017);
+    reaches(&mut small, 1024, CMD, 1016);
+    reaches(&mut small, 1024, CMD, 1017);
+    reaches(&mut small, 1024, REQ, 1016);
+    reaches(&mut small, 1024, REQ, 1017);
 }
