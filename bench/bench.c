@@ -378,8 +378,8 @@ static test tests[] = {
     {"request", "serve a REQ", restore_memory, FRAMES, 8000, RUNS(request), CHECKS(request)},
     {"turn", "turn in place", restore_turn, BRIDGES, 8000, RUNS(turn), CHECKS(turn)},
     {"frame", "frame in place", restore_frame, BRIDGES, 8000, RUNS(frame), CHECKS(frame)},
-    {"log32", "block of 32 bytes", restore_nothing, 0, 25, RUNS(log32), CHECKS(log32)},
-    {"log512", "block of 512 bytes", restore_nothing, 0, 25, RUNS(log512), CHECKS(log512)},
+    {"log32", "block of 32 bytes", restore_nothing, 0, 100, RUNS(log32), CHECKS(log32)},
+    {"log512", "block of 512 bytes", restore_nothing, 0, 100, RUNS(log512), CHECKS(log512)},
     {"header", "header, 200 fields", restore_nothing, HEADERS, 3000, RUNS(header), CHECKS(header)},
     {"list", "listing, 65,536 bytes", restore_list, 1, 300, RUNS(list), CHECKS(list)},
 };
