@@ -16,29 +16,29 @@ use Rattle.wire.specs.Answer.{answer}
 use Rattle.wire.specs.Put.{putOf}
 use Rattle.wire.proofs.Orders.{if-zero, else-zero}
 use Rattle.wire.proofs.Puts.{put-sets}
-use Rattle.bus.specs.Ident.{idOf, idOffset, idKind, packNumber, packOf, partsOf}
-use Rattle.bus.specs.Frames.{rsp, content, headNumber, receiveNumber, headOf}
-use Rattle.bus.specs.Request.{request, requestNumber, wroteRequest, requestBytesOf}
-use Rattle.bus.specs.Holder.{noAnswer}
-use Rattle.bus.specs.declared.Parts.{Parts}
-use Rattle.bus.specs.declared.Packed.{Packed}
-use Rattle.bus.specs.declared.Packed.the-variants as P
-use Rattle.bus.specs.declared.Unpacked.the-variants as U
-use Rattle.bus.specs.declared.Request.{Request}
-use Rattle.bus.proofs.IdentLaws.{unpacked-is}
-use Rattle.bus.proofs.FrameLaws.{part-length}
-use Rattle.transfer.specs.declared.Bridge.{Bridge}
-use Rattle.transfer.specs.declared.Slot.{Slot}
-use Rattle.transfer.specs.Model.{Frame, slot, sound, isReady, isNone, from, orFour, nextReady, agedBridge, lentRefusal, turn′}
-use Rattle.transfer.specs.Model.{sendFor, chunkLen, outgoing, awaits, awaiting, contentRefusal, replyRefusal, frame′, advanced, withSlots}
-use Rattle.transfer.specs.Model.{waiting, isWaiting, asks, moved, requested, sentSlot}
-use Rattle.transfer.specs.declared.Stepped.{Stepped}
-use Rattle.transfer.specs.Answers.{steppedOf}
-use Rattle.transfer.proofs.Search.{search-some, lowest-some, lowest-none, option-cases}
-use Rattle.transfer.proofs.Sound.{ReadyOk, ready-ok, true-sound, sound-true}
-use Rattle.transfer.proofs.CallKinds.{aged-sound, AwaitsOk, awaits-ok, wait-ok}
-use Rattle.transfer.proofs.FrameLaws.{len-inside}
-use Rattle.transfer.proofs.Refusals.{lent-ok}
+use Rattle.bus_rules.specs.Ident.{idOf, idOffset, idKind, packNumber, packOf, partsOf}
+use Rattle.bus_rules.specs.Frames.{rsp, content, headNumber, receiveNumber, readHeadOf}
+use Rattle.bus_rules.specs.Request.{request, requestBytesNumber, wroteRequest, requestBytesOf}
+use Rattle.bus_rules.specs.Holder.{noAnswer}
+use Rattle.bus_rules.specs.declared.Parts.{Parts}
+use Rattle.bus_rules.specs.declared.Packed.{Packed}
+use Rattle.bus_rules.specs.declared.Packed.the-variants as P
+use Rattle.bus_rules.specs.declared.Unpacked.the-variants as U
+use Rattle.bus_rules.specs.declared.Request.{Request}
+use Rattle.bus_rules.proofs.IdentLaws.{unpacked-is}
+use Rattle.bus_rules.proofs.FrameLaws.{part-length}
+use Rattle.bridge_rules.specs.declared.Bridge.{Bridge}
+use Rattle.bridge_rules.specs.declared.Slot.{Slot}
+use Rattle.bridge_rules.specs.Model.{Frame, slot, sound, isReady, isNone, from, orFour, nextReady, agedBridge, lentNumber, turnOf}
+use Rattle.bridge_rules.specs.Model.{sendFor, chunkLen, outgoing, awaits, awaiting, contentNumber, replyNumber, frameOf, advanced, withSlots}
+use Rattle.bridge_rules.specs.Model.{waiting, isWaiting, asks, moved, requested, sentSlot}
+use Rattle.bridge_rules.specs.declared.Stepped.{Stepped}
+use Rattle.bridge_rules.specs.Answers.{steppedOf}
+use Rattle.bridge_rules.proofs.Search.{search-some, lowest-some, lowest-none, option-cases}
+use Rattle.bridge_rules.proofs.Sound.{ReadyOk, ready-ok, true-sound, sound-true}
+use Rattle.bridge_rules.proofs.CallKinds.{aged-sound, AwaitsOk, awaits-ok, wait-ok}
+use Rattle.bridge_rules.proofs.FrameLaws.{len-inside}
+use Rattle.bridge_rules.proofs.Refusals.{lent-ok}
 use Rattle.bridge.proofs.CodeSlots.{awaiting-from}
 
 -- ── What a ready slot sends ────────────────────────────────────────────────────────────────────────────────────────
@@ -53,7 +53,7 @@ packs p k f t b o =
 -- a request that the bytes hold
 pub requests : (q : Request) → q .table ≤ 31 → q .count ≤ 15 → q .offset ≤ 2047
     → requestBytesOf q ≡ record { number = 0; bytes = request (q .table) (q .offset) (q .count) }
-unfolding requestBytesOf requestNumber wroteRequest _if_else_
+unfolding requestBytesOf requestBytesNumber wroteRequest _if_else_
 requests q t n o = rw (le-ltb 31 (q .table) t, le-ltb 15 (q .count) n, le-ltb 2047 (q .offset) o)
 
 pub not-refused : {A : Type 0} {r : Packed} {n id : ℕ} → r ≡ P.Refused n → r ≡ P.Is id → A
@@ -87,19 +87,19 @@ readies s k h l r = ready-ok (s .tickets) (slot s k) (true-sound s h .each k l) 
 -- ── A turn ─────────────────────────────────────────────────────────────────────────────────────────────────────────
 
 module _ (s : Bridge) (b : List ℕ) where
-  pub turn-refused : (n : ℕ) → n ≡ lentRefusal s (length b) → (n ≡ 0 → ⊥)
-      → _≡_ {A = Stepped} (record { bridge = s; answer = noAnswer n }) (steppedOf (turn′ s b))
-  unfolding turn′ steppedOf
+  pub turn-refused : (n : ℕ) → n ≡ lentNumber s (length b) → (n ≡ 0 → ⊥)
+      → _≡_ {A = Stepped} (record { bridge = s; answer = noAnswer n }) (steppedOf (turnOf s b))
+  unfolding turnOf steppedOf
   turn-refused n e h = rw (← e, ne-eqb n 0 h)
 
-  module _ (e : lentRefusal s (length b) ≡ 0) (a : Bridge) (q : a ≡ agedBridge s) where
-    pub turn-idles : nextReady a ≡ none → _≡_ {A = Stepped} (record { bridge = a; answer = noAnswer 0 }) (steppedOf (turn′ s b))
-    unfolding turn′ steppedOf sendFor
+  module _ (e : lentNumber s (length b) ≡ 0) (a : Bridge) (q : a ≡ agedBridge s) where
+    pub turn-idles : nextReady a ≡ none → _≡_ {A = Stepped} (record { bridge = a; answer = noAnswer 0 }) (steppedOf (turnOf s b))
+    unfolding turnOf steppedOf sendFor
     turn-idles z = rw (← q, z, eq-eqb _ 0 e)
 
     module _ (k : ℕ) (z : nextReady a ≡ some k) where
-      pub turn-sends : steppedOf (sendFor a b (some k)) ≡ steppedOf (turn′ s b)
-      unfolding turn′
+      pub turn-sends : steppedOf (sendFor a b (some k)) ≡ steppedOf (turnOf s b)
+      unfolding turnOf
       turn-sends = rw (← q, z, eq-eqb _ 0 e)
 
       pub turn-sound : sound a ≡ true
@@ -113,8 +113,8 @@ module _ (s : Bridge) (b : List ℕ) where
 
 -- the parts of a frame that no receiver refuses, or the number that refuses it
 module _ (own : ℕ) (f : Frame) where
-  pub head-is : (p : Parts) → headOf own f ≡ U.Is p → (headNumber own f ≡ 0) × (p ≡ partsOf (f .id))
-  unfolding headOf receiveNumber
+  pub head-is : (p : Parts) → readHeadOf own f ≡ U.Is p → (headNumber own f ≡ 0) × (p ≡ partsOf (f .id))
+  unfolding readHeadOf receiveNumber
   head-is p e = let h = unpacked-is (receiveNumber own f) (partsOf (f .id)) p e in (if-zero 10 _ _ (h .0) .1, sym (h .1))
 
   -- an own number 0..15 is not refused
@@ -122,42 +122,42 @@ module _ (own : ℕ) (f : Frame) where
   unfolding receiveNumber _if_else_
   receive-is h = rw (le-ltb 15 own h)
 
-  pub head-refused : (n : ℕ) → own ≤ 15 → headOf own f ≡ U.Refused n → (headNumber own f ≡ n) × (n ≡ 0 → ⊥)
-  unfolding headOf answer
+  pub head-refused : (n : ℕ) → own ≤ 15 → readHeadOf own f ≡ U.Refused n → (headNumber own f ≡ n) × (n ≡ 0 → ⊥)
+  unfolding readHeadOf answer
   head-refused n o e = go (headNumber own f) (ap (λ (m : ℕ). answer U.Is U.Refused m (partsOf (f .id))) (sym (receive-is o)) ∙ e)
     where
       go : (m : ℕ) → answer U.Is U.Refused m (partsOf (f .id)) ≡ U.Refused n → (m ≡ n) × (n ≡ 0 → ⊥)
       go zero q = absurd (let z : _≡_ {A = ℕ} 0 1 = cc in omega arith)
       go (suc m) q = let z : suc m ≡ n = cc in (z, λ o. omega arith)
 
-  pub content-refused : (n : ℕ) → own ≤ 15 → headOf own f ≡ U.Refused n → n ≡ contentRefusal own f
-  unfolding contentRefusal _orElse_
+  pub content-refused : (n : ℕ) → own ≤ 15 → readHeadOf own f ≡ U.Refused n → n ≡ contentNumber own f
+  unfolding contentNumber _orElse_
   content-refused n o e = let h = head-refused n o e in rw (h .0) (go n (h .1))
     where
       go : (m : ℕ) → (m ≡ 0 → ⊥) → m ≡ (m orElse (5 if not (eqb (idKind (f .id)) rsp) else 0))
       go zero q = absurd (q refl)
       go (suc m) q = refl
 
-  module _ (p : Parts) (e : headOf own f ≡ U.Is p) where
+  module _ (p : Parts) (e : readHeadOf own f ≡ U.Is p) where
     kind-is : p .kind ≡ idKind (f .id)
     unfolding partsOf
     kind-is = ap (λ (x : Parts). x .kind) (head-is p e .1)
 
-    pub content-five : (p .kind ≡ 2 → ⊥) → 5 ≡ contentRefusal own f
-    unfolding contentRefusal _orElse_ _if_else_
+    pub content-five : (p .kind ≡ 2 → ⊥) → 5 ≡ contentNumber own f
+    unfolding contentNumber _orElse_ _if_else_
     content-five h = rw (head-is p e .0, ← kind-is, ne-eqb (p .kind) 2 h)
 
-    pub content-zero : p .kind ≡ 2 → 0 ≡ contentRefusal own f
-    unfolding contentRefusal _orElse_ _if_else_
+    pub content-zero : p .kind ≡ 2 → 0 ≡ contentNumber own f
+    unfolding contentNumber _orElse_ _if_else_
     content-zero h = rw (head-is p e .0, ← kind-is, eq-eqb (p .kind) 2 h)
 
   -- a frame that 1 to 5 don't refuse
-  module _ (e : contentRefusal own f ≡ 0) where
+  module _ (e : contentNumber own f ≡ 0) where
     pub content-head : headNumber own f ≡ 0
-    unfolding contentRefusal
+    unfolding contentNumber
     content-head = else-zero _ _ e .0
 
-    pub content-parts : (n : ℕ) {A : Type 0} → own ≤ 15 → headOf own f ≡ U.Refused n → A
+    pub content-parts : (n : ℕ) {A : Type 0} → own ≤ 15 → readHeadOf own f ≡ U.Refused n → A
     content-parts n o q = let h = head-refused n o q in absurd (h .1 (sym (h .0) ∙ content-head))
 
 -- the test of slot k with a frame's parts and length
@@ -171,7 +171,7 @@ unfolding awaits partsOf
 takes-of s f k p e = rw e
 
 -- a reply's offset says which slot of a sound bridge may await it: slot k's part of the buffer begins at 128 k
-module _ (s : Bridge) (f : Frame) (h : sound s ≡ true) (p : Parts) (e : headOf (s .own) f ≡ U.Is p) (k : ℕ) (q : k ≡ p .offset / 128) where
+module _ (s : Bridge) (f : Frame) (h : sound s ≡ true) (p : Parts) (e : readHeadOf (s .own) f ≡ U.Is p) (k : ℕ) (q : k ≡ p .offset / 128) where
   whose : (j : ℕ) → j < 4 → awaits s f j ≡ true → j ≡ k
   unfolding partsOf
   whose j l z =
@@ -203,18 +203,18 @@ module _ (s : Bridge) (f : Frame) (h : sound s ≡ true) (p : Parts) (e : headOf
           absurd (true≢false (sym (w .passes) ∙ ap (awaits s f) g ∙ sym tests ∙ n (omega (arith, w .bound))))
 
 module _ (s : Bridge) (b : List ℕ) (f : Frame) where
-  pub frame-refused : (n : ℕ) → n ≡ replyRefusal s (length b) f → (n ≡ 0 → ⊥)
-      → _≡_ {A = Stepped} (record { bridge = s; answer = noAnswer n }) (steppedOf (frame′ s b f)) × (b ≡ frame′ s b f .buffer)
-  unfolding frame′ steppedOf
+  pub frame-refused : (n : ℕ) → n ≡ replyNumber s (length b) f → (n ≡ 0 → ⊥)
+      → _≡_ {A = Stepped} (record { bridge = s; answer = noAnswer n }) (steppedOf (frameOf s b f)) × (b ≡ frameOf s b f .buffer)
+  unfolding frameOf steppedOf
   frame-refused n e h = rw (← e, ne-eqb n 0 h) (refl, refl)
 
-  module _ (e : replyRefusal s (length b) f ≡ 0) where
+  module _ (e : replyNumber s (length b) f ≡ 0) where
     reply-lent : (sound s ≡ true) × (length b ≡ 512)
-    unfolding replyRefusal
+    unfolding replyNumber
     reply-lent = lent-ok s (length b) (else-zero _ _ e .0)
 
     reply-found : isNone (awaiting s f) ≡ false
-    unfolding replyRefusal
+    unfolding replyNumber
     reply-found = if-zero 16 _ _ (else-zero _ _ (else-zero _ _ e .1) .1) .0
 
     module _ (k : ℕ) (q : k ≡ orFour (awaiting s f)) where
@@ -240,7 +240,7 @@ module _ (s : Bridge) (b : List ℕ) (f : Frame) where
       unfolding content
       reply-puts = put-sets b (128 * k + slot s k .progress) (content f) (omega (arith, reply-fits, length-take (f .len) (f .bytes)))
 
-      pub frame-is : _≡_ {A = Stepped} (record { bridge = withSlots s (set (s .slots) k (advanced (slot s k))); answer = noAnswer 0 }) (steppedOf (frame′ s b f))
-          × (putOf b (128 * k + slot s k .progress) (content f) ≡ frame′ s b f .buffer)
-      unfolding frame′ steppedOf
+      pub frame-is : _≡_ {A = Stepped} (record { bridge = withSlots s (set (s .slots) k (advanced (slot s k))); answer = noAnswer 0 }) (steppedOf (frameOf s b f))
+          × (putOf b (128 * k + slot s k .progress) (content f) ≡ frameOf s b f .buffer)
+      unfolding frameOf steppedOf
       frame-is = rw (reply-puts, ← reply-at .0, eq-eqb _ 0 e) (refl, refl)

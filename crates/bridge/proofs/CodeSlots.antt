@@ -10,11 +10,11 @@ use lib.ListN.{length, getD, set, drop, drop-of-length-le, length-map}
 use lib.Seq.{drop-cons, set-getD}
 use lib.Dec.{eqb, leb}
 use borrow.Author.Tests.{le-leb, lt-leb, lt-ltb, le-ltb, eq-eqb}
-use Rattle.transfer.specs.declared.Bridge.{Bridge}
-use Rattle.transfer.specs.declared.Slot.{Slot}
-use Rattle.transfer.specs.Model.{waiting, ready, done, gaveUp, isReady, isWaiting, blank, slot, moved, soundSlot, soundSlots}
-use Rattle.transfer.specs.Model.{absent, distinct, sound, firstSlot, nextReady, lowestFree, holderOf, awaiting, orFour}
-use Rattle.transfer.specs.Model.{Frame, isNone, from, ticked, aged, advanced}
+use Rattle.bridge_rules.specs.declared.Bridge.{Bridge}
+use Rattle.bridge_rules.specs.declared.Slot.{Slot}
+use Rattle.bridge_rules.specs.Model.{waiting, ready, done, gaveUp, isReady, isWaiting, blank, slot, moved, soundSlot, soundSlots}
+use Rattle.bridge_rules.specs.Model.{absent, distinct, sound, firstSlot, nextReady, lowestFree, heldSlot, awaiting, orFour}
+use Rattle.bridge_rules.specs.Model.{Frame, isNone, from, ticked, aged, advanced}
 
 -- ── Four slots one by one ──────────────────────────────────────────────────────────────────────────────────────────
 
@@ -111,8 +111,8 @@ free-small : (s : Bridge) → Small (lowestFree s)
 unfolding lowestFree
 free-small s = small-first _ 0 4
 
-pub holder-small : (s : Bridge) (t : ℕ) → Small (holderOf s t)
-unfolding holderOf
+pub holder-small : (s : Bridge) (t : ℕ) → Small (heldSlot s t)
+unfolding heldSlot
 holder-small s t = small-first _ 0 4
 
 ready-small : (s : Bridge) → Small (nextReady s)
@@ -151,15 +151,15 @@ module _ (s : Bridge) (k : ℕ) (e : k ≡ orFour (lowestFree s)) where
   pub free-from : isNone (lowestFree s) ≡ false → (k ≡ from (lowestFree s)) × (k < 4)
   free-from = from-some (lowestFree s) k (free-small s) e
 
-module _ (s : Bridge) (t k : ℕ) (e : k ≡ orFour (holderOf s t)) where
-  pub holder-none : k ≡ 4 → holderOf s t ≡ none
-  holder-none = is-none (holderOf s t) k (holder-small s t) e
+module _ (s : Bridge) (t k : ℕ) (e : k ≡ orFour (heldSlot s t)) where
+  pub holder-none : k ≡ 4 → heldSlot s t ≡ none
+  holder-none = is-none (heldSlot s t) k (holder-small s t) e
 
-  pub holder-some : (k ≡ 4 → ⊥) → (holderOf s t ≡ some k) × (k < 4)
-  holder-some = is-some (holderOf s t) k (holder-small s t) e
+  pub holder-some : (k ≡ 4 → ⊥) → (heldSlot s t ≡ some k) × (k < 4)
+  holder-some = is-some (heldSlot s t) k (holder-small s t) e
 
-  pub holder-from : isNone (holderOf s t) ≡ false → (k ≡ from (holderOf s t)) × (k < 4)
-  holder-from = from-some (holderOf s t) k (holder-small s t) e
+  pub holder-from : isNone (heldSlot s t) ≡ false → (k ≡ from (heldSlot s t)) × (k < 4)
+  holder-from = from-some (heldSlot s t) k (holder-small s t) e
 
 module _ (s : Bridge) (k : ℕ) (e : k ≡ orFour (nextReady s)) where
   pub ready-none : k ≡ 4 → nextReady s ≡ none

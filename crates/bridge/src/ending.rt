@@ -5,14 +5,14 @@ use crate::state::blank;
 use crate::state::holder;
 use crate::state::sound;
 ghost use mathlib.Core.Path.{_≡_};
-ghost use Rattle.transfer.specs.Statement.{Demand3};
-ghost use Rattle.transfer.specs.Corollaries.{Corollaries};
-ghost use Rattle.transfer.specs.Calls.{Calls};
-ghost use Rattle.transfer.specs.Examples.{Examples};
-ghost use Rattle.transfer.specs.Model.{closeRefusal, close′, fresh, reset′};
+ghost use Rattle.bridge_rules.specs.Statement.{Demand3};
+ghost use Rattle.bridge_rules.specs.Corollaries.{Corollaries};
+ghost use Rattle.bridge_rules.specs.Calls.{Calls};
+ghost use Rattle.bridge_rules.specs.Examples.{Examples};
+ghost use Rattle.bridge_rules.specs.Model.{closeNumber, closeOf, fresh, resetOf};
 
 fn close_number(b: Bridge, ticket: u32) -> u8
-    ensures { λ r. ⌜ r ≡ closeRefusal b ticket ⌝ }
+    ensures { λ r. ⌜ r ≡ closeNumber b ticket ⌝ }
 {
     if !sound(b) {
         return 11;
@@ -25,7 +25,7 @@ fn close_number(b: Bridge, ticket: u32) -> u8
 
 // Frees a ticket's slot in any state; 14 where the ticket is unknown.
 pub fn close(b: Bridge, ticket: u32) -> Changed
-    ensures { λ r. ⌜ r ≡ close′ b ticket ⌝ }
+    ensures { λ r. ⌜ r ≡ closeOf b ticket ⌝ }
 {
     let n = close_number(b, ticket);
     if n != 0 {
@@ -61,7 +61,7 @@ fn fresh(own: u8) -> Bridge
 // Turns any state into the fresh bridge of an own number; 11 where that is over 15. Every list of calls from a fresh bridge keeps
 // demand 3, and with it stand the theorems on single calls.
 pub fn reset(b: Bridge, own: u8) -> Changed
-    ensures { λ r. ⌜ r ≡ reset′ b own ⌝ }
+    ensures { λ r. ⌜ r ≡ resetOf b own ⌝ }
     ensures demand3 { λ r. ⌜ Demand3 ⌝ }
     ensures corollaries { λ r. ⌜ Corollaries ⌝ }
     ensures calls { λ r. ⌜ Calls ⌝ }

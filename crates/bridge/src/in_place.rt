@@ -4,12 +4,12 @@ use crate::ending::close;
 use crate::incoming::frame;
 use crate::turning::turn;
 ghost use mathlib.Core.Path.{_≡_};
-ghost use Rattle.transfer.specs.Model.{turn′, frame′, close′};
-ghost use Rattle.transfer.specs.Answers.{steppedOf};
+ghost use Rattle.bridge_rules.specs.Model.{turnOf, frameOf, closeOf};
+ghost use Rattle.bridge_rules.specs.Answers.{steppedOf};
 
 // A turn.
 pub fn turn_in_place(b: &mut Bridge, buffer: &[u8]) -> bus::Served
-    ensures { λ r. ⌜ (r ≡ steppedOf (turn′ (now (b .entry)) (now (buffer .entry))) .answer) × (now (b .exit) ≡ steppedOf (turn′ (now (b .entry)) (now (buffer .entry))) .bridge) ⌝ }
+    ensures { λ r. ⌜ (r ≡ steppedOf (turnOf (now (b .entry)) (now (buffer .entry))) .answer) × (now (b .exit) ≡ steppedOf (turnOf (now (b .entry)) (now (buffer .entry))) .bridge) ⌝ }
 {
     let old = *b;
     let t = turn(old, buffer);
@@ -19,7 +19,7 @@ pub fn turn_in_place(b: &mut Bridge, buffer: &[u8]) -> bus::Served
 
 // An incoming frame.
 pub fn frame_in_place(b: &mut Bridge, buffer: &mut [u8], f: bus::Frame) -> bus::Served
-    ensures { λ r. ⌜ (r ≡ steppedOf (frame′ (now (b .entry)) (now (buffer .entry)) f) .answer) × ((now (b .exit) ≡ steppedOf (frame′ (now (b .entry)) (now (buffer .entry)) f) .bridge) × (now (buffer .exit) ≡ frame′ (now (b .entry)) (now (buffer .entry)) f .buffer)) ⌝ }
+    ensures { λ r. ⌜ (r ≡ steppedOf (frameOf (now (b .entry)) (now (buffer .entry)) f) .answer) × ((now (b .exit) ≡ steppedOf (frameOf (now (b .entry)) (now (buffer .entry)) f) .bridge) × (now (buffer .exit) ≡ frameOf (now (b .entry)) (now (buffer .entry)) f .buffer)) ⌝ }
 {
     let old = *b;
     let t = frame(old, buffer, f);
@@ -29,7 +29,7 @@ pub fn frame_in_place(b: &mut Bridge, buffer: &mut [u8], f: bus::Frame) -> bus::
 
 // A closing.
 pub fn close_in_place(b: &mut Bridge, ticket: u32) -> u8
-    ensures { λ r. ⌜ (r ≡ close′ (now (b .entry)) ticket .number) × (now (b .exit) ≡ close′ (now (b .entry)) ticket .bridge) ⌝ }
+    ensures { λ r. ⌜ (r ≡ closeOf (now (b .entry)) ticket .number) × (now (b .exit) ≡ closeOf (now (b .entry)) ticket .bridge) ⌝ }
 {
     let old = *b;
     let t = close(old, ticket);

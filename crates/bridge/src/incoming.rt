@@ -12,13 +12,13 @@ ghost use mathlib.Core.Path.{_≡_};
 ghost use mathlib.Core.Bool.{true, _&&_};
 ghost use Prim.Native.Nat.{_+_, _*_, _≤_, _<_};
 ghost use lib.Dec.{eqb};
-ghost use Rattle.transfer.specs.Model.{sound, isWaiting, chunkLen, contentRefusal, awaiting, orFour, replyRefusal, frame′};
-ghost use Rattle.transfer.specs.Answers.{steppedOf};
+ghost use Rattle.bridge_rules.specs.Model.{sound, isWaiting, chunkLen, contentNumber, awaiting, orFour, replyNumber, frameOf};
+ghost use Rattle.bridge_rules.specs.Answers.{steppedOf};
 
 // 1 to 5, by which a bridge of this own number judges a frame; else 0.
 fn content_number(own: u8, f: bus::Frame) -> u8
     requires { ⌜ own ≤ 15 ⌝ }
-    ensures { λ r. ⌜ r ≡ contentRefusal own f ⌝ }
+    ensures { λ r. ⌜ r ≡ contentNumber own f ⌝ }
 {
     let head = bus::ident::read_head(own, f);
     match head {
@@ -46,7 +46,7 @@ fn awaits(x: Slot, k: usize, p: bus::Parts, len: u8) -> bool
 
 // The slot that awaits a frame, or 4. Slot k's part of the buffer begins at 128 k, so the reply's offset says which slot to ask.
 fn awaiting(b: Bridge, f: bus::Frame) -> usize
-    requires { ⌜ (sound b ≡ true) × (contentRefusal (b .own) f ≡ 0) ⌝ }
+    requires { ⌜ (sound b ≡ true) × (contentNumber (b .own) f ≡ 0) ⌝ }
     ensures { λ r. ⌜ r ≡ orFour (awaiting b f) ⌝ }
 {
     // The frame was judged, so it has parts.
@@ -73,7 +73,7 @@ struct Judged {
 
 // 11, 10, 1 to 5 and 17, by which an incoming frame is judged; else 0 and its slot.
 fn judge_reply(b: Bridge, n: usize, f: bus::Frame) -> Judged
-    ensures { λ r. ⌜ (r .number ≡ replyRefusal b n f) × (r .number ≡ 0 → r .slot ≡ orFour (awaiting b f)) ⌝ }
+    ensures { λ r. ⌜ (r .number ≡ replyNumber b n f) × (r .number ≡ 0 → r .slot ≡ orFour (awaiting b f)) ⌝ }
 {
     let lent = lent_number(b, n);
     if lent != 0 {
@@ -98,7 +98,7 @@ fn judge_reply(b: Bridge, n: usize, f: bus::Frame) -> Judged
 
 // An incoming frame: 17 where no waiting read awaits it; else its bytes are stored, and the read goes on or is done.
 pub fn frame(b: Bridge, buffer: &mut [u8], f: bus::Frame) -> Stepped
-    ensures { λ r. ⌜ (r ≡ steppedOf (frame′ b (now (buffer .entry)) f)) × (now (buffer .exit) ≡ frame′ b (now (buffer .entry)) f .buffer) ⌝ }
+    ensures { λ r. ⌜ (r ≡ steppedOf (frameOf b (now (buffer .entry)) f)) × (now (buffer .exit) ≡ frameOf b (now (buffer .entry)) f .buffer) ⌝ }
 {
     let judged = judge_reply(b, buffer.len(), f);
     let n = judged.number;

@@ -7,19 +7,19 @@ mod state;
 pub mod tickets;
 pub mod turning;
 
-pub use transfer::Bridge;
-pub use transfer::Changed;
-pub use transfer::DONE;
-pub use transfer::FREE;
-pub use transfer::GAVE_UP;
-pub use transfer::Opened;
-pub use transfer::READ;
-pub use transfer::READY;
-pub use transfer::Slot;
-pub use transfer::Span;
-pub use transfer::Stepped;
-pub use transfer::WAITING;
-pub use transfer::WRITE;
+pub use bridge_rules::Bridge;
+pub use bridge_rules::Changed;
+pub use bridge_rules::DONE;
+pub use bridge_rules::FREE;
+pub use bridge_rules::GAVE_UP;
+pub use bridge_rules::Opened;
+pub use bridge_rules::READ;
+pub use bridge_rules::READY;
+pub use bridge_rules::Slot;
+pub use bridge_rules::Span;
+pub use bridge_rules::Stepped;
+pub use bridge_rules::WAITING;
+pub use bridge_rules::WRITE;
 
 // A number, and a done read's part of the buffer.
 pub struct Shown<'a> {

@@ -11,12 +11,12 @@ use crate::state::lowest_free;
 ghost use mathlib.Core.Path.{_≡_};
 ghost use mathlib.Core.Bool.{false};
 ghost use lib.ListN.{length, set};
-ghost use Rattle.transfer.specs.Model.{ready, read, write, roomRefusal, openRefusal, lowestFree, from, isNone, open′};
-ghost use Rattle.transfer.specs.Answers.{openedOf};
+ghost use Rattle.bridge_rules.specs.Model.{ready, read, write, roomNumber, openNumber, lowestFree, from, isNone, openOf};
+ghost use Rattle.bridge_rules.specs.Answers.{openedOf};
 
 // 12 and 13: no free slot, and tickets used up; else 0.
 fn room_number(b: Bridge) -> u8
-    ensures { λ r. ⌜ r ≡ roomRefusal b ⌝ }
+    ensures { λ r. ⌜ r ≡ roomNumber b ⌝ }
 {
     if lowest_free(b) == 4 {
         return 12;
@@ -29,7 +29,7 @@ fn room_number(b: Bridge) -> u8
 
 // 11, 10, 7, 9, 8, 12, 13, by which an opening judges the bridge, a buffer of length n and its arguments; else 0.
 fn open_number(b: Bridge, n: usize, device: u8, table: u8, offset: u16, count: usize) -> u8
-    ensures { λ r. ⌜ r ≡ openRefusal b n (read device table offset count) ⌝ }
+    ensures { λ r. ⌜ r ≡ openNumber b n (read device table offset count) ⌝ }
 {
     let lent = lent_number(b, n);
     if lent != 0 {
@@ -85,7 +85,7 @@ pub fn open_read(
     offset: u16,
     count: usize,
 ) -> Opened
-    ensures { λ r. ⌜ r ≡ openedOf (open′ b (now (buffer .entry)) (read device table offset count)) ⌝ }
+    ensures { λ r. ⌜ r ≡ openedOf (openOf b (now (buffer .entry)) (read device table offset count)) ⌝ }
 {
     let n = open_number(b, buffer.len(), device, table, offset, count);
     if n != 0 {
@@ -108,7 +108,7 @@ pub fn open_write(
     offset: u16,
     bytes: &[u8],
 ) -> Opened
-    ensures { λ r. ⌜ (r ≡ openedOf (open′ b (now (buffer .entry)) (write device table offset (now (bytes .entry))))) × (now (buffer .exit) ≡ open′ b (now (buffer .entry)) (write device table offset (now (bytes .entry))) .buffer) ⌝ }
+    ensures { λ r. ⌜ (r ≡ openedOf (openOf b (now (buffer .entry)) (write device table offset (now (bytes .entry))))) × (now (buffer .exit) ≡ openOf b (now (buffer .entry)) (write device table offset (now (bytes .entry))) .buffer) ⌝ }
 {
     let n = open_number(b, buffer.len(), device, table, offset, bytes.len());
     if n != 0 {

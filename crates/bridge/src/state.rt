@@ -5,10 +5,10 @@ ghost use mathlib.Core.Bool.{false, cond, not, _&&_, _||_};
 ghost use mathlib.Core.List.{[], _∷_};
 ghost use lib.ListN.{getD};
 ghost use lib.Dec.{eqb};
-ghost use Rattle.bus.specs.Holder.{noAnswer};
-ghost use Rattle.transfer.specs.Model.{waiting, asks, carries, isFree, isReady, blank, withSlots, moved, askRefusal, soundPhase, soundSlot};
-ghost use Rattle.transfer.specs.Model.{soundSlots, distinct, sound, lentRefusal, firstSlot, orFour, lowestFree, holderOf, nextReady};
-ghost use Rattle.transfer.specs.Model.{aged, agedBridge, chunkLen, advanced};
+ghost use Rattle.bus_rules.specs.Holder.{noAnswer};
+ghost use Rattle.bridge_rules.specs.Model.{waiting, asks, carries, isFree, isReady, blank, withSlots, moved, askNumber, soundPhase, soundSlot};
+ghost use Rattle.bridge_rules.specs.Model.{soundSlots, distinct, sound, lentNumber, firstSlot, orFour, lowestFree, heldSlot, nextReady};
+ghost use Rattle.bridge_rules.specs.Model.{aged, agedBridge, chunkLen, advanced};
 use crate::Bridge;
 use crate::DONE;
 use crate::FREE;
@@ -78,7 +78,7 @@ pub(crate) fn moved(x: Slot, phase: u8, progress: u8, sends: u8, left: u8) -> Sl
 
 // 7, 9 and 8, by which an opening judges its arguments; else 0.
 pub(crate) fn ask_number(device: u8, table: u8, offset: u16, count: usize) -> u8
-    ensures { λ r. ⌜ r ≡ askRefusal device table offset count ⌝ }
+    ensures { λ r. ⌜ r ≡ askNumber device table offset count ⌝ }
 {
     if 15 < device {
         return 7;
@@ -189,7 +189,7 @@ pub(crate) fn sound(b: Bridge) -> bool
 
 // 11 and 10, by which a call judges the bridge and a buffer of length n; else 0.
 pub(crate) fn lent_number(b: Bridge, n: usize) -> u8
-    ensures { λ r. ⌜ r ≡ lentRefusal b n ⌝ }
+    ensures { λ r. ⌜ r ≡ lentNumber b n ⌝ }
 {
     if !sound(b) {
         return 11;
@@ -267,7 +267,7 @@ fn holds(x: Slot, ticket: u32) -> bool
 
 // The slot that a ticket's transfer holds, or 4.
 pub(crate) fn holder(b: Bridge, ticket: u32) -> usize
-    ensures { λ r. ⌜ r ≡ orFour (holderOf b ticket) ⌝ }
+    ensures { λ r. ⌜ r ≡ orFour (heldSlot b ticket) ⌝ }
 {
     let slots = b.slots;
     first(

@@ -10,7 +10,7 @@ use crate::state::sound;
 ghost use mathlib.Core.Path.{_≡_};
 ghost use Prim.Native.Nat.{_+_, _<_, _≤_};
 ghost use lib.ListN.{length};
-ghost use Rattle.transfer.specs.Model.{phaseNumber, ticketNumber, status′, bytesRefusal, spanOf, span′, partOf, bytes′};
+ghost use Rattle.bridge_rules.specs.Model.{phaseNumber, ticketNumber, statusOf, bytesNumber, slotSpan, spanOf, partOf, bytesOf};
 
 fn phase_number(phase: u8) -> u8
     ensures { λ r. ⌜ r ≡ phaseNumber phase ⌝ }
@@ -38,7 +38,7 @@ fn ticket_number(b: Bridge, ticket: u32) -> u8
 
 // 0 done, 16 gave up, 15 not finished; 14 where the ticket is unknown, 11 where the bridge is unsound.
 pub fn status(b: Bridge, ticket: u32) -> u8
-    ensures { λ r. ⌜ r ≡ status′ b ticket ⌝ }
+    ensures { λ r. ⌜ r ≡ statusOf b ticket ⌝ }
 {
     if !sound(b) {
         return 11;
@@ -47,7 +47,7 @@ pub fn status(b: Bridge, ticket: u32) -> u8
 }
 
 fn bytes_number(b: Bridge, n: usize, ticket: u32) -> u8
-    ensures { λ r. ⌜ r ≡ bytesRefusal b n ticket ⌝ }
+    ensures { λ r. ⌜ r ≡ bytesNumber b n ticket ⌝ }
 {
     if !sound(b) {
         return 11;
@@ -61,7 +61,7 @@ fn bytes_number(b: Bridge, n: usize, ticket: u32) -> u8
 // Where a done transfer's bytes lie: in slot k's part of the buffer for a read.
 fn slot_span(b: Bridge, k: usize) -> Span
     requires { ⌜ k < 4 ⌝ }
-    ensures { λ r. ⌜ r ≡ spanOf b k ⌝ }
+    ensures { λ r. ⌜ r ≡ slotSpan b k ⌝ }
 {
     let slots = b.slots;
     let x = slots[k];
@@ -81,7 +81,7 @@ fn slot_span(b: Bridge, k: usize) -> Span
 
 // The same of a ticket, with a buffer of length n.
 fn span_of(b: Bridge, n: usize, ticket: u32) -> Span
-    ensures { λ r. ⌜ r ≡ span′ b n ticket ⌝ }
+    ensures { λ r. ⌜ r ≡ spanOf b n ticket ⌝ }
 {
     let number = bytes_number(b, n, ticket);
     if number != 0 {
@@ -97,7 +97,7 @@ fn span_of(b: Bridge, n: usize, ticket: u32) -> Span
 
 // Where a done read's bytes lie in the buffer, with the number of the bytes call; an empty span otherwise.
 pub fn span(b: Bridge, buffer: &[u8], ticket: u32) -> Span
-    ensures { λ r. ⌜ (r ≡ span′ b (length (now (buffer .entry))) ticket) × (r .start + r .count ≤ length (now (buffer .entry))) ⌝ }
+    ensures { λ r. ⌜ (r ≡ spanOf b (length (now (buffer .entry))) ticket) × (r .start + r .count ≤ length (now (buffer .entry))) ⌝ }
 {
     span_of(b, buffer.len(), ticket)
 }
@@ -114,7 +114,7 @@ fn part<'a>(buffer: &'a [u8], s: Span) -> &'a [u8]
 
 // A done read's part of the buffer, with 11, 10 or status's number; an empty part otherwise.
 pub fn bytes<'a>(b: Bridge, buffer: &'a [u8], ticket: u32) -> Shown<'a>
-    ensures { λ r. ⌜ (r .number ≡ bytes′ b (now (buffer .entry)) ticket .number) × (now (r .part) ≡ bytes′ b (now (buffer .entry)) ticket .shown) ⌝ }
+    ensures { λ r. ⌜ (r .number ≡ bytesOf b (now (buffer .entry)) ticket .number) × (now (r .part) ≡ bytesOf b (now (buffer .entry)) ticket .shown) ⌝ }
 {
     let s = span_of(b, buffer.len(), ticket);
     Shown {

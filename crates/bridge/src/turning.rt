@@ -17,9 +17,9 @@ ghost use mathlib.Core.Bool.{true};
 ghost use mathlib.Core.Option.{some};
 ghost use Prim.Native.Nat.{_+_, _≤_, _<_};
 ghost use lib.ListN.{length};
-ghost use Rattle.bus.specs.Ident.{idOf};
-ghost use Rattle.transfer.specs.Model.{slot, sound, isReady, readFrame, writeFrame, sentFrame, sentSlot, sendFor, turn′};
-ghost use Rattle.transfer.specs.Answers.{steppedOf};
+ghost use Rattle.bus_rules.specs.Ident.{idOf};
+ghost use Rattle.bridge_rules.specs.Model.{slot, sound, isReady, readFrame, writeFrame, sentFrame, sentSlot, sendFor, turnOf};
+ghost use Rattle.bridge_rules.specs.Answers.{steppedOf};
 
 // The identifier of a slot's next frame, of a type.
 fn identifier(own: u8, kind: u8, x: Slot) -> u32
@@ -130,7 +130,7 @@ fn send(b: Bridge, k: usize, buffer: &[u8]) -> Stepped
 
 // One turn: every slot ages, then the first ready slot after the one last served sends.
 pub fn turn(b: Bridge, buffer: &[u8]) -> Stepped
-    ensures { λ r. ⌜ r ≡ steppedOf (turn′ b (now (buffer .entry))) ⌝ }
+    ensures { λ r. ⌜ r ≡ steppedOf (turnOf b (now (buffer .entry))) ⌝ }
 {
     let n = lent_number(b, buffer.len());
     if n != 0 {

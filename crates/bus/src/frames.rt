@@ -5,7 +5,7 @@ ghost use Prim.Native.Nat.{_+_, _≤_};
 ghost use lib.ListN.{length};
 ghost use lib.Seq.{sets};
 ghost use Rattle.wire.specs.Put.{putOf};
-ghost use Rattle.bus.specs.Frames.{padded, content};
+ghost use Rattle.bus_rules.specs.Frames.{padded, content};
 
 // The first eight bytes given, and zeros where there are fewer.
 pub fn padded(bytes: &[u8]) -> [u8; 8]

@@ -20,8 +20,8 @@ use crate::rows::table_of;
 ghost use mathlib.Core.Path.{_≡_};
 ghost use Prim.Native.Nat.{_+_, _*_, _≤_, _<_};
 ghost use lib.ListN.{length, take, drop};
-ghost use Rattle.bus.specs.Holder.{startOf, sizeOf, rightOf, totalOf, soundTables, directoryNumber, memoryNumber, commandNumber, askNumber, queryNumber, kindNumber, serveNumber, requestAt, tableOf, noAnswer, replyTo, placeOf, protocol, actOf, memoryAct, serveOf, memoryOf};
-ghost use Rattle.bus.specs.Demand2.{Demand2};
+ghost use Rattle.bus_rules.specs.Holder.{startOf, sizeOf, rightOf, totalOf, soundTables, directoryNumber, memoryNumber, commandNumber, requestNumber, queryNumber, kindNumber, serveNumber, requestAt, tableOf, noAnswer, replyTo, placeOf, protocol, actOf, memoryAct, serveOf, memoryOf};
+ghost use Rattle.bus_rules.specs.Demand2.{Demand2};
 
 // A table: its start (the sum of the sizes before it), its size and its right.
 struct Table {
@@ -125,8 +125,8 @@ fn command_number(len: u8, size: u16, right: u8, offset: u16) -> u8
     0
 }
 
-fn ask_number(len: u8, reserved: bool, size: u16, right: u8, offset: u16, count: u8) -> u8
-    ensures { λ r. ⌜ r ≡ askNumber len reserved size right offset count ⌝ }
+fn request_number(len: u8, reserved: bool, size: u16, right: u8, offset: u16, count: u8) -> u8
+    ensures { λ r. ⌜ r ≡ requestNumber len reserved size right offset count ⌝ }
 {
     if len != 3 {
         return 6;
@@ -191,7 +191,7 @@ fn kind_number(t: Table, f: Frame) -> u8
     }
     if kind == REQ {
         let reserved = is_reserved(f.bytes[0], f.bytes[2]);
-        return ask_number(
+        return request_number(
             f.len,
             reserved,
             t.size,
@@ -272,7 +272,7 @@ fn answer_query(d: Directory, f: Frame) -> Served
 }
 
 // The answer to a request that is not refused; its range starts at the place given.
-fn answer_ask(d: Directory, at: usize, memory: &[u8], f: Frame) -> Served
+fn answer_request(d: Directory, at: usize, memory: &[u8], f: Frame) -> Served
     requires { ⌜ (d .own ≤ 15) × (at + requestAt f 0 .count ≤ length (now memory)) ⌝ }
     ensures { λ r. ⌜ r ≡ replyTo d f (requestAt f 0) (take (requestAt f 0 .count) (drop at (now (memory .entry)))) ⌝ }
 {
@@ -292,7 +292,7 @@ fn act(d: Directory, at: usize, memory: &mut [u8], f: Frame) -> Served
         return no_answer(0);
     }
     if kind == REQ {
-        return answer_ask(d, at, &memory[..], f);
+        return answer_request(d, at, &memory[..], f);
     }
     answer_query(d, f)
 }

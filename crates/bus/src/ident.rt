@@ -9,9 +9,9 @@ use crate::rows::parts_of;
 use crate::rows::unpack_number;
 ghost use mathlib.Core.Path.{_≡_};
 ghost use Rattle.wire.specs.Answer.{result};
-ghost use Rattle.bus.specs.Ident.{idIn, packNumber, packOf, packedAnswer, noParts, partsOf, unpackNumber, unpackOf, unpackedAnswer};
-ghost use Rattle.bus.specs.Frames.{receiveNumber, headOf};
-ghost use Rattle.bus.specs.Rows.{UnpackAfterPack, PackAfterUnpack, RowLaw};
+ghost use Rattle.bus_rules.specs.Ident.{idIn, packNumber, packOf, packedAnswer, noParts, partsOf, unpackNumber, unpackOf, unpackedAnswer};
+ghost use Rattle.bus_rules.specs.Frames.{receiveNumber, readHeadOf};
+ghost use Rattle.bus_rules.specs.Rows.{UnpackAfterPack, PackAfterUnpack, RowLaw};
 
 fn pack_number(p: Parts) -> u8
     ensures { λ r. ⌜ r ≡ packNumber p ⌝ }
@@ -70,7 +70,7 @@ fn receive_number(own: u8, f: Frame) -> u8
 
 // The parts of the identifier of a frame that a receiver of this own number does not refuse; else 11 (own number over 15), 1, 2, 3, 4.
 pub fn read_head(own: u8, f: Frame) -> Unpacked
-    ensures { λ r. ⌜ (r ≡ headOf own f) × (unpackedAnswer r ≡ result noParts (receiveNumber own f) (partsOf (f .id))) ⌝ }
+    ensures { λ r. ⌜ (r ≡ readHeadOf own f) × (unpackedAnswer r ≡ result noParts (receiveNumber own f) (partsOf (f .id))) ⌝ }
 {
     let number = receive_number(own, f);
     if number != 0 {

@@ -1,27 +1,27 @@
 // The three request bytes.
-use crate::Asked;
+use crate::RequestRead;
 use crate::Request;
 use crate::RequestBytes;
 use crate::rows::is_reserved;
 use crate::rows::request_of;
 ghost use mathlib.Core.Path.{_≡_};
 ghost use Rattle.wire.specs.Answer.{result};
-ghost use Rattle.bus.specs.Request.{requestOf, noRequest, readNumber, readRequestOf, askedAnswer, requestNumber, requestBytesOf};
-ghost use Rattle.bus.specs.Rows.{ReadAfterWrite, WriteAfterRead};
+ghost use Rattle.bus_rules.specs.Request.{requestOf, noRequest, readNumber, readRequestOf, requestReadAnswer, requestBytesNumber, requestBytesOf};
+ghost use Rattle.bus_rules.specs.Rows.{ReadAfterWrite, WriteAfterRead};
 
 // The request in three bytes; 6 where a reserved bit is set.
-pub fn read_request(a: u8, b: u8, c: u8) -> Asked
-    ensures { λ r. ⌜ (r ≡ readRequestOf a b c) × (askedAnswer r ≡ result noRequest (readNumber a c) (requestOf a b c)) ⌝ }
+pub fn read_request(a: u8, b: u8, c: u8) -> RequestRead
+    ensures { λ r. ⌜ (r ≡ readRequestOf a b c) × (requestReadAnswer r ≡ result noRequest (readNumber a c) (requestOf a b c)) ⌝ }
     ensures back { λ r. ⌜ WriteAfterRead a b c r ⌝ }
 {
     if is_reserved(a, c) {
-        return Asked::Refused(6);
+        return RequestRead::Refused(6);
     }
-    Asked::Is(request_of(a, b, c))
+    RequestRead::Is(request_of(a, b, c))
 }
 
-fn request_number(q: Request) -> u8
-    ensures { λ r. ⌜ r ≡ requestNumber q ⌝ }
+fn request_bytes_number(q: Request) -> u8
+    ensures { λ r. ⌜ r ≡ requestBytesNumber q ⌝ }
 {
     if 31 < q.table {
         return 7;
@@ -40,7 +40,7 @@ pub fn request_bytes(q: Request) -> RequestBytes
     ensures { λ r. ⌜ r ≡ requestBytesOf q ⌝ }
     ensures back { λ r. ⌜ ReadAfterWrite q r ⌝ }
 {
-    let number = request_number(q);
+    let number = request_bytes_number(q);
     if number != 0 {
         return RequestBytes {
             number,

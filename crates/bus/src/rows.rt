@@ -4,9 +4,9 @@ use crate::Parts;
 use crate::Request;
 ghost use mathlib.Core.Path.{_≡_};
 ghost use Prim.Native.Nat.{_≤_};
-ghost use Rattle.bus.specs.Ident.{idTable, idTo, idFrom, idKind, idOffset, idOf, partsOf, unpackNumber};
-ghost use Rattle.bus.specs.Frames.{headNumber};
-ghost use Rattle.bus.specs.Request.{reserved, requestOf};
+ghost use Rattle.bus_rules.specs.Ident.{idTable, idTo, idFrom, idKind, idOffset, idOf, partsOf, unpackNumber};
+ghost use Rattle.bus_rules.specs.Frames.{headNumber};
+ghost use Rattle.bus_rules.specs.Request.{reserved, requestOf};
 
 pub(crate) fn table_of(id: u32) -> u8
     ensures { λ r. ⌜ r ≡ idTable id ⌝ }

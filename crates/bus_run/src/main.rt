@@ -1,5 +1,5 @@
 // Runs the worked examples of 002, one line each.
-use bus::Asked;
+use bus::RequestRead;
 use bus::Directory;
 use bus::Frame;
 use bus::Packed;
@@ -119,7 +119,7 @@ fn asks(a: u8, b: u8, c: u8) {
     let l = byte(byte(byte(text(empty(), b"request"), a), b), c);
     let asked = bus::requests::read_request(a, b, c);
     match asked {
-        Asked::Is(q) => {
+        RequestRead::Is(q) => {
             let l = labelled(l, b": table ", q.table as u64);
             let l = labelled(l, b", offset ", q.offset as u64);
             let l = labelled(l, b", count ", q.count as u64);
@@ -128,7 +128,7 @@ fn asks(a: u8, b: u8, c: u8) {
             let l = text(l, b"; written");
             print(byte(byte(byte(l, bytes[0]), bytes[1]), bytes[2]));
         }
-        Asked::Refused(n) => print(labelled(l, b": number ", n as u64)),
+        RequestRead::Refused(n) => print(labelled(l, b": number ", n as u64)),
     }
 }
 

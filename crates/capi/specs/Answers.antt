@@ -2,14 +2,14 @@
 use Prim.Native.Nat.{ℕ}
 use mathlib.Core.Bool.{Bool, true, false}
 use lib.IntN.{pos}
-use Rattle.bus.specs.declared.Packed.{Packed as PackedEnum}
-use Rattle.bus.specs.declared.Packed.the-variants as P
-use Rattle.bus.specs.declared.Unpacked.{Unpacked as UnpackedEnum}
-use Rattle.bus.specs.declared.Unpacked.the-variants as U
-use Rattle.bus.specs.declared.Asked.{Asked as AskedEnum}
-use Rattle.bus.specs.declared.Asked.the-variants as A
-use Rattle.bus.specs.Ident.{noParts}
-use Rattle.bus.specs.Request.{noRequest}
+use Rattle.bus_rules.specs.declared.Packed.{Packed as PackedEnum}
+use Rattle.bus_rules.specs.declared.Packed.the-variants as P
+use Rattle.bus_rules.specs.declared.Unpacked.{Unpacked as UnpackedEnum}
+use Rattle.bus_rules.specs.declared.Unpacked.the-variants as U
+use Rattle.bus_rules.specs.declared.RequestRead.{RequestRead as AskedEnum}
+use Rattle.bus_rules.specs.declared.RequestRead.the-variants as A
+use Rattle.bus_rules.specs.Ident.{noParts}
+use Rattle.bus_rules.specs.Request.{noRequest}
 use Rattle.mlgfile.specs.Block.{dataKind, markKind, endKind, refusedKind}
 use Rattle.mlgfile.specs.declared.Head.{Head as MlgHead}
 use Rattle.mlgfile.specs.declared.Head.the-variants as MH
@@ -26,7 +26,7 @@ use Rattle.field.specs.declared.ShownValue.{ShownValue}
 use Rattle.field.specs.declared.ShownValue.the-variants as S
 use Rattle.capi.specs.declared.Packed.{Packed}
 use Rattle.capi.specs.declared.Unpacked.{Unpacked}
-use Rattle.capi.specs.declared.Asked.{Asked}
+use Rattle.capi.specs.declared.RequestRead.{RequestRead}
 use Rattle.capi.specs.declared.MlgHeader.{MlgHeader}
 use Rattle.capi.specs.declared.MlgBlock.{MlgBlock}
 use Rattle.capi.specs.declared.FrdHeader.{FrdHeader}
@@ -42,7 +42,7 @@ abbrev pub unpackedOut : UnpackedEnum → Unpacked
 unpackedOut (U.Is p) = record { parts = p; number = 0 }
 unpackedOut (U.Refused n) = record { parts = noParts; number = n }
 
-abbrev pub askedOut : AskedEnum → Asked
+abbrev pub askedOut : AskedEnum → RequestRead
 askedOut (A.Is q) = record { request = q; number = 0 }
 askedOut (A.Refused n) = record { request = noRequest; number = n }
 

@@ -1,11 +1,11 @@
 // Identifiers, request bytes, and the table holder.
-use crate::Asked;
+use crate::RequestRead;
 use crate::Packed;
 use crate::Unpacked;
 ghost use mathlib.Core.Path.{_≡_};
-ghost use Rattle.bus.specs.Ident.{packOf, unpackOf};
-ghost use Rattle.bus.specs.Request.{readRequestOf, requestBytesOf};
-ghost use Rattle.bus.specs.Holder.{serveOf, memoryOf};
+ghost use Rattle.bus_rules.specs.Ident.{packOf, unpackOf};
+ghost use Rattle.bus_rules.specs.Request.{readRequestOf, requestBytesOf};
+ghost use Rattle.bus_rules.specs.Holder.{serveOf, memoryOf};
 ghost use Rattle.capi.specs.Answers.{packedOut, unpackedOut, askedOut};
 
 #[no_mangle]
@@ -40,13 +40,13 @@ pub extern "C" fn hg_unpack(id: u32) -> Unpacked
 }
 
 #[no_mangle]
-pub extern "C" fn hg_read_request(first: u8, second: u8, third: u8) -> Asked
+pub extern "C" fn hg_read_request(first: u8, second: u8, third: u8) -> RequestRead
     ensures { λ r. ⌜ r ≡ askedOut (readRequestOf first second third) ⌝ }
 {
     let q = bus::requests::read_request(first, second, third);
     match q {
-        bus::Asked::Is(request) => Asked { request, number: 0 },
-        bus::Asked::Refused(number) => Asked {
+        bus::RequestRead::Is(request) => RequestRead { request, number: 0 },
+        bus::RequestRead::Refused(number) => RequestRead {
             request: bus::Request {
                 table: 0,
                 count: 0,

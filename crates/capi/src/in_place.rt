@@ -1,12 +1,12 @@
 // The thin calls: turn, frame and close change the bridge in the caller's own storage.
 use bridge::Bridge;
 ghost use mathlib.Core.Path.{_≡_};
-ghost use Rattle.transfer.specs.Model.{turn′, frame′, close′};
-ghost use Rattle.transfer.specs.Answers.{steppedOf};
+ghost use Rattle.bridge_rules.specs.Model.{turnOf, frameOf, closeOf};
+ghost use Rattle.bridge_rules.specs.Answers.{steppedOf};
 
 #[no_mangle]
 pub extern "C" fn hg_turn_in_place(b: &mut Bridge, buffer: &[u8]) -> bus::Served
-    ensures { λ r. ⌜ (r ≡ steppedOf (turn′ (now (b .entry)) (now (buffer .entry))) .answer) × (now (b .exit) ≡ steppedOf (turn′ (now (b .entry)) (now (buffer .entry))) .bridge) ⌝ }
+    ensures { λ r. ⌜ (r ≡ steppedOf (turnOf (now (b .entry)) (now (buffer .entry))) .answer) × (now (b .exit) ≡ steppedOf (turnOf (now (b .entry)) (now (buffer .entry))) .bridge) ⌝ }
 {
     bridge::in_place::turn_in_place(b, buffer)
 }
@@ -17,14 +17,14 @@ pub extern "C" fn hg_frame_in_place(
     buffer: &mut [u8],
     frame: bus::Frame,
 ) -> bus::Served
-    ensures { λ r. ⌜ (r ≡ steppedOf (frame′ (now (b .entry)) (now (buffer .entry)) frame) .answer) × ((now (b .exit) ≡ steppedOf (frame′ (now (b .entry)) (now (buffer .entry)) frame) .bridge) × (now (buffer .exit) ≡ frame′ (now (b .entry)) (now (buffer .entry)) frame .buffer)) ⌝ }
+    ensures { λ r. ⌜ (r ≡ steppedOf (frameOf (now (b .entry)) (now (buffer .entry)) frame) .answer) × ((now (b .exit) ≡ steppedOf (frameOf (now (b .entry)) (now (buffer .entry)) frame) .bridge) × (now (buffer .exit) ≡ frameOf (now (b .entry)) (now (buffer .entry)) frame .buffer)) ⌝ }
 {
     bridge::in_place::frame_in_place(b, buffer, frame)
 }
 
 #[no_mangle]
 pub extern "C" fn hg_close_in_place(b: &mut Bridge, ticket: u32) -> u8
-    ensures { λ r. ⌜ (r ≡ close′ (now (b .entry)) ticket .number) × (now (b .exit) ≡ close′ (now (b .entry)) ticket .bridge) ⌝ }
+    ensures { λ r. ⌜ (r ≡ closeOf (now (b .entry)) ticket .number) × (now (b .exit) ≡ closeOf (now (b .entry)) ticket .bridge) ⌝ }
 {
     bridge::in_place::close_in_place(b, ticket)
 }

@@ -25,7 +25,7 @@ pub struct Unpacked {
 
 // A request, and the number that refuses its bytes.
 #[repr(C)]
-pub struct Asked {
+pub struct RequestRead {
     pub request: bus::Request,
     pub number: u8,
 }

@@ -7,8 +7,8 @@ use bridge::Stepped;
 ghost use mathlib.Core.Path.{_≡_};
 ghost use Prim.Native.Nat.{_+_, _≤_};
 ghost use lib.ListN.{length};
-ghost use Rattle.transfer.specs.Model.{read, write, open′, turn′, frame′, status′, span′, close′, reset′};
-ghost use Rattle.transfer.specs.Answers.{openedOf, steppedOf};
+ghost use Rattle.bridge_rules.specs.Model.{read, write, openOf, turnOf, frameOf, statusOf, spanOf, closeOf, resetOf};
+ghost use Rattle.bridge_rules.specs.Answers.{openedOf, steppedOf};
 
 #[no_mangle]
 pub extern "C" fn hg_open_read(
@@ -19,7 +19,7 @@ pub extern "C" fn hg_open_read(
     offset: u16,
     count: usize,
 ) -> Opened
-    ensures { λ r. ⌜ r ≡ openedOf (open′ b (now (buffer .entry)) (read device table offset count)) ⌝ }
+    ensures { λ r. ⌜ r ≡ openedOf (openOf b (now (buffer .entry)) (read device table offset count)) ⌝ }
 {
     bridge::opening::open_read(b, buffer, device, table, offset, count)
 }
@@ -33,49 +33,49 @@ pub extern "C" fn hg_open_write(
     offset: u16,
     bytes: &[u8],
 ) -> Opened
-    ensures { λ r. ⌜ (r ≡ openedOf (open′ b (now (buffer .entry)) (write device table offset (now (bytes .entry))))) × (now (buffer .exit) ≡ open′ b (now (buffer .entry)) (write device table offset (now (bytes .entry))) .buffer) ⌝ }
+    ensures { λ r. ⌜ (r ≡ openedOf (openOf b (now (buffer .entry)) (write device table offset (now (bytes .entry))))) × (now (buffer .exit) ≡ openOf b (now (buffer .entry)) (write device table offset (now (bytes .entry))) .buffer) ⌝ }
 {
     bridge::opening::open_write(b, buffer, device, table, offset, bytes)
 }
 
 #[no_mangle]
 pub extern "C" fn hg_turn(b: Bridge, buffer: &[u8]) -> Stepped
-    ensures { λ r. ⌜ r ≡ steppedOf (turn′ b (now (buffer .entry))) ⌝ }
+    ensures { λ r. ⌜ r ≡ steppedOf (turnOf b (now (buffer .entry))) ⌝ }
 {
     bridge::turning::turn(b, buffer)
 }
 
 #[no_mangle]
 pub extern "C" fn hg_frame_in(b: Bridge, buffer: &mut [u8], frame: bus::Frame) -> Stepped
-    ensures { λ r. ⌜ (r ≡ steppedOf (frame′ b (now (buffer .entry)) frame)) × (now (buffer .exit) ≡ frame′ b (now (buffer .entry)) frame .buffer) ⌝ }
+    ensures { λ r. ⌜ (r ≡ steppedOf (frameOf b (now (buffer .entry)) frame)) × (now (buffer .exit) ≡ frameOf b (now (buffer .entry)) frame .buffer) ⌝ }
 {
     bridge::incoming::frame(b, buffer, frame)
 }
 
 #[no_mangle]
 pub extern "C" fn hg_status(b: Bridge, ticket: u32) -> u8
-    ensures { λ r. ⌜ r ≡ status′ b ticket ⌝ }
+    ensures { λ r. ⌜ r ≡ statusOf b ticket ⌝ }
 {
     bridge::tickets::status(b, ticket)
 }
 
 #[no_mangle]
 pub extern "C" fn hg_span_of(b: Bridge, buffer: &[u8], ticket: u32) -> Span
-    ensures { λ r. ⌜ (r ≡ span′ b (length (now (buffer .entry))) ticket) × (r .start + r .count ≤ length (now (buffer .entry))) ⌝ }
+    ensures { λ r. ⌜ (r ≡ spanOf b (length (now (buffer .entry))) ticket) × (r .start + r .count ≤ length (now (buffer .entry))) ⌝ }
 {
     bridge::tickets::span(b, buffer, ticket)
 }
 
 #[no_mangle]
 pub extern "C" fn hg_close(b: Bridge, ticket: u32) -> Changed
-    ensures { λ r. ⌜ r ≡ close′ b ticket ⌝ }
+    ensures { λ r. ⌜ r ≡ closeOf b ticket ⌝ }
 {
     bridge::ending::close(b, ticket)
 }
 
 #[no_mangle]
 pub extern "C" fn hg_reset(b: Bridge, own: u8) -> Changed
-    ensures { λ r. ⌜ r ≡ reset′ b own ⌝ }
+    ensures { λ r. ⌜ r ≡ resetOf b own ⌝ }
 {
     bridge::ending::reset(b, own)
 }

@@ -7,7 +7,7 @@ use native.Mathlib.Omega.{arith}
 use borrow.Author.Tests.{eq-eqb, le-ltb}
 use lib.ListN.{length, take, drop, length-append}
 use lib.Seq.{take-at, drop-at, drop-append-add, drop-drop}
-use Rattle.wire.specs.BigEndian.{beOf, beAt, bytesOf}
+use Rattle.wire.specs.BigEndian.{beOf, beAt, beBytes}
 use Rattle.wire.proofs.Numbers.{be-back}
 use Rattle.wire.proofs.Orders.{if-no, not-no}
 use Rattle.wire.proofs.Answers.{stands}
@@ -33,7 +33,7 @@ time-length c time = refl
 
 pub header-length : (time : ℕ) (signature : List ℕ) (l : ℕ) → length signature ≡ signatureLen → length (headerBytes time signature l) ≡ headLen
 unfolding headerBytes
-header-length time signature l e = omega (arith, length-append signature (bytesOf 4 headLen ++ bytesOf 2 l))
+header-length time signature l e = omega (arith, length-append signature (beBytes 4 headLen ++ beBytes 2 l))
 
 -- a whole block of a known type stands
 block-whole : (l c at : ℕ) (t : List ℕ) → (length t ≡ 0 → ⊥) → (blockLen l (kindIn t) ≡ 0 → ⊥) → blockLen l (kindIn t) ≤ length t → (b : Block)
@@ -58,7 +58,7 @@ record-back l c before rec rest e = ap (take l) (drop-append-add before (1 ∷ c
 pub time-back-at : (l c at time : ℕ) (rest : List ℕ) → time < 2 ^ 32 → blockOf l c at (timeBytes c time ++ rest) ≡ Time c time true
 unfolding timeBytes
 time-back-at l c at time rest h =
-    let t : List ℕ = 2 ∷ c ∷ (bytesOf 4 time ++ rest) in
+    let t : List ℕ = 2 ∷ c ∷ (beBytes 4 time ++ rest) in
     let k = time-len l 2 refl in
     let q : beAt 4 t 2 ≡ time = be-back 4 time h in
     block-whole l c at t (λ z. omega arith) (λ z. omega arith) (omega arith) _
@@ -95,7 +95,7 @@ time-back n time h = (
 
 -- a header's bytes and what follows them, part by part
 abbrev pub headerThen : ℕ → List ℕ → ℕ → List ℕ → List ℕ
-headerThen time signature l rest = name ++ (bytesOf 2 version ++ (bytesOf 4 time ++ (signature ++ (bytesOf 4 headLen ++ (bytesOf 2 l ++ rest)))))
+headerThen time signature l rest = name ++ (beBytes 2 version ++ (beBytes 4 time ++ (signature ++ (beBytes 4 headLen ++ (beBytes 2 l ++ rest)))))
 
 pub header-list : (time : ℕ) (signature : List ℕ) (l : ℕ) (rest : List ℕ) → headerBytes time signature l ++ rest ≡ headerThen time signature l rest
 unfolding headerBytes
@@ -105,10 +105,10 @@ module _ (time : ℕ) (signature : List ℕ) (l : ℕ) (small : time < 2 ^ 32) (
   abbrev file : List ℕ
   file = headerThen time signature l rest
 
-  after : drop 75 file ≡ bytesOf 4 headLen ++ (bytesOf 2 l ++ rest)
-  after = drop-at signature (bytesOf 4 headLen ++ (bytesOf 2 l ++ rest)) 63 whole
+  after : drop 75 file ≡ beBytes 4 headLen ++ (beBytes 2 l ++ rest)
+  after = drop-at signature (beBytes 4 headLen ++ (beBytes 2 l ++ rest)) 63 whole
 
-  after-begin : drop 79 file ≡ bytesOf 2 l ++ rest
+  after-begin : drop 79 file ≡ beBytes 2 l ++ rest
   after-begin = sym (drop-drop 4 75 file) ∙ ap (drop 4) after
 
   numbers-back : numbersOf file ≡ headerFor time l
@@ -122,7 +122,7 @@ module _ (time : ℕ) (signature : List ℕ) (l : ℕ) (small : time < 2 ^ 32) (
   none : 0 ≡ headNumber file
   unfolding headNumber
   none =
-      let k : headLen ≤ length file = omega (arith, length-append signature (bytesOf 4 headLen ++ (bytesOf 2 l ++ rest))) in
+      let k : headLen ≤ length file = omega (arith, length-append signature (beBytes 4 headLen ++ (beBytes 2 l ++ rest))) in
       rw numbers-back
       (if-no 20 _ _ 0 (le-ltb (length file) headLen k)
       (if-no 21 _ _ 0 (not-no _ refl)
@@ -135,7 +135,7 @@ module _ (time : ℕ) (signature : List ℕ) (l : ℕ) (small : time < 2 ^ 32) (
 
   signature-is : signatureIn file ≡ signature
   unfolding signatureIn
-  signature-is = take-at signature (bytesOf 4 headLen ++ (bytesOf 2 l ++ rest)) 63 whole
+  signature-is = take-at signature (beBytes 4 headLen ++ (beBytes 2 l ++ rest)) 63 whole
 
   pub header-read : (headerOf (headerBytes time signature l ++ rest) ≡ Is (headerFor time l)) × (signatureIn (headerBytes time signature l ++ rest) ≡ signature)
   header-read = rw (header-list time signature l rest) (head-is, signature-is)

@@ -5,7 +5,7 @@ use mathlib.Core.List.{List, [], _∷_, _++_}
 use native.Mathlib.Omega.{arith}
 use borrow.Author.Tests.{lt-ltb, le-ltb}
 use lib.ListN.{length, length-append}
-use Rattle.wire.specs.BigEndian.{bytesOf}
+use Rattle.wire.specs.BigEndian.{beBytes}
 use Rattle.wire.specs.Put.{putOf}
 use Rattle.wire.proofs.Orders.{if-yes, if-no}
 use Rattle.wire.proofs.Writes.{over, put-first, put-more}
@@ -30,13 +30,13 @@ data-put c out rec first e h p q =
 
 -- the three parts of a header
 pub header-put : {x y z : List ℕ} (time l : ℕ) (out signature first last : List ℕ)
-    → first ≡ name ++ (bytesOf 2 version ++ bytesOf 4 time) → last ≡ bytesOf 4 headLen ++ bytesOf 2 l
+    → first ≡ name ++ (beBytes 2 version ++ beBytes 4 time) → last ≡ beBytes 4 headLen ++ beBytes 2 l
     → length signature ≡ signatureLen → headLen ≤ length out
     → x ≡ putOf out 0 first → y ≡ putOf x 12 signature → z ≡ putOf y 75 last → z ≡ over (headerBytes time signature l) out
 unfolding headerBytes
 header-put time l out signature first last e g s h p q r =
-    let f : List ℕ = name ++ (bytesOf 2 version ++ bytesOf 4 time) in
+    let f : List ℕ = name ++ (beBytes 2 version ++ beBytes 4 time) in
     let n = length-append f signature in
     let a = put-first out f (omega arith) (rw e at p) in
     let b = put-more out f signature 12 refl (omega arith) a q in
-    put-more out (f ++ signature) (bytesOf 4 headLen ++ bytesOf 2 l) 75 (omega arith) (omega arith) b (rw g at r)
+    put-more out (f ++ signature) (beBytes 4 headLen ++ beBytes 2 l) 75 (omega arith) (omega arith) b (rw g at r)

@@ -7,7 +7,7 @@ use native.Mathlib.Omega.{arith}
 use borrow.Author.Tests.{eqb-true}
 use lib.ListN.{length, take, drop, length-drop, take-append-drop}
 use lib.Seq.{drop-drop, length-take-le}
-use Rattle.wire.specs.BigEndian.{beOf, beAt, bytesOf}
+use Rattle.wire.specs.BigEndian.{beOf, beAt, beBytes}
 use Rattle.wire.proofs.Numbers.{Bytes, bytes-take, bytes-drop, be-below, below-part, part-back}
 use Rattle.frd.specs.Counter.{counterOf}
 use Rattle.frd.specs.Header.{headLen, name, version, numbersOf, signatureIn}
@@ -24,7 +24,7 @@ use Rattle.frd.proofs.Backs.{header-list}
 use Rattle.frd.proofs.Logs.{log-whole}
 
 -- a number read from a place, written again
-number-same : (n at v : ℕ) (f : List ℕ) → Bytes f → at + n ≤ length f → beAt n f at ≡ v → bytesOf n v ≡ take n (drop at f)
+number-same : (n at v : ℕ) (f : List ℕ) → Bytes f → at + n ≤ length f → beAt n f at ≡ v → beBytes n v ≡ take n (drop at f)
 number-same n at v f h k e = rw (← e) (part-back n f at k h)
 
 -- a part and what follows it

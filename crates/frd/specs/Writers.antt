@@ -5,13 +5,13 @@ use mathlib.Core.List.{List, _∷_, _++_}
 use lib.Dec.{eqb, ltb}
 use lib.ListN.{length}
 use Rattle.wire.specs.Order.{_if_else_}
-use Rattle.wire.specs.BigEndian.{bytesOf}
+use Rattle.wire.specs.BigEndian.{beBytes}
 use Rattle.frd.specs.Header.{headLen, signatureLen, name, version}
 
 -- a header's bytes
 unfoldable pub headerBytes : ℕ → List ℕ → ℕ → List ℕ
 headerBytes time signature l =
-    name ++ (bytesOf 2 version ++ (bytesOf 4 time ++ (signature ++ (bytesOf 4 headLen ++ bytesOf 2 l))))
+    name ++ (beBytes 2 version ++ (beBytes 4 time ++ (signature ++ (beBytes 4 headLen ++ beBytes 2 l))))
 
 -- a data block's bytes with a counter
 unfoldable pub dataBytes : ℕ → List ℕ → List ℕ
@@ -19,7 +19,7 @@ dataBytes c rec = 1 ∷ c ∷ rec
 
 -- a time block's bytes with a counter
 unfoldable pub timeBytes : ℕ → ℕ → List ℕ
-timeBytes c time = 2 ∷ c ∷ bytesOf 4 time
+timeBytes c time = 2 ∷ c ∷ beBytes 4 time
 
 -- 27: the output has no room for these bytes
 unfoldable pub roomNumber : List ℕ → ℕ → ℕ

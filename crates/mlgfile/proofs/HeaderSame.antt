@@ -8,7 +8,7 @@ use borrow.Author.Tests.{eq-eqb, ne-eqb, eqb-true, ltb-false, le-ltb}
 use lib.Dec.{eqb}
 use lib.ListN.{length, take, drop, length-drop, take-append-drop}
 use lib.Seq.{length-take-le, take-suc}
-use Rattle.wire.specs.BigEndian.{beOf, beAt, bytesOf}
+use Rattle.wire.specs.BigEndian.{beOf, beAt, beBytes}
 use Rattle.wire.specs.Text.{textLen}
 use Rattle.wire.proofs.Answers.{answered}
 use Rattle.wire.proofs.Numbers.{Bytes, bytes-drop, part-back}
@@ -88,7 +88,7 @@ numbers-same : (f : List ℕ) → Bytes f → 24 ≤ length f → beAt 6 f 0 ≡
 unfolding numberBytes numbersOf layoutOf
 numbers-same f b h e =
     let p = part-back 6 f 0 (omega arith) b in
-    let n : logName ≡ take 6 f = ap (bytesOf 6) (sym e) ∙ p in
+    let n : logName ≡ take 6 f = ap (beBytes 6) (sym e) ∙ p in
     glue n (glue (part-back 2 f 6 (omega arith) b) (glue (part-back 4 f 8 (omega arith) b) (glue (part-back 4 f 12 (omega arith) b)
     (glue (part-back 4 f 16 (omega arith) b) (glue (part-back 2 f 20 (omega arith) b) (part-back 2 f 22 (omega arith) b))))))
     ∙ (sym (part-in-two 0 6 18 f

@@ -5,7 +5,7 @@ use mathlib.Core.List.{List, [], _∷_, _++_}
 use native.Mathlib.Omega.{arith}
 use lib.ListN.{length, getD, take, drop}
 use lib.Seq.{take-suc}
-use Rattle.wire.specs.BigEndian.{bytesOf}
+use Rattle.wire.specs.BigEndian.{beBytes}
 use Rattle.wire.specs.Sum.{sumOf}
 use Rattle.wire.specs.Text.{textLen}
 use Rattle.mlgfile.specs.Block.{blockLen, kindIn, counterIn, sumIn}
@@ -15,18 +15,18 @@ use Rattle.mlgfile.specs.RoundTrip.{BlockSame}
 use Rattle.mlgfile.proofs.Cases.{whole, least, data-whole, len-none, sum-right}
 
 -- two bytes read as a number, and written again
-pub two-back : (x y : ℕ) → x < 256 → y < 256 → bytesOf 2 ((0 * 256 + x) * 256 + y) ≡ x ∷ y ∷ []
+pub two-back : (x y : ℕ) → x < 256 → y < 256 → beBytes 2 ((0 * 256 + x) * 256 + y) ≡ x ∷ y ∷ []
 two-back x y p q =
     let a : ((0 * 256 + x) * 256 + y) / 256 % 256 ≡ x = omega arith in
     let b : ((0 * 256 + x) * 256 + y) % 256 ≡ y = omega arith in
     rw (a, b)
 
 -- a data block's bytes
-data-bytes : (c m : ℕ) (rec : List ℕ) (x y : ℕ) → bytesOf 2 m ≡ x ∷ y ∷ [] → dataBytes c m rec ≡ 0 ∷ c ∷ x ∷ y ∷ (rec ++ (sumOf rec ∷ []))
+data-bytes : (c m : ℕ) (rec : List ℕ) (x y : ℕ) → beBytes 2 m ≡ x ∷ y ∷ [] → dataBytes c m rec ≡ 0 ∷ c ∷ x ∷ y ∷ (rec ++ (sumOf rec ∷ []))
 unfolding dataBytes startBytes
 data-bytes c m rec x y e = ap (λ (k : List ℕ). ((0 ∷ c ∷ k) ++ rec) ++ (sumOf rec ∷ [])) e
 
-mark-bytes : (c m : ℕ) (t : List ℕ) (x y : ℕ) → bytesOf 2 m ≡ x ∷ y ∷ [] → markBytes c m t ≡ 1 ∷ c ∷ x ∷ y ∷ padded t
+mark-bytes : (c m : ℕ) (t : List ℕ) (x y : ℕ) → beBytes 2 m ≡ x ∷ y ∷ [] → markBytes c m t ≡ 1 ∷ c ∷ x ∷ y ∷ padded t
 unfolding markBytes startBytes
 mark-bytes c m t x y e = ap (λ (k : List ℕ). (1 ∷ c ∷ k) ++ padded t) e
 

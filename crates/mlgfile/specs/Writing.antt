@@ -5,7 +5,7 @@ use mathlib.Core.List.{List, [], _∷_, _++_}
 use lib.Dec.{eqb, ltb}
 use lib.ListN.{length, drop, replicate}
 use Rattle.wire.specs.Order.{_if_else_, _orElse_}
-use Rattle.wire.specs.BigEndian.{bytesOf}
+use Rattle.wire.specs.BigEndian.{beBytes}
 use Rattle.wire.specs.Sum.{sumOf}
 use Rattle.wire.specs.Text.{textLen}
 use Rattle.field.specs.Layout.{headerLen, infoLen, fieldLen}
@@ -21,12 +21,12 @@ use Rattle.mlgfile.specs.declared.Header.{Header}
 unfoldable pub numberBytes : Header → List ℕ
 numberBytes h =
     logName
-    ++ (bytesOf 2 (h .version)
-    ++ (bytesOf 4 (h .time)
-    ++ (bytesOf (infoLen (h .version)) (h .info)
-    ++ (bytesOf 4 (h .begin)
-    ++ (bytesOf 2 (h .size)
-    ++ bytesOf 2 (h .count))))))
+    ++ (beBytes 2 (h .version)
+    ++ (beBytes 4 (h .time)
+    ++ (beBytes (infoLen (h .version)) (h .info)
+    ++ (beBytes 4 (h .begin)
+    ++ (beBytes 2 (h .size)
+    ++ beBytes 2 (h .count))))))
 
 -- the numbers of the header with these fields, names and info
 unfoldable pub headerFor : ℕ → ℕ → List ℕ → List ℕ → List ℕ → Header
@@ -63,7 +63,7 @@ headerNumber v time fields names info room =
 
 -- "Data block: type 0, counter, time (16), record, then the sum of the record's bytes, modulo 256." Here c is the counter.
 unfoldable pub startBytes : ℕ → ℕ → ℕ → List ℕ
-startBytes kind c time = kind ∷ c ∷ bytesOf 2 time
+startBytes kind c time = kind ∷ c ∷ beBytes 2 time
 
 unfoldable pub dataBytes : ℕ → ℕ → List ℕ → List ℕ
 dataBytes c time rec = (startBytes 0 c time ++ rec) ++ (sumOf rec ∷ [])

@@ -3,9 +3,9 @@ use mathlib.Core.Path.{refl}
 use lib.Ieee.{add, mul, div, ofInt, ofBits, toBits, ofFields, round, units, odd, climb, span, size}
 use Rattle.wire.specs.Answer.{answer}
 use Rattle.wire.specs.Sign.{twos}
-use Rattle.bus.specs.Ident.{packNumber, packOf, unpackNumber, unpackOf, partsOf}
-use Rattle.bus.specs.Request.{readNumber, readRequestOf}
-use Rattle.transfer.proofs.Openers.{everything}
+use Rattle.bus_rules.specs.Ident.{packNumber, packOf, unpackNumber, unpackOf, partsOf}
+use Rattle.bus_rules.specs.Request.{readNumber, readRequestOf}
+use Rattle.bridge_rules.proofs.Openers.{everything}
 use Rattle.mlgfile.specs.Writing.{startBytes, dataBytes}
 use Rattle.field.specs.Layout.{layoutOf}
 use Rattle.field.specs.Types.{sizeOf}

@@ -7,24 +7,24 @@ use mathlib.Core.List.{List, [], _∷_, _++_, map}
 use lib.IntN.{ℤ, pos, negsuc}
 use lib.ListN.{length, replicate}
 use lib.Ieee.{binary32, ofInt, div, toBits}
-use Rattle.bus.specs.Ident.{packOf, unpackOf}
-use Rattle.bus.specs.Frames.{cmd, req, xtnd, frameOf}
-use Rattle.bus.specs.Request.{readRequestOf}
-use Rattle.bus.specs.Holder.{serveOf, answerWith}
-use Rattle.bus.specs.declared.Frame.{Frame}
-use Rattle.bus.specs.declared.Directory.{Directory}
-use Rattle.bus.specs.declared.Served.{Served}
-use Rattle.bus.specs.declared.Packed.{Packed}
-use Rattle.bus.specs.declared.Packed.the-variants as P
-use Rattle.bus.specs.declared.Unpacked.{Unpacked}
-use Rattle.bus.specs.declared.Unpacked.the-variants as U
-use Rattle.bus.specs.declared.Asked.{Asked}
-use Rattle.bus.specs.declared.Asked.the-variants as A
-use Rattle.transfer.specs.Model as B
-use Rattle.transfer.specs.Statement.{answerTo, runOf}
+use Rattle.bus_rules.specs.Ident.{packOf, unpackOf}
+use Rattle.bus_rules.specs.Frames.{cmd, req, xtnd, frameWith}
+use Rattle.bus_rules.specs.Request.{readRequestOf}
+use Rattle.bus_rules.specs.Holder.{serveOf, answerWith}
+use Rattle.bus_rules.specs.declared.Frame.{Frame}
+use Rattle.bus_rules.specs.declared.Directory.{Directory}
+use Rattle.bus_rules.specs.declared.Served.{Served}
+use Rattle.bus_rules.specs.declared.Packed.{Packed}
+use Rattle.bus_rules.specs.declared.Packed.the-variants as P
+use Rattle.bus_rules.specs.declared.Unpacked.{Unpacked}
+use Rattle.bus_rules.specs.declared.Unpacked.the-variants as U
+use Rattle.bus_rules.specs.declared.RequestRead.{RequestRead}
+use Rattle.bus_rules.specs.declared.RequestRead.the-variants as A
+use Rattle.bridge_rules.specs.Model as B
+use Rattle.bridge_rules.specs.Statement.{answerTo, runOf}
 use Rattle.mlgfile.specs.Block.{sumIn}
 use Rattle.mlgfile.specs.Writing.{dataBytes}
-use Rattle.wire.specs.BigEndian.{bytesOf}
+use Rattle.wire.specs.BigEndian.{beBytes}
 use Rattle.field.specs.Types.{U08, S08, S16}
 use Rattle.field.specs.Raw.{rawAt}
 use Rattle.field.specs.Shown.{shownAt}
@@ -56,7 +56,7 @@ pub data Question : Type 0 where
 pub data Answer : Type 0 where
   packed : Packed → Answer
   unpacked : Unpacked → Answer
-  asked : Asked → Answer
+  asked : RequestRead → Answer
   served : Served → Answer
   turned : B.Answer → Answer
   summed : ℕ → Answer
@@ -77,7 +77,7 @@ directory n = record {
 
 -- a scalar field, by its type and the bits of its scale and its transform; all else 0
 unfoldable pub scalar : (type scale transform : ℕ) → List ℕ
-scalar t s m = t ∷ replicate 45 0 ++ bytesOf 4 s ++ bytesOf 4 m ++ replicate 35 0
+scalar t s m = t ∷ replicate 45 0 ++ beBytes 4 s ++ beBytes 4 m ++ replicate 35 0
 
 unfoldable pub compute : Question → Answer
 compute (identifier o k f t n) = packed (packOf (record { offset = o; kind = k; from = f; to = t; table = n }))
@@ -122,15 +122,15 @@ table =
     -- "`06 10 02` asks two bytes to table 6, offset 128;"
     ∷ (request 0x06 0x10 0x02, asked (A.Is (record { table = 6; offset = 128; count = 2 })))
     -- "bytes 0B B8 come back under 0x20102B0." The request's identifier is that of the first row
-    ∷ (reply (0 ∷ 0 ∷ 0 ∷ 0 ∷ 0 ∷ 0 ∷ 0x0B ∷ 0xB8 ∷ []) (frameOf 0x18A838 (0x06 ∷ 0x10 ∷ 0x02 ∷ [])), served (answerWith (frameOf 0x20102B0 (0x0B ∷ 0xB8 ∷ []))))
+    ∷ (reply (0 ∷ 0 ∷ 0 ∷ 0 ∷ 0 ∷ 0 ∷ 0x0B ∷ 0xB8 ∷ []) (frameWith 0x18A838 (0x06 ∷ 0x10 ∷ 0x02 ∷ [])), served (answerWith (frameWith 0x20102B0 (0x0B ∷ 0xB8 ∷ []))))
     -- "`06 10 12` is 6."
     ∷ (request 0x06 0x10 0x12, asked (A.Refused 6))
     -- "`1F FF E8`: table 31, offset 2,047, count 8."
     ∷ (request 0x1F 0xFF 0xE8, asked (A.Is (record { table = 31; offset = 2047; count = 8 })))
     -- "Bridge 0 reads 10 bytes, device 5, table 7, offset 6: first 0x1882B8 `06 00 08`;"
-    ∷ (turn 0 (read ∷ []), sends (frameOf 0x1882B8 (0x06 ∷ 0x00 ∷ 0x08 ∷ [])))
+    ∷ (turn 0 (read ∷ []), sends (frameWith 0x1882B8 (0x06 ∷ 0x00 ∷ 0x08 ∷ [])))
     -- "after reply 0x12830, 0x3882B8 `06 01 02`."
-    ∷ (turn 0 (read ∷ B.turn B.itsOwn ∷ B.frame B.itsOwn (frameOf 0x12830 (1 ∷ 2 ∷ 3 ∷ 4 ∷ 5 ∷ 6 ∷ 7 ∷ 8 ∷ [])) ∷ []), sends (frameOf 0x3882B8 (0x06 ∷ 0x01 ∷ 0x02 ∷ [])))
+    ∷ (turn 0 (read ∷ B.turn B.itsOwn ∷ B.frame B.itsOwn (frameWith 0x12830 (1 ∷ 2 ∷ 3 ∷ 4 ∷ 5 ∷ 6 ∷ 7 ∷ 8 ∷ [])) ∷ []), sends (frameWith 0x3882B8 (0x06 ∷ 0x01 ∷ 0x02 ∷ [])))
     -- "record `FF 02`: sum 1."
     ∷ (sum (0xFF ∷ 0x02 ∷ []), summed 1)
     -- "0x80 in an S08 field reads -128."

@@ -6,7 +6,7 @@ use crate::output::labelled;
 use crate::output::line;
 use crate::output::number;
 use crate::output::text;
-use bus::Asked;
+use bus::RequestRead;
 use bus::Directory;
 use bus::Frame;
 use bus::Packed;
@@ -77,12 +77,12 @@ fn asks(a: u8, b: u8, c: u8) {
     bytes(&all, 3);
     let asked = read_request(a, b, c);
     match asked {
-        Asked::Is(q) => {
+        RequestRead::Is(q) => {
             labelled(b": table ", q.table as u64);
             labelled(b", offset ", q.offset as u64);
             line(b", count ", q.count as u64);
         }
-        Asked::Refused(n) => number(n),
+        RequestRead::Refused(n) => number(n),
     }
 }
 

@@ -8,21 +8,21 @@ use lib.ListN.{length, getD, take, drop, length-append, length-drop}
 use lib.Seq.{getD-drop, length-take-le}
 use lib.Pow.{pow-add, pow-mono}
 use Rattle.wire.proofs.Parts.{take-length-le}
-use Rattle.wire.specs.BigEndian.{beOf, beFrom, bytesOf}
+use Rattle.wire.specs.BigEndian.{beOf, beFrom, beBytes}
 
 from-snoc : (a : ℕ) (l : List ℕ) (b : ℕ) → beFrom a (l ++ (b ∷ [])) ≡ beFrom a l * 256 + b
 from-snoc a [] b = refl
 from-snoc a (x ∷ l) b = from-snoc (a * 256 + x) l b
 
-pub be-back : (n x : ℕ) → x < 256 ^ n → beOf (bytesOf n x) ≡ x
+pub be-back : (n x : ℕ) → x < 256 ^ n → beOf (beBytes n x) ≡ x
 be-back zero x h = omega arith
 be-back (suc n) x h =
     let k : x / 256 < 256 ^ n = omega (arith, pow-suc 256 n) in
-    from-snoc 0 (bytesOf n (x / 256)) (x % 256) ∙ rw (be-back n (x / 256) k) (omega arith)
+    from-snoc 0 (beBytes n (x / 256)) (x % 256) ∙ rw (be-back n (x / 256) k) (omega arith)
 
-pub bytes-length : (n x : ℕ) → length (bytesOf n x) ≡ n
+pub bytes-length : (n x : ℕ) → length (beBytes n x) ≡ n
 bytes-length zero x = refl
-bytes-length (suc n) x = length-append (bytesOf n (x / 256)) (x % 256 ∷ []) ∙ rw (bytes-length n (x / 256)) (omega arith)
+bytes-length (suc n) x = length-append (beBytes n (x / 256)) (x % 256 ∷ []) ∙ rw (bytes-length n (x / 256)) (omega arith)
 
 -- a byte after i bytes keeps a number below 2 ^ (8 * (i + 1)), and so within 64 bits where i is below 8
 pub more-bytes : (a b i : ℕ) → a < 2 ^ (8 * i) → b < 256 → a * 256 + b < 2 ^ (8 * (i + 1))
@@ -59,22 +59,22 @@ bytes-take (suc n) (b ∷ l) h = byte-cons b (take n l) (h 0) (bytes-take n l (b
 pub bytes-drop : (n : ℕ) (l : List ℕ) → Bytes l → Bytes (drop n l)
 bytes-drop n l h = λ i. rw (getD-drop n l i 0) (h (n + i))
 
-bytes-from : (n a : ℕ) (l : List ℕ) → Bytes l → bytesOf (n + length l) (beFrom a l) ≡ bytesOf n a ++ l
-bytes-from n a [] h = let e : n + 0 ≡ n = omega arith in rw e (sym (append-nil (bytesOf n a)))
+bytes-from : (n a : ℕ) (l : List ℕ) → Bytes l → beBytes (n + length l) (beFrom a l) ≡ beBytes n a ++ l
+bytes-from n a [] h = let e : n + 0 ≡ n = omega arith in rw e (sym (append-nil (beBytes n a)))
 bytes-from n a (b ∷ l) h =
     let e : n + length (b ∷ l) ≡ suc n + length l = omega arith in
     let k = h 0 in
     let q : (a * 256 + b) / 256 ≡ a = omega arith in
     let r : (a * 256 + b) % 256 ≡ b = omega arith in
-    let s : bytesOf (suc n) (a * 256 + b) ≡ bytesOf n a ++ (b ∷ []) = rw (q, r) in
-    rw e (bytes-from (suc n) (a * 256 + b) l (bytes-tail b l h) ∙ ap (λ (k : List ℕ). k ++ l) s ∙ append-assoc (bytesOf n a) (b ∷ []) l)
+    let s : beBytes (suc n) (a * 256 + b) ≡ beBytes n a ++ (b ∷ []) = rw (q, r) in
+    rw e (bytes-from (suc n) (a * 256 + b) l (bytes-tail b l h) ∙ ap (λ (k : List ℕ). k ++ l) s ∙ append-assoc (beBytes n a) (b ∷ []) l)
 
 -- bytes read as a number, and written again at their length
-pub bytes-back : (n : ℕ) (l : List ℕ) → length l ≡ n → Bytes l → bytesOf n (beOf l) ≡ l
+pub bytes-back : (n : ℕ) (l : List ℕ) → length l ≡ n → Bytes l → beBytes n (beOf l) ≡ l
 bytes-back n l e h = let k : 0 + length l ≡ n = omega arith in rw k at (bytes-from 0 0 l h)
 
 -- so with a part of a file
-pub part-back : (n : ℕ) (f : List ℕ) (at : ℕ) → at + n ≤ length f → Bytes f → bytesOf n (beOf (take n (drop at f))) ≡ take n (drop at f)
+pub part-back : (n : ℕ) (f : List ℕ) (at : ℕ) → at + n ≤ length f → Bytes f → beBytes n (beOf (take n (drop at f))) ≡ take n (drop at f)
 part-back n f at h b =
     bytes-back n (take n (drop at f)) (length-take-le n (drop at f) (rw (length-drop at f) (omega arith))) (bytes-take n (drop at f) (bytes-drop at f b))
 

@@ -17,6 +17,6 @@ abbrev pub beAt : ℕ → List ℕ → ℕ → ℕ
 beAt n s at = beOf (take n (drop at s))
 
 -- a number in n bytes
-abbrev pub bytesOf : ℕ → ℕ → List ℕ
-bytesOf zero x = []
-bytesOf (suc n) x = bytesOf n (x / 256) ++ (x % 256 ∷ [])
+abbrev pub beBytes : ℕ → ℕ → List ℕ
+beBytes zero x = []
+beBytes (suc n) x = beBytes n (x / 256) ++ (x % 256 ∷ [])

@@ -7,3 +7,4 @@ pub mod Sum
 pub mod Text
 pub mod Put
 pub mod Writer
+pub mod Log

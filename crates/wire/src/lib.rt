@@ -2,7 +2,7 @@
 ghost use mathlib.Core.Path.{_≡_};
 ghost use Prim.Native.Nat.{ℕ, _+_, _*_, _≤_, _<_, _^_};
 ghost use lib.ListN.{length, take};
-ghost use Rattle.wire.specs.BigEndian.{beOf, beAt, bytesOf};
+ghost use Rattle.wire.specs.BigEndian.{beOf, beAt, beBytes};
 ghost use Rattle.wire.specs.Sign.{signedOf, twos};
 ghost use Rattle.wire.specs.Sum.{sumOf};
 ghost use Rattle.wire.specs.Text.{textLen, zeros};
@@ -13,6 +13,22 @@ ghost use Rattle.wire.specs.Put.{putAt, putOf};
 pub struct Written {
     pub len: usize,
     pub number: u8,
+}
+
+// A part of a file or a buffer: a number, and where the part starts and how long it is (specs/Log.antt).
+#[repr(C)]
+pub struct Span {
+    pub number: u8,
+    pub start: usize,
+    pub len: usize,
+}
+
+// How many blocks a log has, and how they ended: 0 at the file's end, else the number that refuses what stands at `place`.
+#[repr(C)]
+pub struct Tally {
+    pub blocks: u64,
+    pub ending: u8,
+    pub place: usize,
 }
 
 fn wide(b: u8) -> u64
@@ -77,14 +93,14 @@ pub fn number(s: &[u8]) -> u64
 
 // A number in two bytes, high byte first.
 pub fn two_bytes(x: u16) -> [u8; 2]
-    ensures { λ r. ⌜ r ≡ bytesOf 2 x ⌝ }
+    ensures { λ r. ⌜ r ≡ beBytes 2 x ⌝ }
 {
     [(x / 256 % 256) as u8, (x % 256) as u8]
 }
 
 // A number in four bytes.
 pub fn four_bytes(x: u32) -> [u8; 4]
-    ensures { λ r. ⌜ r ≡ bytesOf 4 x ⌝ }
+    ensures { λ r. ⌜ r ≡ beBytes 4 x ⌝ }
 {
     [
         (x / 256 / 256 / 256 % 256) as u8,

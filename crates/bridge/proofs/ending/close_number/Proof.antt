@@ -1,7 +1,7 @@
 use borrow.Author.Needs.{needs}
 use Rattle.bridge.proofs.ending.close_number.Statement.{statement}
 use Rattle.bridge.proofs.ending.close_number.Tie as tie
-use Rattle.transfer.specs.Model.{closeRefusal}
+use Rattle.bridge_rules.specs.Model.{closeNumber}
 use Rattle.wire.proofs.Orders.{order}
 use Rattle.bridge.proofs.CodeSlots.{holder-none, holder-some}
 
@@ -9,18 +9,18 @@ sound-requires : tie.Need-sound-requires
 sound-requires c κs = search needs
 
 returns : tie.Need-returns
-unfolding closeRefusal
+unfolding closeNumber
 returns c = rw (← c .before .sound .ensures) (search order depth 12)
 
 holder-requires : tie.Need-holder-requires
 holder-requires c κs = search needs
 
 returns-2 : tie.Need-returns-2
-unfolding closeRefusal
+unfolding closeNumber
 returns-2 c = rw (← c .before .before .before .sound .ensures, holder-none (c .before .before .before .before .args .b) (c .before .before .before .before .args .ticket) _ (c .before .holder .ensures) (c .if2 .taken)) (search order depth 12)
 
 returns-3 : tie.Need-returns-3
-unfolding closeRefusal
+unfolding closeNumber
 returns-3 c = rw (← c .before .before .before .sound .ensures, holder-some (c .before .before .before .before .args .b) (c .before .before .before .before .args .ticket) _ (c .before .holder .ensures) (c .if2 .left) .0) (search order depth 12)
 
 pub close-number-spec : {M : Type 1} → statement M

@@ -38,13 +38,13 @@ use denote.Triple.Spec.{Meets, tripleOf}
 use denote.Triple.Table.{entered, cited}
 use denote.Triple.Walked.{says, Stays, stay-ref, stay-none, walkOf, AllGo, goes-ref, goes-none, Walks, ends-at, walked, walk-meets}
 use denote.Exit.{yes}
-use Rattle.transfer.specs.declared.Bridge.{Bridge}
-use Rattle.transfer.proofs.Bridge as T
-use Rattle.transfer.proofs.Bridge.Laws as T′
-use Rattle.transfer.specs.Model.{close′}
-use Rattle.transfer.specs.declared.Changed.{Changed}
-use Rattle.transfer.proofs.Changed as U
-use Rattle.transfer.proofs.Changed.Laws as U′
+use Rattle.bridge_rules.specs.declared.Bridge.{Bridge}
+use Rattle.bridge_rules.proofs.Bridge as T
+use Rattle.bridge_rules.proofs.Bridge.Laws as T′
+use Rattle.bridge_rules.specs.Model.{closeOf}
+use Rattle.bridge_rules.specs.declared.Changed.{Changed}
+use Rattle.bridge_rules.proofs.Changed as U
+use Rattle.bridge_rules.proofs.Changed.Laws as U′
 use Rattle.bridge.proofs.ending.close as closing
 use Rattle.bridge.proofs.ending.close.Symbol as closing-def
 use Rattle.bridge.proofs.ending.close.Symbol.{name as #bridge·ending·close}
@@ -89,10 +89,10 @@ module _ {M : Type 1} (𝓤 : URA M) (H : Heap 𝓤) (A : Atoms 𝓤) (W : Given
   goes is =
       qed W (‵ ftrue ∷ ‵ (owns (u32 ∷ []) (n, tt) (vint w32 n ∷ [], tt)) ∷ []) ∵ move ! (1 ∷ []) $ owned ! T.the-row (Is T.the-row) (LL.makes T.the-type T′.the-plain 𝓤 H A) h _ is $ fjoin ! $ move ! (1 ∷ 0 ∷ []) $ join ! $ frame ! $ done !
 
-  said : (r : Changed) → ent 𝓤 (ensured 𝓤 H A closing.ended (closing.clauses 𝓤 H A at-mem run) tt (h, (n, tt)) tt r) (fact 𝓤 (r ≡ close′ h n))
-  said r = exE 𝓤 _ (λ ws. snd∗ 𝓤 (sem 𝓤 H A (lasts closing.ended tt (h, (n, tt)) ws)) (fact 𝓤 (r ≡ close′ h n)))
+  said : (r : Changed) → ent 𝓤 (ensured 𝓤 H A closing.ended (closing.clauses 𝓤 H A at-mem run) tt (h, (n, tt)) tt r) (fact 𝓤 (r ≡ closeOf h n))
+  said r = exE 𝓤 _ (λ ws. snd∗ 𝓤 (sem 𝓤 H A (lasts closing.ended tt (h, (n, tt)) ws)) (fact 𝓤 (r ≡ closeOf h n)))
 
-  exits : (r : Changed) {v : Val} → Is U.the-row r (v ∷ []) → r ≡ close′ h n
+  exits : (r : Changed) {v : Val} → Is U.the-row r (v ∷ []) → r ≡ closeOf h n
       → ent 𝓤 (⋆ 𝓤 H A (‵ (fobs γ (T.the-row .coded .code (r .bridge))) ∷ ‵ (fbor κ (Body (mem T.the-row) b o γ)) ∷ ‵ (flft κ q) ∷ [])) (Post (vint w8 (r .number)))
   exits r is e =
       qed W (‵ (fobs γ (T.the-row .coded .code (r .bridge))) ∷ ‵ (fbor κ (Body (mem T.the-row) b o γ)) ∷ ‵ (flft κ q) ∷ []) ∵
@@ -115,7 +115,7 @@ module _ {M : Type 1} (𝓤 : URA M) (H : Heap 𝓤) (A : Atoms 𝓤) (W : Given
         move ! (5 ∷ 6 ∷ []) $ use2 W (raw (Closing 𝓤 H A at-mem run .pre to)) (goes was) $
         calls-at ! fm (Closing 𝓤 H A at-mem run) known to (and-then ! (load ! (from ! (stop !)) (look ! 8 refl)) (and-then ! (load ! (from ! (stop !)) (look ! 10 refl)) (no-more !))) (λ v.
         use1 W (later (some (λ (r : Changed). (‵ ftrue ⊛ ‵ (U.the-row .own r (v ∷ []))) ⊛ raw (ensured 𝓤 H A closing.ended (closing.clauses 𝓤 H A at-mem run) tt (h, (n, tt)) tt r)))) (id⊢ 𝓤 _) $ await ! tt $ pick ! (λ r.
-        split ! $ move ! (1 ∷ []) $ use1 W (raw (fact 𝓤 (r ≡ close′ h n))) (said r) $ heard ! (r ≡ close′ h n) (λ e. split ! $ drop ! $
+        split ! $ move ! (1 ∷ []) $ use1 W (raw (fact 𝓤 (r ≡ closeOf h n))) (said r) $ heard ! (r ≡ closeOf h n) (λ e. split ! $ drop ! $
         -- [the result; the bridge's cell; what it owns; the open borrow; obs; auth; room for _4; …; _3; …; _2; …; _1; …; room for _0; …]
         peeks ! U.the-row (Is U.the-row) (shows 𝓤 H A U.the-row) r (v ∷ []) (λ is.
         land ! (from ! (stop !)) (init ! 6 refl (LL.lawful U.the-type U′.the-laws 𝓤 H A W .typed r _ is .0)) $

@@ -41,19 +41,19 @@ use denote.Triple.Spec.{Meets, tripleOf}
 use denote.Triple.Table.{entered, cited}
 use denote.Triple.Walked.{says, Stays, stay-ref, gave-slice, stay-none, walkOf, AllGo, goes-ref, goes-gave-slice, goes-none, Walks, ends-at, walked, walk-meets}
 use denote.Exit.{yes}
-use Rattle.transfer.specs.declared.Bridge.{Bridge}
-use Rattle.transfer.proofs.Bridge as T
-use Rattle.transfer.proofs.Bridge.Laws as T′
-use Rattle.bus.specs.declared.Frame.{Frame}
-use Rattle.bus.proofs.Frame as F
-use Rattle.bus.proofs.Frame.Laws as F′
-use Rattle.bus.proofs.Served as S
-use Rattle.bus.proofs.Served.Laws as S′
-use Rattle.transfer.specs.Model.{frame′}
-use Rattle.transfer.specs.Answers.{steppedOf}
-use Rattle.transfer.specs.declared.Stepped.{Stepped}
-use Rattle.transfer.proofs.Stepped as U
-use Rattle.transfer.proofs.Stepped.Laws as U′
+use Rattle.bridge_rules.specs.declared.Bridge.{Bridge}
+use Rattle.bridge_rules.proofs.Bridge as T
+use Rattle.bridge_rules.proofs.Bridge.Laws as T′
+use Rattle.bus_rules.specs.declared.Frame.{Frame}
+use Rattle.bus_rules.proofs.Frame as F
+use Rattle.bus_rules.proofs.Frame.Laws as F′
+use Rattle.bus_rules.proofs.Served as S
+use Rattle.bus_rules.proofs.Served.Laws as S′
+use Rattle.bridge_rules.specs.Model.{frameOf}
+use Rattle.bridge_rules.specs.Answers.{steppedOf}
+use Rattle.bridge_rules.specs.declared.Stepped.{Stepped}
+use Rattle.bridge_rules.proofs.Stepped as U
+use Rattle.bridge_rules.proofs.Stepped.Laws as U′
 use Rattle.bridge.proofs.incoming.frame as taken
 use Rattle.bridge.proofs.incoming.frame.Symbol as taken-def
 use Rattle.bridge.proofs.incoming.frame.Symbol.{name as #bridge·incoming·frame}
@@ -116,7 +116,7 @@ module _ {M : Type 1} (𝓤 : URA M) (H : Heap 𝓤) (A : Atoms 𝓤) (W : Given
       qed W ((‵ (flft κ′ q′) ⊛ ‵ ftrue) ∷ ‵ Rest ∷ []) ∵ move ! (1 ∷ []) $ owned ! T.the-row (Is T.the-row) (LL.makes T.the-type T′.the-plain 𝓤 H A) h _ is $ fjoin ! $ move ! (1 ∷ 0 ∷ []) $ join ! $ frame ! $ done !
 
   abbrev Said : Stepped → List ℕ → Type 0
-  Said r zs = (r ≡ steppedOf (frame′ h ys f)) × (zs ≡ frame′ h ys f .buffer)
+  Said r zs = (r ≡ steppedOf (frameOf h ys f)) × (zs ≡ frameOf h ys f .buffer)
 
   exits : (r : Stepped) {v : Val} → Is U.the-row r (v ∷ []) → (zs : List ℕ) → Said r zs → length zs ≡ length ys
       → ent 𝓤 (⋆ 𝓤 H A (‵ (fobs γ (T.the-row .coded .code (r .bridge))) ∷ ‵ (fbor κ (Body (mem T.the-row) b o γ)) ∷ ‵ (flft κ q) ∷ (‵ (flft κ′ q′) ⊛ ‵ ftrue) ∷ ‵ (finally u8 γ′ zs) ∷ [])) (Post (LL.val S.the-type S′.the-laws (r .answer)))

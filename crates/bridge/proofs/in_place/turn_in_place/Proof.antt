@@ -41,20 +41,20 @@ use denote.Triple.Spec.{Meets, tripleOf}
 use denote.Triple.Table.{entered, cited}
 use denote.Triple.Walked.{says, Stays, stay-ref, stay-none-slice, walkOf, AllGo, goes-ref, goes-none-slice, Walks, ends-at, walked, walk-meets}
 use denote.Exit.{yes}
-use Rattle.transfer.specs.declared.Bridge.{Bridge}
-use Rattle.transfer.proofs.Bridge as T
-use Rattle.transfer.proofs.Bridge.Laws as T′
-use Rattle.transfer.specs.Model.{turn′}
-use Rattle.transfer.specs.Answers.{steppedOf}
-use Rattle.transfer.specs.declared.Stepped.{Stepped}
-use Rattle.transfer.proofs.Stepped as U
-use Rattle.transfer.proofs.Stepped.Laws as U′
+use Rattle.bridge_rules.specs.declared.Bridge.{Bridge}
+use Rattle.bridge_rules.proofs.Bridge as T
+use Rattle.bridge_rules.proofs.Bridge.Laws as T′
+use Rattle.bridge_rules.specs.Model.{turnOf}
+use Rattle.bridge_rules.specs.Answers.{steppedOf}
+use Rattle.bridge_rules.specs.declared.Stepped.{Stepped}
+use Rattle.bridge_rules.proofs.Stepped as U
+use Rattle.bridge_rules.proofs.Stepped.Laws as U′
 use Rattle.bridge.proofs.turning.turn as turn
 use Rattle.bridge.proofs.turning.turn.Symbol as turn-def
 use Rattle.bridge.proofs.turning.turn.Symbol.{name as #bridge·turning·turn}
 use Rattle.bridge.proofs.turning.turn.Met as turn-thm
-use Rattle.bus.proofs.Served as S
-use Rattle.bus.proofs.Served.Laws as S′
+use Rattle.bus_rules.proofs.Served as S
+use Rattle.bus_rules.proofs.Served.Laws as S′
 use Rattle.bridge.proofs.in_place.turn_in_place.Key.{name as #bridge·in-place·turn-in-place}
 use Rattle.bridge.proofs.in_place.turn_in_place as in-place
 use Rattle.bridge.proofs.in_place.turn_in_place.Statement as stated
@@ -108,10 +108,10 @@ module _ {M : Type 1} (𝓤 : URA M) (H : Heap 𝓤) (A : Atoms 𝓤) (W : Given
       move ! (0 ∷ 2 ∷ []) $ fjoin ! $ owned ! T.the-row (Is T.the-row) (LL.makes T.the-type T′.the-plain 𝓤 H A) h _ is $ fjoin ! $ move ! (2 ∷ 0 ∷ []) $
       use2 W (raw (Turn 𝓤 H A at-mem run .pre to)) (qed W ((‵ (flft κ′ q′) ⊛ ‵ ftrue) ∷ ‵ (owns (T.the-row ∷ ShrSlice (named 0) κ′ u8 ∷ []) (h, (s, tt)) (mach h ∷ [], (sv ∷ [], tt))) ∷ []) ∵ join ! $ frame ! $ done !) $ frame ! $ done !
 
-  said : (r : Stepped) → ent 𝓤 (ensured 𝓤 H A turn.ended (turn.clauses 𝓤 H A at-mem run) (κ′, tt) (h, (s, tt)) tt r) (fact 𝓤 (r ≡ steppedOf (turn′ h (s .now))))
-  said r = exE 𝓤 _ (λ ws. snd∗ 𝓤 (sem 𝓤 H A (lasts turn.ended (κ′, tt) (h, (s, tt)) ws)) (fact 𝓤 (r ≡ steppedOf (turn′ h (s .now)))))
+  said : (r : Stepped) → ent 𝓤 (ensured 𝓤 H A turn.ended (turn.clauses 𝓤 H A at-mem run) (κ′, tt) (h, (s, tt)) tt r) (fact 𝓤 (r ≡ steppedOf (turnOf h (s .now))))
+  said r = exE 𝓤 _ (λ ws. snd∗ 𝓤 (sem 𝓤 H A (lasts turn.ended (κ′, tt) (h, (s, tt)) ws)) (fact 𝓤 (r ≡ steppedOf (turnOf h (s .now)))))
 
-  exits : (r : Stepped) {v : Val} → Is U.the-row r (v ∷ []) → r ≡ steppedOf (turn′ h (s .now))
+  exits : (r : Stepped) {v : Val} → Is U.the-row r (v ∷ []) → r ≡ steppedOf (turnOf h (s .now))
       → ent 𝓤 (⋆ 𝓤 H A (‵ (fobs γ (T.the-row .coded .code (r .bridge))) ∷ ‵ (fbor κ (Body (mem T.the-row) b o γ)) ∷ ‵ (flft κ q) ∷ (‵ (flft κ′ q′) ⊛ ‵ ftrue) ∷ ‵ Own ∷ [])) (Post (LL.val S.the-type S′.the-laws (r .answer)))
   exits r is e =
       qed W (‵ (fobs γ (T.the-row .coded .code (r .bridge))) ∷ ‵ (fbor κ (Body (mem T.the-row) b o γ)) ∷ ‵ (flft κ q) ∷ (‵ (flft κ′ q′) ⊛ ‵ ftrue) ∷ ‵ Own ∷ []) ∵
@@ -135,7 +135,7 @@ module _ {M : Type 1} (𝓤 : URA M) (H : Heap 𝓤) (A : Atoms 𝓤) (W : Given
         move ! (5 ∷ 6 ∷ []) $ use2 W (raw (Turn 𝓤 H A at-mem run .pre to) ⊛ ‵ Own) (goes was) $ split ! $
         calls-at ! fm (Turn 𝓤 H A at-mem run) known to (and-then ! (load ! (from ! (stop !)) (look ! 9 refl)) (and-then ! (load ! (from ! (stop !)) (look ! 11 refl)) (no-more !))) (λ v.
         use1 W (later (some (λ (r : Stepped). ((‵ (flft κ′ q′) ⊛ ‵ ftrue) ⊛ ‵ (U.the-row .own r (v ∷ []))) ⊛ raw (ensured 𝓤 H A turn.ended (turn.clauses 𝓤 H A at-mem run) (κ′, tt) (h, (s, tt)) tt r)))) (id⊢ 𝓤 _) $ await ! tt $ pick ! (λ r.
-        split ! $ move ! (1 ∷ []) $ use1 W (raw (fact 𝓤 (r ≡ steppedOf (turn′ h (s .now))))) (said r) $ heard ! (r ≡ steppedOf (turn′ h (s .now))) (λ e. split ! $ move ! (1 ∷ []) $
+        split ! $ move ! (1 ∷ []) $ use1 W (raw (fact 𝓤 (r ≡ steppedOf (turnOf h (s .now))))) (said r) $ heard ! (r ≡ steppedOf (turnOf h (s .now))) (λ e. split ! $ move ! (1 ∷ []) $
         -- [the result; the second token; the slice; the bridge's cell; what it owns; the open borrow; obs; auth; room for _4; …; _3; …; _2; …; _1; …; room for _0; …]
         peeks ! U.the-row (Is U.the-row) (shows 𝓤 H A U.the-row) r (v ∷ []) (λ is.
         land ! (from ! (stop !)) (init ! 8 refl (LL.lawful U.the-type U′.the-laws 𝓤 H A W .typed r _ is .0)) $

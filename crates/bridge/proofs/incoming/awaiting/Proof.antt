@@ -3,8 +3,8 @@ use Rattle.bridge.proofs.incoming.awaiting.Statement.{statement}
 use Rattle.bridge.proofs.incoming.awaiting.Tie as tie
 use mathlib.Core.Path.{refl, sym, _∙_}
 use native.Mathlib.Omega.{arith}
-use Rattle.transfer.specs.Model.{slot}
-use Rattle.transfer.proofs.Sound.{true-sound}
+use Rattle.bridge_rules.specs.Model.{slot}
+use Rattle.bridge_rules.proofs.Sound.{true-sound}
 use Rattle.bridge.proofs.CodeFrames.{content-parts, awaited-there, awaited-nowhere}
 
 read-head-requires : tie.Need-read-head-requires

@@ -5,7 +5,7 @@ use Prim.Native.Nat.{_<_}
 use mathlib.Core.Path.{_≡_, sym, _∙_}
 use native.Mathlib.Omega.{arith}
 use lib.ListN.{length}
-use Rattle.transfer.specs.Model.{slot, replyRefusal, orFour, awaiting}
+use Rattle.bridge_rules.specs.Model.{slot, replyNumber, orFour, awaiting}
 use Rattle.bridge.proofs.CodeFrames.{frame-refused, reply-at, frame-is}
 
 judge-reply-requires : tie.Need-judge-reply-requires
@@ -22,7 +22,7 @@ returns c =
 
 -- a frame that is not refused, and its slot
 module _ (c : tie.After-slots) where
-  judged : replyRefusal (c .before .before .before .before .args .b) (length (c .before .before .before .before .args .buffer .now)) (c .before .before .before .before .args .f) ≡ 0
+  judged : replyNumber (c .before .before .before .before .args .b) (length (c .before .before .before .before .args .buffer .now)) (c .before .before .before .before .args .f) ≡ 0
   judged = sym (c .before .before .judge-reply .ensures .0) ∙ c .before .if1 .left
 
   awaited : c .before .before .judge-reply .result .slot ≡ orFour (awaiting (c .before .before .before .before .args .b) (c .before .before .before .before .args .f))

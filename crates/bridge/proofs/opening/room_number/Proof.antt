@@ -1,7 +1,7 @@
 use borrow.Author.Needs.{needs}
 use Rattle.bridge.proofs.opening.room_number.Statement.{statement}
 use Rattle.bridge.proofs.opening.room_number.Tie as tie
-use Rattle.transfer.specs.Model.{roomRefusal}
+use Rattle.bridge_rules.specs.Model.{roomNumber}
 use Rattle.wire.proofs.Orders.{order}
 use Rattle.bridge.proofs.CodeSlots.{free-none, free-some}
 
@@ -9,15 +9,15 @@ lowest-free-requires : tie.Need-lowest-free-requires
 lowest-free-requires c κs = search needs
 
 returns : tie.Need-returns
-unfolding roomRefusal
+unfolding roomNumber
 returns c = rw (free-none (c .before .before .args .b) _ (c .before .lowest-free .ensures) (c .if1 .taken)) (search order depth 12)
 
 returns-2 : tie.Need-returns-2
-unfolding roomRefusal
+unfolding roomNumber
 returns-2 c = rw (free-some (c .before .before .before .before .args .b) _ (c .before .before .before .lowest-free .ensures) (c .before .before .if1 .left) .0) (search order depth 12)
 
 returns-3 : tie.Need-returns-3
-unfolding roomRefusal
+unfolding roomNumber
 returns-3 c = rw (free-some (c .before .before .before .before .args .b) _ (c .before .before .before .lowest-free .ensures) (c .before .before .if1 .left) .0) (search order depth 12)
 
 pub room-number-spec : {M : Type 1} → statement M

@@ -1,6 +1,6 @@
 use Rattle.bridge.proofs.state.first.Statement.{statement}
 use Rattle.bridge.proofs.state.first.Tie as tie
-use Rattle.transfer.specs.Model.{firstSlot}
+use Rattle.bridge_rules.specs.Model.{firstSlot}
 
 returns : tie.Need-returns
 unfolding firstSlot

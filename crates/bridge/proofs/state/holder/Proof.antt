@@ -2,7 +2,7 @@ use borrow.Author.Needs.{needs}
 use Rattle.bridge.proofs.state.holder.Statement.{statement}
 use Rattle.bridge.proofs.state.holder.Tie as tie
 use mathlib.Core.Path.{_∙_}
-use Rattle.transfer.specs.Model.{holderOf, slot, firstSlot}
+use Rattle.bridge_rules.specs.Model.{heldSlot, slot, firstSlot}
 
 array-copy-out-holds : tie.Need-array-copy-out-holds
 array-copy-out-holds c = search needs
@@ -32,7 +32,7 @@ first-requires : tie.Need-first-requires
 first-requires c κs = search needs
 
 returns : tie.Need-returns
-unfolding holderOf slot firstSlot
+unfolding heldSlot slot firstSlot
 returns c = c .first .ensures ∙ rw (c .before .before .before .before .before .before .before .holds .ensures, c .before .before .before .before .before .holds2 .ensures, c .before .before .before .holds3 .ensures, c .before .holds4 .ensures)
 
 pub holder-spec : {M : Type 1} → statement M

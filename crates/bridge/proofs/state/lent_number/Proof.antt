@@ -1,22 +1,22 @@
 use borrow.Author.Needs.{needs}
 use Rattle.bridge.proofs.state.lent_number.Statement.{statement}
 use Rattle.bridge.proofs.state.lent_number.Tie as tie
-use Rattle.transfer.specs.Model.{lentRefusal}
+use Rattle.bridge_rules.specs.Model.{lentNumber}
 use Rattle.wire.proofs.Orders.{order}
 
 sound-requires : tie.Need-sound-requires
 sound-requires c κs = search needs
 
 returns : tie.Need-returns
-unfolding lentRefusal
+unfolding lentNumber
 returns c = rw (← c .before .sound .ensures) (search order depth 12)
 
 returns-2 : tie.Need-returns-2
-unfolding lentRefusal
+unfolding lentNumber
 returns-2 c = rw (← c .before .before .sound .ensures) (search order depth 12)
 
 returns-3 : tie.Need-returns-3
-unfolding lentRefusal
+unfolding lentNumber
 returns-3 c = rw (← c .before .before .sound .ensures) (search order depth 12)
 
 pub lent-number-spec : {M : Type 1} → statement M

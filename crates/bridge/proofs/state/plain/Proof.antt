@@ -1,8 +1,8 @@
 use Rattle.bridge.proofs.state.plain.Statement.{statement}
 use Rattle.bridge.proofs.state.plain.Tie as tie
 use mathlib.Core.Path.{refl}
-use Rattle.bus.specs.Frames.{noFrame}
-use Rattle.bus.specs.Holder.{noAnswer}
+use Rattle.bus_rules.specs.Frames.{noFrame}
+use Rattle.bus_rules.specs.Holder.{noAnswer}
 
 returns : tie.Need-returns
 unfolding noAnswer noFrame

@@ -40,15 +40,15 @@ use denote.Triple.Table.{entered, cited}
 use denote.Triple.Walked.{says, Stays, stay-none, stay-none-slice, walkOf, goes-none, goes-none-slice, Walks, ends-at, walked, walk-meets}
 use denote.Exit.{yes}
 use denote.Triple.Clauses.{ensured, lasts}
-use Rattle.transfer.specs.declared.Bridge.{Bridge}
-use Rattle.transfer.proofs.Bridge as B
-use Rattle.transfer.proofs.Bridge.Laws as B′
-use Rattle.transfer.specs.Model.{span′, partOf}
-use Rattle.transfer.specs.declared.Span.{Span}
+use Rattle.bridge_rules.specs.declared.Bridge.{Bridge}
+use Rattle.bridge_rules.proofs.Bridge as B
+use Rattle.bridge_rules.proofs.Bridge.Laws as B′
+use Rattle.bridge_rules.specs.Model.{spanOf, partOf}
+use Rattle.bridge_rules.specs.declared.Span.{Span}
 use Rattle.bridge.specs.declared.Shown.{Shown}
 use Rattle.bridge.proofs.CodeCalls.{span-fits, bytes-of}
-use Rattle.transfer.proofs.Span as S
-use Rattle.transfer.proofs.Span.Laws as S′
+use Rattle.bridge_rules.proofs.Span as S
+use Rattle.bridge_rules.proofs.Span.Laws as S′
 use Rattle.bridge.proofs.Shown as T
 use Rattle.bridge.proofs.Shown.Laws as T′
 use Rattle.bridge.proofs.tickets.span_of as find
@@ -117,10 +117,10 @@ module _ {M : Type 1} (𝓤 : URA M) (H : Heap 𝓤) (A : Atoms 𝓤) (W : Given
       qed W [] ∵ nothing ! $ owned ! u32 (Is u32) (uint-makes 𝓤 H A W w32) t _ (refl, fits) $ fjoin ! $ owned ! usize (Is usize) (uint-makes 𝓤 H A W w64) n _ (refl, room) $ fjoin ! $
       owned ! B.the-row (Is B.the-row) (LL.makes B.the-type B′.the-plain 𝓤 H A) b _ is-b $ fjoin ! $ nothing ! $ join ! $ frame ! $ done !
 
-  find-said : (r : Span) → ent 𝓤 (ensured 𝓤 H A find.ended (find.clauses 𝓤 H A mem run) tt (b, (n, (t, tt))) tt r) (fact 𝓤 (r ≡ span′ b n t))
-  find-said r = exE 𝓤 _ (λ ws. snd∗ 𝓤 (sem 𝓤 H A (lasts find.ended tt (b, (n, (t, tt))) ws)) (fact 𝓤 (r ≡ span′ b n t)))
+  find-said : (r : Span) → ent 𝓤 (ensured 𝓤 H A find.ended (find.clauses 𝓤 H A mem run) tt (b, (n, (t, tt))) tt r) (fact 𝓤 (r ≡ spanOf b n t))
+  find-said r = exE 𝓤 _ (λ ws. snd∗ 𝓤 (sem 𝓤 H A (lasts find.ended tt (b, (n, (t, tt))) ws)) (fact 𝓤 (r ≡ spanOf b n t)))
 
-  module _ (r : Span) (e : r ≡ span′ b n t) (is-r : Is S.the-row r (S′.lowered r ∷ [])) where
+  module _ (r : Span) (e : r ≡ spanOf b n t) (is-r : Is S.the-row r (S′.lowered r ∷ [])) where
     -- the call of `part`
     abbrev to-part : Part 𝓤 H A mem run .Ghost
     to-part = (((κ, tt), (q, tt), tt, (s, (r, tt)), (v ∷ [], (S′.lowered r ∷ [], tt))), tt)
@@ -167,7 +167,7 @@ module _ {M : Type 1} (𝓤 : URA M) (H : Heap 𝓤) (A : Atoms 𝓤) (W : Given
         use0 W (raw (Find 𝓤 H A mem run .pre to-find)) (goes-find (wv .1 .1 .0 .fits)) $
         calls-at ! fm (Find 𝓤 H A mem run) known-find to-find (and-then ! (load ! (from ! (stop !)) (look ! 11 refl)) (and-then ! (load ! (from ! (stop !)) (look ! 3 refl)) (and-then ! (load ! (from ! (stop !)) (look ! 7 refl)) (no-more !)))) (λ u.
         use1 W (later (some (λ (r : Span). (‵ ftrue ⊛ ‵ (S.the-row .own r (u ∷ []))) ⊛ raw (ensured 𝓤 H A find.ended (find.clauses 𝓤 H A mem run) tt (b, (n, (t, tt))) tt r)))) (id⊢ 𝓤 _) $ await ! tt $ pick ! (λ r.
-        split ! $ move ! (1 ∷ []) $ use1 W (raw (fact 𝓤 (r ≡ span′ b n t))) (find-said r) $ heard ! (r ≡ span′ b n t) (λ e. split ! $ drop ! $
+        split ! $ move ! (1 ∷ []) $ use1 W (raw (fact 𝓤 (r ≡ spanOf b n t))) (find-said r) $ heard ! (r ≡ spanOf b n t) (λ e. split ! $ drop ! $
         peeks ! S.the-row (Is S.the-row) (shows 𝓤 H A S.the-row) r (u ∷ []) (λ is. drop ! $
         land ! (from ! (stop !)) (init ! 4 refl (LL.lawful S.the-type S′.the-laws 𝓤 H A W .typed r _ is .0)) $
         rewrite ! 4 (λ (w : Val). ‵ (fat fullShare S′.mir l₄ 0 w)) (ap (the u) (LL.tells S.the-type S′.the-laws r (u ∷ []) is)) refl $

@@ -1,7 +1,7 @@
 use borrow.Author.Needs.{needs}
 use Rattle.bridge.proofs.tickets.part.Statement.{statement}
 use Rattle.bridge.proofs.tickets.part.Tie as tie
-use Rattle.bus.proofs.FrameLaws.{part-is}
+use Rattle.bus_rules.proofs.FrameLaws.{part-is}
 
 add-end : tie.Need-add-end
 add-end c = search needs

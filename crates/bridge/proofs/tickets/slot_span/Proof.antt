@@ -2,7 +2,7 @@ use borrow.Author.Needs.{needs}
 use Rattle.bridge.proofs.tickets.slot_span.Statement.{statement}
 use Rattle.bridge.proofs.tickets.slot_span.Tie as tie
 use mathlib.Core.Path.{sym, _∙_}
-use Rattle.transfer.specs.Model.{spanOf, slot}
+use Rattle.bridge_rules.specs.Model.{slotSpan, slot}
 
 mul-x : tie.Need-mul-x
 mul-x c = search needs
@@ -20,11 +20,11 @@ cast-t11 : tie.Need-cast-t11
 cast-t11 c = search needs
 
 returns : tie.Need-returns
-unfolding spanOf slot
+unfolding slotSpan slot
 returns c = rw (sym (c .before .before .asks .ensures) ∙ c .before .if1 .taken)
 
 returns-2 : tie.Need-returns-2
-unfolding spanOf slot
+unfolding slotSpan slot
 returns-2 c = rw (sym (c .before .asks .ensures) ∙ c .if1 .left)
 
 pub slot-span-spec : {M : Type 1} → statement M

@@ -1,21 +1,21 @@
 use borrow.Author.Needs.{needs}
 use Rattle.bridge.proofs.tickets.status.Statement.{statement}
 use Rattle.bridge.proofs.tickets.status.Tie as tie
-use Rattle.transfer.specs.Model.{status′}
+use Rattle.bridge_rules.specs.Model.{statusOf}
 use Rattle.wire.proofs.Orders.{order}
 
 sound-requires : tie.Need-sound-requires
 sound-requires c κs = search needs
 
 returns : tie.Need-returns
-unfolding status′
+unfolding statusOf
 returns c = rw (← c .before .sound .ensures) (search order depth 12)
 
 ticket-number-requires : tie.Need-ticket-number-requires
 ticket-number-requires c κs = search needs
 
 returns-2 : tie.Need-returns-2
-unfolding status′
+unfolding statusOf
 returns-2 c = rw (← c .before .before .sound .ensures) (search order depth 12)
 
 pub status-spec : {M : Type 1} → statement M

@@ -2,9 +2,9 @@ use borrow.Author.Needs.{needs}
 use Rattle.bridge.proofs.turning.command_frame.Statement.{statement}
 use Rattle.bridge.proofs.turning.command_frame.Tie as tie
 use native.Mathlib.Omega.{arith}
-use Rattle.bus.specs.Frames.{frameOf}
-use Rattle.bus.proofs.FrameLaws.{part-is}
-use Rattle.transfer.specs.Model.{writeFrame, outgoing}
+use Rattle.bus_rules.specs.Frames.{frameWith}
+use Rattle.bus_rules.proofs.FrameLaws.{part-is}
+use Rattle.bridge_rules.specs.Model.{writeFrame, outgoing}
 use Rattle.bridge.proofs.CodeFrames.{goes-inside, goes-length}
 
 identifier-requires : tie.Need-identifier-requires
@@ -41,7 +41,7 @@ padded-requires : tie.Need-padded-requires
 padded-requires c κs = search needs
 
 returns : tie.Need-returns
-unfolding writeFrame frameOf outgoing
+unfolding writeFrame frameWith outgoing
 returns c = rw (goes-length (c .before .before .before .before .before .before .args .k) (c .before .before .before .before .before .before .args .x) (c .before .before .before .before .before .before .args .buffer .now) (c .before .before .before .before .before .before .pre .1) (c .before .before .before .before .before .before .pre .4) (c .before .before .before .before .before .before .pre .5) (c .before .before .before .before .before .before .pre .7), c .before .before .before .before .identifier .ensures, c .padded .ensures, part-is (c .before .before .before .before .before .before .args .buffer .now) _ _, c .before .before .before .next-len .ensures)
 
 pub command-frame-spec : {M : Type 1} → statement M

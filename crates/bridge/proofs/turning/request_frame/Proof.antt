@@ -3,11 +3,11 @@ use Rattle.bridge.proofs.turning.request_frame.Statement.{statement}
 use Rattle.bridge.proofs.turning.request_frame.Tie as tie
 use mathlib.Core.Path.{_∙_}
 use native.Mathlib.Omega.{arith}
-use Rattle.bus.specs.Frames.{frameOf, padded}
-use Rattle.bus.specs.Request.{request}
-use Rattle.transfer.specs.Model.{readFrame}
+use Rattle.bus_rules.specs.Frames.{frameWith, padded}
+use Rattle.bus_rules.specs.Request.{request}
+use Rattle.bridge_rules.specs.Model.{readFrame}
 use Rattle.bridge.proofs.CodeFrames.{requests}
-use Rattle.transfer.proofs.FrameLaws.{len-eight}
+use Rattle.bridge_rules.proofs.FrameLaws.{len-eight}
 
 identifier-requires : tie.Need-identifier-requires
 identifier-requires c κs = search needs
@@ -40,7 +40,7 @@ array-read-t22 : tie.Need-array-read-t22
 array-read-t22 c = search needs
 
 returns : tie.Need-returns
-unfolding readFrame frameOf padded request
+unfolding readFrame frameWith padded request
 returns c = rw (c .before .before .before .before .identifier .ensures, c .before .request-bytes .ensures .0 ∙ requests _ (omega arith) (omega (arith, c .before .before .before .next-len .ensures, len-eight (c .before .before .before .before .before .args .x .count) (c .before .before .before .before .before .args .x .progress))) (omega arith), c .before .before .before .next-len .ensures)
 
 pub request-frame-spec : {M : Type 1} → statement M

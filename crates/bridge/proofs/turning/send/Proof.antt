@@ -1,9 +1,9 @@
 use borrow.Author.Needs.{needs}
 use Rattle.bridge.proofs.turning.send.Statement.{statement}
 use Rattle.bridge.proofs.turning.send.Tie as tie
-use Rattle.transfer.specs.Model.{sendFor, slot}
-use Rattle.transfer.specs.Answers.{steppedOf}
-use Rattle.transfer.proofs.Sound.{true-sound}
+use Rattle.bridge_rules.specs.Model.{sendFor, slot}
+use Rattle.bridge_rules.specs.Answers.{steppedOf}
+use Rattle.bridge_rules.proofs.Sound.{true-sound}
 use Rattle.bridge.proofs.CodeFrames.{readies}
 
 mul-x : tie.Need-mul-x

@@ -1,6 +1,6 @@
 use borrow.Author.Needs.{needs}
 use native.Mathlib.Omega.{arith}
-use Rattle.bus.proofs.FrameLaws.{content-min}
+use Rattle.bus_rules.proofs.FrameLaws.{content-min}
 use Rattle.bus.proofs.frames.content_len.Statement.{statement}
 use Rattle.bus.proofs.frames.content_len.Tie as tie
 

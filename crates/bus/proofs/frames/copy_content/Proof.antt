@@ -5,8 +5,8 @@ use native.Mathlib.Omega.{arith}
 use borrow.Author.Needs.{needs}
 use lib.ListN.{length, take}
 use lib.Seq.{sets, length-sets, take-all}
-use Rattle.bus.specs.Frames.{content}
-use Rattle.bus.proofs.FrameLaws.{content-min, content-at, sets-next, sets-done}
+use Rattle.bus_rules.specs.Frames.{content}
+use Rattle.bus_rules.proofs.FrameLaws.{content-min, content-at, sets-next, sets-done}
 use Rattle.bus.proofs.frames.copy_content.Statement.{statement}
 use Rattle.bus.proofs.frames.copy_content.Tie as tie
 

@@ -6,7 +6,7 @@ use native.Mathlib.Omega.{arith}
 use borrow.Author.Needs.{needs}
 use lib.ListN.{take, replicate}
 use lib.Seq.{sets}
-use Rattle.bus.proofs.FrameLaws.{padded-sets, sets-next, sets-done}
+use Rattle.bus_rules.proofs.FrameLaws.{padded-sets, sets-next, sets-done}
 use Rattle.bus.proofs.frames.padded.Statement.{statement}
 use Rattle.bus.proofs.frames.padded.Tie as tie
 

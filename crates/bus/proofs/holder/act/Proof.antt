@@ -1,8 +1,8 @@
 use borrow.Author.Needs.{needs}
 use Rattle.bus.proofs.holder.act.Statement.{statement}
 use Rattle.bus.proofs.holder.act.Tie as tie
-use Rattle.bus.proofs.Cases.{accepted, command-fits, ask-fits, query-fits, is-query, act-command, act-ask, act-query}
-use Rattle.bus.proofs.FrameLaws.{content-min}
+use Rattle.bus_rules.proofs.Cases.{accepted, command-fits, request-fits, query-fits, is-query, act-command, act-request, act-query}
+use Rattle.bus_rules.proofs.FrameLaws.{content-min}
 use lib.ListN.{length}
 use native.Mathlib.Omega.{arith}
 use mathlib.Core.Logic.{⊎-elim}
@@ -28,10 +28,10 @@ returns c = let a = c .before .before .before .before .before .before .before .b
     let e = act-command (a .d) (a .memory .now) (a .f) (sym (c .before .before .before .before .before .before .kind-of .ensures) ∙ c .before .before .before .before .before .if1 .taken) in
     (c .no-answer .ensures ∙ sym (e .0), (rw (c .before .before .before .before .before .before .before .before .pre .1) at (c .before .before .before .copy-content .ensures)) ∙ sym (e .1))
 
-answer-ask-requires : tie.Need-answer-ask-requires
-answer-ask-requires c κs = let a = c .before .before .before .before .before .args in
+answer-request-requires : tie.Need-answer-request-requires
+answer-request-requires c κs = let a = c .before .before .before .before .before .args in
     let p = accepted (a .d) (length (a .memory .now)) (a .f) (c .before .before .before .before .before .pre .0) in
-    let r = ask-fits (a .d) _ (a .f) p (sym (c .before .before .before .kind-of .ensures) ∙ c .before .if2 .taken) in
+    let r = request-fits (a .d) _ (a .f) p (sym (c .before .before .before .kind-of .ensures) ∙ c .before .if2 .taken) in
     (p .directory .own, omega (arith, r .2, c .before .before .before .before .before .pre .1))
 
 same-length-2 : tie.Need-same-length-2
@@ -39,8 +39,8 @@ same-length-2 c = search needs
 
 returns-2 : tie.Need-returns-2
 returns-2 c = let a = c .before .before .before .before .before .before .args in
-    let e = act-ask (a .d) (a .memory .now) (a .f) (sym (c .before .before .before .before .kind-of .ensures) ∙ c .before .before .if2 .taken) in
-    ((rw (c .before .before .before .before .before .before .pre .1) at (c .answer-ask .ensures)) ∙ sym (e .0), sym (e .1))
+    let e = act-request (a .d) (a .memory .now) (a .f) (sym (c .before .before .before .before .kind-of .ensures) ∙ c .before .before .if2 .taken) in
+    ((rw (c .before .before .before .before .before .before .pre .1) at (c .answer-request .ensures)) ∙ sym (e .0), sym (e .1))
 
 answer-query-requires : tie.Need-answer-query-requires
 answer-query-requires c κs = let a = c .before .before .before .before .args in
@@ -66,7 +66,7 @@ act-spec =
     no-answer-requires
     same-length
     returns
-    answer-ask-requires
+    answer-request-requires
     same-length-2
     returns-2
     answer-query-requires

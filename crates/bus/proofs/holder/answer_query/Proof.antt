@@ -1,10 +1,10 @@
-use Rattle.bus.specs.Request.{Request}
+use Rattle.bus_rules.specs.declared.Request.{Request}
 use borrow.Author.Needs.{needs}
 use Rattle.bus.proofs.holder.answer_query.Statement.{statement}
 use Rattle.bus.proofs.holder.answer_query.Tie as tie
 use native.Mathlib.Omega.{arith}
 use mathlib.Core.Path.{sym, ap}
-use Rattle.bus.specs.Holder.{byteOf, requestAt}
+use Rattle.bus_rules.specs.Holder.{byteOf, requestAt}
 use lib.Seq.{length-take-le}
 use Prim.Native.Nat.{_≤_}
 

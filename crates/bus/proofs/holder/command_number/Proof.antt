@@ -2,7 +2,7 @@ use borrow.Author.Needs.{needs}
 use Rattle.bus.proofs.holder.command_number.Statement.{statement}
 use Rattle.bus.proofs.holder.command_number.Tie as tie
 use Rattle.wire.proofs.Orders.{order}
-use Rattle.bus.specs.Holder.{commandNumber}
+use Rattle.bus_rules.specs.Holder.{commandNumber}
 
 returns : tie.Need-returns
 unfolding commandNumber

@@ -1,9 +1,9 @@
 use borrow.Author.Needs.{needs}
 use Rattle.bus.proofs.holder.kind_number.Statement.{statement}
 use Rattle.bus.proofs.holder.kind_number.Tie as tie
-use Rattle.bus.proofs.Cases.{command-case, ask-case, query-case, other-case}
-use Rattle.bus.specs.Holder.{byteOf, reservedAt, requestAt}
-use Rattle.bus.specs.Request.{requestOf}
+use Rattle.bus_rules.proofs.Cases.{command-case, request-case, query-case, other-case}
+use Rattle.bus_rules.specs.Holder.{byteOf, reservedAt, requestAt}
+use Rattle.bus_rules.specs.Request.{requestOf}
 use mathlib.Core.Path.{sym, _∙_}
 
 kind-of-requires : tie.Need-kind-of-requires
@@ -52,15 +52,15 @@ is-reserved-requires-2 c κs = search needs
 offset-of-requires-2 : tie.Need-offset-of-requires-2
 offset-of-requires-2 c κs = search needs
 
-element-copy-out-ask-number : tie.Need-element-copy-out-ask-number
-element-copy-out-ask-number c = search needs
+element-copy-out-request-number : tie.Need-element-copy-out-request-number
+element-copy-out-request-number c = search needs
 
-ask-number-requires : tie.Need-ask-number-requires
-ask-number-requires c κs = search needs
+request-number-requires : tie.Need-request-number-requires
+request-number-requires c κs = search needs
 
 returns-3 : tie.Need-returns-3
 unfolding byteOf reservedAt requestAt requestOf
-returns-3 c = λ d s r. (rw (c .before .before .before .is-reserved2 .ensures, c .before .before .offset-of2 .ensures, s, r) at (c .ask-number .ensures)) ∙ sym (ask-case d _ (sym (c .before .before .before .before .before .before .before .before .before .kind-of .ensures) ∙ c .before .before .before .before .before .before .if3 .taken))
+returns-3 c = λ d s r. (rw (c .before .before .before .is-reserved2 .ensures, c .before .before .offset-of2 .ensures, s, r) at (c .request-number .ensures)) ∙ sym (request-case d _ (sym (c .before .before .before .before .before .before .before .before .before .kind-of .ensures) ∙ c .before .before .before .before .before .before .if3 .taken))
 
 returns-4 : tie.Need-returns-4
 returns-4 c = λ d s r. let k = c .before .before .before .kind-of .ensures in sym (other-case d _ (λ e. c .before .if2 .left (k ∙ e)) (λ e. c .if3 .left (k ∙ e)) (λ e. c .before .before .if1 .left (k ∙ e)))
@@ -84,7 +84,7 @@ kind-number-spec =
     element-copy-out-is-reserved-4
     is-reserved-requires-2
     offset-of-requires-2
-    element-copy-out-ask-number
-    ask-number-requires
+    element-copy-out-request-number
+    request-number-requires
     returns-3
     returns-4)

@@ -1,7 +1,7 @@
 use borrow.Author.Needs.{needs}
 use Rattle.bus.proofs.holder.protocol_of.Statement.{statement}
 use Rattle.bus.proofs.holder.protocol_of.Tie as tie
-use Rattle.bus.specs.Holder.{protocol}
+use Rattle.bus_rules.specs.Holder.{protocol}
 
 two-bytes-requires : tie.Need-two-bytes-requires
 two-bytes-requires c κs = search needs

@@ -1,7 +1,7 @@
 use Rattle.bus.proofs.holder.query_number.Statement.{statement}
 use Rattle.bus.proofs.holder.query_number.Tie as tie
 use Rattle.wire.proofs.Orders.{order}
-use Rattle.bus.specs.Holder.{queryNumber}
+use Rattle.bus_rules.specs.Holder.{queryNumber}
 
 returns : tie.Need-returns
 unfolding queryNumber

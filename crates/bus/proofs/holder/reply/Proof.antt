@@ -1,9 +1,9 @@
 use borrow.Author.Needs.{needs}
 use Rattle.bus.proofs.holder.reply.Statement.{statement}
 use Rattle.bus.proofs.holder.reply.Tie as tie
-use Rattle.bus.proofs.IdentLaws.{from-small, id-small}
-use Rattle.bus.specs.Holder.{replyTo, answerWith}
-use Rattle.bus.specs.Frames.{frameOf}
+use Rattle.bus_rules.proofs.IdentLaws.{from-small, id-small}
+use Rattle.bus_rules.specs.Holder.{replyTo, answerWith}
+use Rattle.bus_rules.specs.Frames.{frameWith}
 use native.Mathlib.Omega.{arith}
 
 from-of-requires : tie.Need-from-of-requires
@@ -22,7 +22,7 @@ padded-requires : tie.Need-padded-requires
 padded-requires c κs = search needs
 
 returns : tie.Need-returns
-unfolding replyTo answerWith frameOf
+unfolding replyTo answerWith frameWith
 returns c = rw (c .before .id-of .ensures, c .before .before .from-of .ensures, c .padded .ensures, c .before .before .before .before .pre .3)
 
 pub reply-spec : {M : Type 1} → statement M

@@ -3,11 +3,12 @@ use Rattle.bus.proofs.holder.serve.Statement.{statement}
 use Rattle.bus.proofs.holder.serve.Tie as tie
 use mir.Val.{Fits}
 use mir.Syntax.{w8}
-use Rattle.bus.proofs.Demands.{IsFrame, demand2}
-use Rattle.bus.proofs.Cases.{served-case, refused-case}
-use Rattle.bus.proofs.IdentLaws.{table-small}
-use Rattle.bus.specs.Holder.{Served, byteOf, sizeOf, rightOf, placeOf, serveOf, memoryOf}
-use Rattle.bus.specs.Demand2.{Demand2}
+use Rattle.bus_rules.proofs.Demands.{IsFrame, demand2}
+use Rattle.bus_rules.proofs.Cases.{served-case, refused-case}
+use Rattle.bus_rules.proofs.IdentLaws.{table-small}
+use Rattle.bus_rules.specs.declared.Served.{Served}
+use Rattle.bus_rules.specs.Holder.{byteOf, sizeOf, rightOf, placeOf, serveOf, memoryOf}
+use Rattle.bus_rules.specs.Demand2.{Demand2}
 use lib.ListN.{getD}
 use native.Mathlib.Omega.{arith}
 use mathlib.Core.Path.{_≡_, sym, _∙_, ap}

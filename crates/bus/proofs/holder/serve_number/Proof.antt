@@ -2,7 +2,7 @@ use borrow.Author.Needs.{needs}
 use Rattle.bus.proofs.holder.serve_number.Statement.{statement}
 use Rattle.bus.proofs.holder.serve_number.Tie as tie
 use Rattle.wire.proofs.Orders.{order}
-use Rattle.bus.specs.Holder.{serveNumber}
+use Rattle.bus_rules.specs.Holder.{serveNumber}
 
 memory-number-requires : tie.Need-memory-number-requires
 memory-number-requires c κs = search needs

@@ -7,8 +7,8 @@ use Prim.Native.Nat.{_≤_, _-_, _*_}
 use mathlib.Core.Path.{_≡_, refl, _∙_, ap}
 use native.Mathlib.Omega.{arith}
 use borrow.Author.Needs.{needs}
-use Rattle.bus.specs.Holder.{sizeOf, rightOf, startOf}
-use Rattle.bus.proofs.Directories.{start-next}
+use Rattle.bus_rules.specs.Holder.{sizeOf, rightOf, startOf}
+use Rattle.bus_rules.proofs.Directories.{start-next}
 
 abbrev Inv-loop : tie.InvT-loop
 Inv-loop k d start₀ i₀ start i = (i ≤ k) × (start ≤ 65535 * i) × (start ≡ startOf d i)

@@ -1,6 +1,6 @@
 use Rattle.bus.proofs.holder.tables_number.Statement.{statement}
 use Rattle.bus.proofs.holder.tables_number.Tie as tie
-use Rattle.bus.proofs.Directories.{eleven, not-eleven, unsound, is-sound}
+use Rattle.bus_rules.proofs.Directories.{eleven, not-eleven, unsound, is-sound}
 use native.Mathlib.Omega.{arith}
 use borrow.Author.Tests.{not-true, not-false}
 use mathlib.Core.Logic.{inl, inr}

@@ -3,10 +3,10 @@ use Rattle.bus.proofs.ident.pack.Statement.{statement}
 use Rattle.bus.proofs.ident.pack.Tie as tie
 use mathlib.Core.Path.{sym, _∙_}
 use native.Mathlib.Omega.{arith}
-use Rattle.bus.specs.Ident.{packOf}
+use Rattle.bus_rules.specs.Ident.{packOf}
 use Rattle.wire.proofs.Answers.{refuses, stands}
-use Rattle.bus.proofs.IdentLaws.{packed-means, unpack-after-pack, lawful, id-small}
-use Rattle.bus.specs.declared.Packed.the-variants as P
+use Rattle.bus_rules.proofs.IdentLaws.{packed-means, unpack-after-pack, lawful, id-small}
+use Rattle.bus_rules.specs.declared.Packed.the-variants as P
 
 pack-number-requires : tie.Need-pack-number-requires
 pack-number-requires c κs = search needs

@@ -1,7 +1,7 @@
 use Rattle.bus.proofs.ident.pack_number.Statement.{statement}
 use Rattle.bus.proofs.ident.pack_number.Tie as tie
 use Rattle.wire.proofs.Orders.{order}
-use Rattle.bus.specs.Ident.{packNumber}
+use Rattle.bus_rules.specs.Ident.{packNumber}
 
 returns : tie.Need-returns
 unfolding packNumber

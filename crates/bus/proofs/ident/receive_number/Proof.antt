@@ -2,7 +2,7 @@ use borrow.Author.Needs.{needs}
 use Rattle.bus.proofs.ident.receive_number.Statement.{statement}
 use Rattle.bus.proofs.ident.receive_number.Tie as tie
 use Rattle.wire.proofs.Orders.{order}
-use Rattle.bus.specs.Frames.{receiveNumber}
+use Rattle.bus_rules.specs.Frames.{receiveNumber}
 
 returns : tie.Need-returns
 unfolding receiveNumber

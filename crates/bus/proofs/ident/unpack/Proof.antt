@@ -2,10 +2,10 @@ use borrow.Author.Needs.{needs}
 use Rattle.bus.proofs.ident.unpack.Statement.{statement}
 use Rattle.bus.proofs.ident.unpack.Tie as tie
 use mathlib.Core.Path.{sym, _∙_}
-use Rattle.bus.specs.Ident.{unpackOf}
+use Rattle.bus_rules.specs.Ident.{unpackOf}
 use Rattle.wire.proofs.Answers.{refuses, stands}
-use Rattle.bus.proofs.IdentLaws.{unpacked-means, pack-after-unpack, row-law}
-use Rattle.bus.specs.declared.Unpacked.the-variants as U
+use Rattle.bus_rules.proofs.IdentLaws.{unpacked-means, pack-after-unpack, row-law}
+use Rattle.bus_rules.specs.declared.Unpacked.the-variants as U
 
 unpack-number-requires : tie.Need-unpack-number-requires
 unpack-number-requires c κs = search needs

@@ -3,10 +3,10 @@ use Rattle.bus.proofs.requests.read_request.Statement.{statement}
 use Rattle.bus.proofs.requests.read_request.Tie as tie
 use mathlib.Core.Path.{sym, _∙_}
 use native.Mathlib.Omega.{arith}
-use Rattle.bus.specs.Request.{readRequestOf}
+use Rattle.bus_rules.specs.Request.{readRequestOf}
 use Rattle.wire.proofs.Answers.{refuses, stands}
-use Rattle.bus.proofs.RequestLaws.{asked-means, read-no, read-yes, write-after-read}
-use Rattle.bus.specs.declared.Asked.the-variants as A
+use Rattle.bus_rules.proofs.RequestLaws.{request-read-means, read-no, read-yes, write-after-read}
+use Rattle.bus_rules.specs.declared.RequestRead.the-variants as A
 
 is-reserved-requires : tie.Need-is-reserved-requires
 is-reserved-requires c κs = search needs
@@ -16,7 +16,7 @@ unfolding readRequestOf
 returns c =
     let a = c .before .before .args in
     let n = read-no (a .a) (a .c) (sym (c .before .is-reserved .ensures) ∙ c .if1 .taken) in
-    let e = asked-means _ _ _ (refuses A.Is A.Refused _ _ _ n (λ z. omega arith)) in
+    let e = request-read-means _ _ _ (refuses A.Is A.Refused _ _ _ n (λ z. omega arith)) in
     (e, λ q k. write-after-read (a .a) (a .b) (a .c) (search needs) (search needs) (search needs) q (sym (e .0) ∙ k))
 
 request-of-requires : tie.Need-request-of-requires
@@ -27,7 +27,7 @@ unfolding readRequestOf
 returns-2 c =
     let a = c .before .before .before .args in
     let n = read-yes (a .a) (a .c) (sym (c .before .before .is-reserved .ensures) ∙ c .before .if1 .left) in
-    let e = asked-means _ _ _ (stands A.Is A.Refused _ _ _ (sym n) (c .request-of .ensures .0)) in
+    let e = request-read-means _ _ _ (stands A.Is A.Refused _ _ _ (sym n) (c .request-of .ensures .0)) in
     (e, λ q k. write-after-read (a .a) (a .b) (a .c) (search needs) (search needs) (search needs) q (sym (e .0) ∙ k))
 
 pub read-request-spec : {M : Type 1} → statement M

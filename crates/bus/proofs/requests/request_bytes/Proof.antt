@@ -3,19 +3,19 @@ use Rattle.bus.proofs.requests.request_bytes.Statement.{statement}
 use Rattle.bus.proofs.requests.request_bytes.Tie as tie
 use mathlib.Core.Path.{sym, _∙_}
 use native.Mathlib.Omega.{arith}
-use Rattle.bus.specs.Request.{requestBytesOf, request}
-use Rattle.bus.proofs.RequestLaws.{holds, wrote-no, wrote-yes, answer-back}
+use Rattle.bus_rules.specs.Request.{requestBytesOf, request}
+use Rattle.bus_rules.proofs.RequestLaws.{holds, wrote-no, wrote-yes, answer-back}
 
-request-number-requires : tie.Need-request-number-requires
-request-number-requires c κs = search needs
+request-bytes-number-requires : tie.Need-request-bytes-number-requires
+request-bytes-number-requires c κs = search needs
 
 returns : tie.Need-returns
 unfolding requestBytesOf
-returns c = let e = wrote-no _ _ _ (c .before .request-number .ensures) (c .if1 .taken) in
+returns c = let e = wrote-no _ _ _ (c .before .request-bytes-number .ensures) (c .if1 .taken) in
     (e, answer-back (c .before .before .args .q) _ e)
 
 cast-t6 : tie.Need-cast-t6
-cast-t6 c = omega (arith, holds (c .before .before .before .args .q) (sym (c .before .before .request-number .ensures) ∙ c .before .if1 .left))
+cast-t6 c = omega (arith, holds (c .before .before .before .args .q) (sym (c .before .before .request-bytes-number .ensures) ∙ c .before .if1 .left))
 
 mul-t8 : tie.Need-mul-t8
 mul-t8 c = search needs
@@ -24,13 +24,13 @@ cast-t9 : tie.Need-cast-t9
 cast-t9 c = search needs
 
 add-t10 : tie.Need-add-t10
-add-t10 c = let h = holds (c .before .before .before .before .before .args .q) (sym (c .before .before .before .before .request-number .ensures) ∙ c .before .before .before .if1 .left) in omega arith
+add-t10 c = let h = holds (c .before .before .before .before .before .args .q) (sym (c .before .before .before .before .request-bytes-number .ensures) ∙ c .before .before .before .if1 .left) in omega arith
 
 returns-2 : tie.Need-returns-2
 unfolding requestBytesOf request
-returns-2 c = let e = wrote-yes _ _ _ (c .before .before .before .before .request-number .ensures) (c .before .before .before .if1 .left) in
+returns-2 c = let e = wrote-yes _ _ _ (c .before .before .before .before .request-bytes-number .ensures) (c .before .before .before .if1 .left) in
     (e, answer-back (c .before .before .before .before .before .args .q) _ e)
 
 pub request-bytes-spec : {M : Type 1} → statement M
 request-bytes-spec =
-    tie.close (tie.spec request-number-requires returns cast-t6 mul-t8 cast-t9 add-t10 returns-2)
+    tie.close (tie.spec request-bytes-number-requires returns cast-t6 mul-t8 cast-t9 add-t10 returns-2)

@@ -2,7 +2,7 @@ use borrow.Author.Needs.{needs}
 use Rattle.bus.proofs.rows.from_of.Statement.{statement}
 use Rattle.bus.proofs.rows.from_of.Tie as tie
 use mathlib.Core.Path.{refl}
-use Rattle.bus.specs.Ident.{idFrom}
+use Rattle.bus_rules.specs.Ident.{idFrom}
 
 cast-result : tie.Need-cast-result
 cast-result c = search needs

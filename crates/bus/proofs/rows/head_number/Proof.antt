@@ -2,7 +2,7 @@ use borrow.Author.Needs.{needs}
 use Rattle.bus.proofs.rows.head_number.Statement.{statement}
 use Rattle.bus.proofs.rows.head_number.Tie as tie
 use Rattle.wire.proofs.Orders.{order}
-use Rattle.bus.proofs.IdentLaws.{head-is}
+use Rattle.bus_rules.proofs.IdentLaws.{head-is}
 
 unpack-number-requires : tie.Need-unpack-number-requires
 unpack-number-requires c κs = search needs

@@ -1,7 +1,7 @@
 use Rattle.bus.proofs.rows.is_reserved.Statement.{statement}
 use Rattle.bus.proofs.rows.is_reserved.Tie as tie
 use mathlib.Core.Path.{refl}
-use Rattle.bus.specs.Request.{reserved}
+use Rattle.bus_rules.specs.Request.{reserved}
 
 returns : tie.Need-returns
 unfolding reserved

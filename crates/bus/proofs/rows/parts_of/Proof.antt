@@ -1,7 +1,7 @@
 use borrow.Author.Needs.{needs}
 use Rattle.bus.proofs.rows.parts_of.Statement.{statement}
 use Rattle.bus.proofs.rows.parts_of.Tie as tie
-use Rattle.bus.specs.Ident.{partsOf}
+use Rattle.bus_rules.specs.Ident.{partsOf}
 
 offset-of-requires : tie.Need-offset-of-requires
 offset-of-requires c κs = search needs

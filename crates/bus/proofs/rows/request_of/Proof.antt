@@ -3,7 +3,7 @@ use Rattle.bus.proofs.rows.request_of.Statement.{statement}
 use Rattle.bus.proofs.rows.request_of.Tie as tie
 use mathlib.Core.Path.{refl}
 use native.Mathlib.Omega.{arith}
-use Rattle.bus.specs.Request.{requestOf}
+use Rattle.bus_rules.specs.Request.{requestOf}
 
 mul-t7 : tie.Need-mul-t7
 mul-t7 c = search needs

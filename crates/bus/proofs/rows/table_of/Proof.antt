@@ -2,7 +2,7 @@ use borrow.Author.Needs.{needs}
 use Rattle.bus.proofs.rows.table_of.Statement.{statement}
 use Rattle.bus.proofs.rows.table_of.Tie as tie
 use mathlib.Core.Path.{refl}
-use Rattle.bus.specs.Ident.{idTable}
+use Rattle.bus_rules.specs.Ident.{idTable}
 
 mul-result : tie.Need-mul-result
 mul-result c = search needs

@@ -1,7 +1,7 @@
 use Rattle.bus.proofs.rows.unpack_number.Statement.{statement}
 use Rattle.bus.proofs.rows.unpack_number.Tie as tie
-use Rattle.bus.specs.Ident.{unpackNumber}
-use Rattle.bus.proofs.IdentLaws.{spare-is}
+use Rattle.bus_rules.specs.Ident.{unpackNumber}
+use Rattle.bus_rules.proofs.IdentLaws.{spare-is}
 use Rattle.wire.proofs.Orders.{order}
 
 returns : tie.Need-returns

@@ -25,8 +25,8 @@ use denote.Triple.Statement.{Contract, Triple}
 use denote.Triple.Call.{calls-at}
 use denote.Triple.Spec.{Meets, tripleOf}
 use denote.Triple.Table.{entered, cited}
-use Rattle.transfer.specs.declared.Bridge.{Bridge}
-use Rattle.transfer.proofs.Bridge as T
+use Rattle.bridge_rules.specs.declared.Bridge.{Bridge}
+use Rattle.bridge_rules.proofs.Bridge as T
 use Rattle.bridge.proofs.in_place.close_in_place as callee
 use Rattle.bridge.proofs.in_place.close_in_place.Symbol as callee-def
 use Rattle.bridge.proofs.in_place.close_in_place.Symbol.{name as #callee}

@@ -27,10 +27,10 @@ use denote.Triple.Statement.{Contract, Triple}
 use denote.Triple.Call.{calls-at}
 use denote.Triple.Spec.{Meets, tripleOf}
 use denote.Triple.Table.{entered, cited}
-use Rattle.transfer.specs.declared.Bridge.{Bridge}
-use Rattle.transfer.proofs.Bridge as T
-use Rattle.bus.proofs.Served as S
-use Rattle.bus.proofs.Served.Laws as S′
+use Rattle.bridge_rules.specs.declared.Bridge.{Bridge}
+use Rattle.bridge_rules.proofs.Bridge as T
+use Rattle.bus_rules.proofs.Served as S
+use Rattle.bus_rules.proofs.Served.Laws as S′
 use Rattle.bridge.proofs.in_place.turn_in_place as callee
 use Rattle.bridge.proofs.in_place.turn_in_place.Symbol as callee-def
 use Rattle.bridge.proofs.in_place.turn_in_place.Symbol.{name as #callee}

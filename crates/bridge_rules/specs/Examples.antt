@@ -1,0 +1,283 @@
+-- Example runs beside demand 3: its premises hold of runs, and it says what they show; and without the premise on writes, on the
+-- device's own replies or on late replies it would be false.
+use Prim.Native.Nat.{ℕ, zero, suc, _*_, _-_}
+use mathlib.Core.Path.{_≡_}
+use mathlib.Core.Logic.{_≢_}
+use mathlib.Core.List.{List, [], _∷_, _++_}
+use mathlib.Core.Option.{Option, none, some}
+use mathlib.Core.Bool.{cond}
+use lib.ListN.{replicate}
+use lib.Dec.{ltb}
+use Rattle.bus_rules.specs.Ident.{idOf}
+use Rattle.bus_rules.specs.Frames.{cmd, rsp, frameWith}
+use Rattle.bus_rules.specs.Holder.{memoryOf}
+use Rattle.bus_rules.specs.declared.Directory.{Directory}
+use Rattle.bridge_rules.specs.Model.{Frame, Call, itsOwn, opening, turn, frame, status, close, reset, read, write}
+use Rattle.bridge_rules.specs.Statement.{Run, Lawful, Transfer, Stands, Done, shownAt, showing, answer, answerTo, Sent, Device, Timeline}
+use Rattle.bridge_rules.specs.Statement.{range, Arrives, Own, Arrivals, Current, NotAfter, Meanwhile, Unwritten, Premises, runOf}
+
+-- device 5: table 7 has 16 bytes, 100 to 115, and all rights
+unfoldable pub directory : Directory
+directory = record {
+  sizes = replicate 7 0 ++ 16 ∷ replicate 24 0;
+  rights = replicate 32 2;
+  «table_blocking» = 256;
+  «write_blocking» = 256;
+  own = 5;
+}
+
+unfoldable pub memory : List ℕ
+memory = 100 ∷ 101 ∷ 102 ∷ 103 ∷ 104 ∷ 105 ∷ 106 ∷ 107 ∷ 108 ∷ 109 ∷ 110 ∷ 111 ∷ 112 ∷ 113 ∷ 114 ∷ 115 ∷ []
+
+-- the device with these bytes
+abbrev pub holding : List ℕ → Device
+holding m = record { directory = directory; memory = m }
+
+-- what becomes of these bytes by a CMD from bridge 0 that writes at an offset of table 7
+unfoldable pub after : List ℕ → (offset : ℕ) → List ℕ → List ℕ
+after m offset bs = memoryOf directory m (frameWith (idOf offset cmd 0 5 7) bs)
+
+-- the run of bridge 0, from 512 zeros
+abbrev pub run : List Call → Run
+run cs = runOf 0 (replicate 512 0) cs
+
+-- a reply to bridge 0 for a place in its buffer
+unfoldable pub reply : (device place : ℕ) → List ℕ → Frame
+reply device place bs = frameWith (idOf place rsp device 0 6) bs
+
+-- a read, opened by call `at`, that is done after n calls and shows these bytes
+pub record DoneRead (cs : List Call) (at n : ℕ) (bs : List ℕ) : Type 0 where
+  pub lawful : Lawful (run cs)
+  pub x : Transfer (run cs)
+  pub opened : x .at ≡ at
+  pub stands : Stands (run cs) x n
+  pub done : Done (run cs) x n
+  pub shown : shownAt (run cs) x n ≡ showing bs
+
+-- one of which the premises of demand 3 hold from moment τ₀ on; the bytes are the range's at moment τ
+pub record Shows (cs : List Call) (at n : ℕ) (bs : List ℕ) (t : Timeline) (τ₀ τ : ℕ) : Type 0 where
+  pub reader : DoneRead cs at n bs
+  pub premises : Premises (run cs) (reader .x) n t τ₀
+  pub meanwhile : Meanwhile (run cs) (reader .x) n t τ₀ τ
+  pub same : range (run cs) (reader .x) (t .device τ) ≡ bs
+
+-- a reply answers the request of the call before it
+abbrev pub before : ℕ → ℕ
+before zero = zero
+before (suc n) = n
+
+-- ── One asker, and a device that does not change ───────────────────────────────────────────────────────────────────
+
+unfoldable pub alone : List Call
+alone =
+    opening itsOwn (read 5 7 6 10)
+    ∷ turn itsOwn
+    ∷ frame itsOwn (reply 5 0 (106 ∷ 107 ∷ 108 ∷ 109 ∷ 110 ∷ 111 ∷ 112 ∷ 113 ∷ []))
+    ∷ turn itsOwn
+    ∷ frame itsOwn (reply 5 8 (114 ∷ 115 ∷ []))
+    ∷ []
+
+-- events are two moments apart, and a reply arrives one moment after it is given
+abbrev pub unchanging : Timeline
+unchanging = record { when = λ k. 2 * k; device = λ τ. holding memory; asked = before; answered = λ m. 2 * m - 1 }
+
+pub record AloneShows : Type 0 where
+  pub shows : Shows alone 0 5 (106 ∷ 107 ∷ 108 ∷ 109 ∷ 110 ∷ 111 ∷ 112 ∷ 113 ∷ 114 ∷ 115 ∷ []) unchanging 3 5
+  -- the first request is sent at moment 2 and answered at 3, and its reply arrives at 4
+  pub asked : unchanging .when (unchanging .asked 2) ≡ 2
+  pub answered : unchanging .answered 2 ≡ 3
+  pub arrived : unchanging .when 2 ≡ 4
+
+-- ── A lost reply, foreign frames, a second asker, and a write before and after ─────────────────────────────────────
+
+unfoldable pub together : List Call
+together =
+    opening itsOwn (write 5 7 6 (1 ∷ 2 ∷ []))
+    ∷ opening itsOwn (read 5 7 6 10)
+    ∷ opening itsOwn (read 6 7 0 1)
+    -- 3 sends the write's CMD, 4 the read's first REQ, whose reply is lost, 5 the other read's REQ
+    ∷ turn itsOwn
+    ∷ turn itsOwn
+    ∷ turn itsOwn
+    -- 6 is the other read's reply, 7 a frame of device 5 to bridge 3, 8 one of device 9 for this read's place
+    ∷ frame itsOwn (reply 6 256 (77 ∷ []))
+    ∷ frame itsOwn (frameWith (idOf 128 rsp 5 3 6) (replicate 8 9))
+    ∷ frame itsOwn (reply 9 128 (replicate 8 9))
+    -- 9 to 27 are turns, the last of which sends the read's first REQ again
+    ∷ (replicate 19 (turn itsOwn)
+    ++ frame itsOwn (reply 5 128 (1 ∷ 2 ∷ 108 ∷ 109 ∷ 110 ∷ 111 ∷ 112 ∷ 113 ∷ []))
+    ∷ turn itsOwn
+    ∷ frame itsOwn (reply 5 136 (114 ∷ 115 ∷ []))
+    -- 32 sends the second write's CMD
+    ∷ opening itsOwn (write 5 7 6 (3 ∷ 4 ∷ []))
+    ∷ turn itsOwn
+    ∷ [])
+
+-- events are one moment apart, and a reply arrives when it is given. The device is written at moments 4 and 33, and answers the
+-- read's first REQ at moment 5
+abbrev pub written : Timeline
+written = record {
+  when = λ k. k;
+  device = λ τ. holding (cond (ltb τ 4) memory (cond (ltb τ 33) (after memory 6 (1 ∷ 2 ∷ [])) (after (after memory 6 (1 ∷ 2 ∷ [])) 6 (3 ∷ 4 ∷ []))));
+  asked = before;
+  answered = λ m. m;
+}
+
+pub record TogetherShows : Type 0 where
+  pub shows : Shows together 1 33 (1 ∷ 2 ∷ 108 ∷ 109 ∷ 110 ∷ 111 ∷ 112 ∷ 113 ∷ 114 ∷ 115 ∷ []) written 5 29
+  -- the range held other bytes before the first write and after the second
+  pub earlier : range (run together) (shows .reader .x) (written .device 0) ≡ 106 ∷ 107 ∷ 108 ∷ 109 ∷ 110 ∷ 111 ∷ 112 ∷ 113 ∷ 114 ∷ 115 ∷ []
+  pub later : range (run together) (shows .reader .x) (written .device 33) ≡ 3 ∷ 4 ∷ 108 ∷ 109 ∷ 110 ∷ 111 ∷ 112 ∷ 113 ∷ 114 ∷ 115 ∷ []
+  -- the other read's reply is taken, and the foreign frames are refused
+  pub other : answer (run together) 6 .number ≡ 0
+  pub toAnother : answer (run together) 7 .number ≡ 4
+  pub fromAnother : answer (run together) 8 .number ≡ 17
+
+-- ── A write that is done, and a reset ──────────────────────────────────────────────────────────────────────────────
+
+-- after the reset the bridge is number 3
+unfoldable pub restarted : List Call
+restarted =
+    opening itsOwn (write 5 7 6 (1 ∷ 2 ∷ []))
+    ∷ turn itsOwn
+    ∷ reset 3
+    ∷ opening itsOwn (read 5 7 6 2)
+    ∷ turn itsOwn
+    ∷ frame itsOwn (frameWith (idOf 0 rsp 5 3 6) (1 ∷ 2 ∷ []))
+    ∷ []
+
+-- the device is written at moment 2
+abbrev pub writtenOnce : Timeline
+writtenOnce = record {
+  when = λ k. k;
+  device = λ τ. holding (cond (ltb τ 2) memory (after memory 6 (1 ∷ 2 ∷ [])));
+  asked = before;
+  answered = λ m. m;
+}
+
+pub record RestartedShows : Type 0 where
+  -- the write is done; the reset ends it, and the read gets its ticket
+  pub sent : answerTo (run restarted) 2 (status 1) .number ≡ 0
+  pub forgotten : answerTo (run restarted) 3 (status 1) .number ≡ 14
+  pub again : answer (run restarted) 3 .ticket ≡ 1
+  pub shows : Shows restarted 3 6 (1 ∷ 2 ∷ []) writtenOnce 5 5
+
+-- ── A write between two replies: why the range may not be written meanwhile ────────────────────────────────────────
+
+-- the read's first eight bytes are fetched, then another asker writes bytes 12 to 15, then the read's last two bytes are fetched
+unfoldable pub torn : List Call
+torn =
+    opening itsOwn (read 5 7 6 10)
+    ∷ turn itsOwn
+    ∷ frame itsOwn (reply 5 0 (106 ∷ 107 ∷ 108 ∷ 109 ∷ 110 ∷ 111 ∷ 112 ∷ 113 ∷ []))
+    -- 4 sends the write's CMD, 5 the read's second REQ
+    ∷ opening itsOwn (write 5 7 12 (1 ∷ 2 ∷ 3 ∷ 4 ∷ []))
+    ∷ turn itsOwn
+    ∷ turn itsOwn
+    ∷ frame itsOwn (reply 5 8 (3 ∷ 4 ∷ []))
+    ∷ []
+
+-- the device is written at moment 5
+abbrev pub overwritten : Timeline
+overwritten = record {
+  when = λ k. k;
+  device = λ τ. holding (cond (ltb τ 5) memory (after memory 12 (1 ∷ 2 ∷ 3 ∷ 4 ∷ [])));
+  asked = before;
+  answered = λ m. m;
+}
+
+-- each reply is the device's own, and none is to a closed or reset read; yet the read shows bytes that the range never held
+pub record TornShows : Type 0 where
+  pub reader : DoneRead torn 0 7 (106 ∷ 107 ∷ 108 ∷ 109 ∷ 110 ∷ 111 ∷ 112 ∷ 113 ∷ 3 ∷ 4 ∷ [])
+  pub arrivals : Arrivals (run torn) (reader .x) 7 overwritten
+  pub first : NotAfter (run torn) (reader .x) 7 overwritten 2
+  pub never : (τ : ℕ) →
+      range (run torn) (reader .x) (overwritten .device τ) ≢ 106 ∷ 107 ∷ 108 ∷ 109 ∷ 110 ∷ 111 ∷ 112 ∷ 113 ∷ 3 ∷ 4 ∷ []
+  -- the premise that fails
+  pub rewritten : ¬ Unwritten (run torn) (reader .x) overwritten (Meanwhile (run torn) (reader .x) 7 overwritten 2)
+
+-- ── A forged reply: why each reply under the device's number is to be its own ──────────────────────────────────────
+
+-- another node gives the second reply under the device's number
+unfoldable pub forged : List Call
+forged =
+    opening itsOwn (read 5 7 6 10)
+    ∷ turn itsOwn
+    ∷ frame itsOwn (reply 5 0 (106 ∷ 107 ∷ 108 ∷ 109 ∷ 110 ∷ 111 ∷ 112 ∷ 113 ∷ []))
+    ∷ turn itsOwn
+    ∷ frame itsOwn (reply 5 8 (0 ∷ 0 ∷ []))
+    ∷ []
+
+-- nothing is written, each other reply is the device's own, and none is to a closed or reset read; yet the read shows other bytes
+pub record ForgedShows : Type 0 where
+  pub reader : DoneRead forged 0 5 (106 ∷ 107 ∷ 108 ∷ 109 ∷ 110 ∷ 111 ∷ 112 ∷ 113 ∷ 0 ∷ 0 ∷ [])
+  pub own : (m : ℕ) (f : Frame) → m ≢ 4 → Arrives (run forged) (reader .x) 5 m f → Own (run forged) unchanging m f
+  pub current : Current (run forged) (reader .x) 5 unchanging
+  pub first : NotAfter (run forged) (reader .x) 5 unchanging 3
+  pub unwritten : Unwritten (run forged) (reader .x) unchanging (Meanwhile (run forged) (reader .x) 5 unchanging 3)
+  pub asked : range (run forged) (reader .x) (holding memory) ≡ 106 ∷ 107 ∷ 108 ∷ 109 ∷ 110 ∷ 111 ∷ 112 ∷ 113 ∷ 114 ∷ 115 ∷ []
+  -- the premise that fails: the holder's rules give other bytes
+  pub forgery : ¬ Own (run forged) unchanging 4 (reply 5 8 (0 ∷ 0 ∷ []))
+
+-- ── A late reply to a closed read: why no reply to a closed or reset transfer may arrive ───────────────────────────
+
+-- the first read asks for bytes 0 to 7 and is closed; the second, in the same slot, asks for bytes 8 to 15; then the device's
+-- reply to the first arrives
+unfoldable pub late : List Call
+late =
+    opening itsOwn (read 5 7 0 8)
+    ∷ turn itsOwn
+    ∷ close 1
+    ∷ opening itsOwn (read 5 7 8 8)
+    ∷ turn itsOwn
+    ∷ frame itsOwn (reply 5 0 (100 ∷ 101 ∷ 102 ∷ 103 ∷ 104 ∷ 105 ∷ 106 ∷ 107 ∷ []))
+    ∷ []
+
+-- a reply answers the first read's request
+abbrev pub slow : Timeline
+slow = record { when = λ k. k; device = λ τ. holding memory; asked = λ m. 1; answered = λ m. m }
+
+-- each reply is the device's own and nothing is written; yet the second read is done and shows the first one's bytes
+pub record LateShows : Type 0 where
+  pub reader : DoneRead late 3 6 (100 ∷ 101 ∷ 102 ∷ 103 ∷ 104 ∷ 105 ∷ 106 ∷ 107 ∷ [])
+  pub own : (m : ℕ) (f : Frame) → Arrives (run late) (reader .x) 6 m f → Own (run late) slow m f
+  pub first : NotAfter (run late) (reader .x) 6 slow 5
+  pub unwritten : Unwritten (run late) (reader .x) slow (Meanwhile (run late) (reader .x) 6 slow 5)
+  pub asked : range (run late) (reader .x) (holding memory) ≡ 108 ∷ 109 ∷ 110 ∷ 111 ∷ 112 ∷ 113 ∷ 114 ∷ 115 ∷ []
+  -- the premise that fails: the transfer whose request is answered was closed
+  pub closed : (y : Transfer (run late)) × Sent (run late) y 0 1 × (¬ Stands (run late) y 5)
+
+-- ── 01's reckonings of the bridge that are not marked * ────────────────────────────────────────────────────────────
+
+-- one read, and a device that never replies: event k is turn k
+unfoldable pub silence : List Call
+silence = opening itsOwn (read 5 7 6 10) ∷ replicate 61 (turn itsOwn)
+
+-- those of the first n events that yielded a frame
+unfoldable pub sendsOf : Run → ℕ → List ℕ
+sendsOf r zero = []
+sendsOf r (suc n) = sendsOf r n ++ yielded (answer r n .sent) n
+  where
+    yielded : Option Frame → ℕ → List ℕ
+    yielded none k = []
+    yielded (some f) k = k ∷ []
+
+pub record Reckonings : Type 0 where
+  -- silent device, alone: sends on turns 1, 21, 41; gives up on turn 61
+  pub sends : sendsOf (run silence) 62 ≡ 1 ∷ 21 ∷ 41 ∷ []
+  pub notYet : answerTo (run silence) 61 (status 1) .number ≡ 15
+  pub givenUp : answerTo (run silence) 62 (status 1) .number ≡ 16
+  -- 128 bytes accepted, 129 and 0 are 9
+  pub most : answerTo (run []) 0 (opening itsOwn (read 5 7 0 128)) .number ≡ 0
+  pub tooMany : answerTo (run []) 0 (opening itsOwn (read 5 7 0 129)) .number ≡ 9
+  pub zero : answerTo (run []) 0 (opening itsOwn (read 5 7 0 0)) .number ≡ 9
+
+-- all of it
+pub record Examples : Type 0 where
+  pub aloneShows : AloneShows
+  pub togetherShows : TogetherShows
+  pub restartedShows : RestartedShows
+  pub tornShows : TornShows
+  pub forgedShows : ForgedShows
+  pub lateShows : LateShows
+  pub reckonings : Reckonings

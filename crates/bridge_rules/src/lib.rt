@@ -1,0 +1,70 @@
+// The bridge's state and answers. What its calls do to them is defined in specs/Model.antt; demand 3 is specs/Statement.antt.
+// A slot's phases.
+pub const FREE: u8 = 0;
+
+pub const READY: u8 = 1;
+
+pub const WAITING: u8 = 2;
+
+pub const DONE: u8 = 3;
+
+pub const GAVE_UP: u8 = 4;
+
+// A transfer's kinds.
+pub const READ: u8 = 0;
+
+pub const WRITE: u8 = 1;
+
+// A slot: free, or held by a transfer. Numbers that it doesn't use are 0.
+#[repr(C)]
+pub struct Slot {
+    pub ticket: u32,
+    pub offset: u16,
+    pub phase: u8,
+    pub kind: u8,
+    pub device: u8,
+    pub table: u8,
+    pub count: u8,
+    pub progress: u8,
+    pub sends: u8,
+    pub left: u8,
+}
+
+// The bridge: its slots, the last ticket given, its own number, and the slot last served.
+#[repr(C)]
+pub struct Bridge {
+    pub slots: [Slot; 4],
+    pub tickets: u32,
+    pub own: u8,
+    pub last: u8,
+}
+
+// What an opening hands back.
+#[repr(C)]
+pub struct Opened {
+    pub bridge: Bridge,
+    pub ticket: u32,
+    pub number: u8,
+}
+
+// What a turn or an incoming frame hands back: the answer is a number and a turn's frame.
+#[repr(C)]
+pub struct Stepped {
+    pub bridge: Bridge,
+    pub answer: bus_rules::Served,
+}
+
+// What a closing or a reset hands back.
+#[repr(C)]
+pub struct Changed {
+    pub bridge: Bridge,
+    pub number: u8,
+}
+
+// A number, and where a done read's bytes lie in the buffer.
+#[repr(C)]
+pub struct Span {
+    pub number: u8,
+    pub start: usize,
+    pub count: usize,
+}

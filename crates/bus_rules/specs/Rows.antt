@@ -1,0 +1,45 @@
+-- Theorems about identifiers and request bytes: reading and writing undo each other, and the law of the rows.
+use Prim.Native.Nat.{ℕ, _+_, _*_, _/_, _%_, _^_}
+use mathlib.Core.Path.{_≡_}
+use mathlib.Core.List.{List, [], _∷_}
+use Rattle.bus_rules.specs.Ident.{Parts, row, packOf, unpackOf}
+use Rattle.bus_rules.specs.Request.{Request, readRequestOf, requestBytesOf, request}
+use Rattle.bus_rules.specs.declared.Packed.{Packed}
+use Rattle.bus_rules.specs.declared.Packed.the-variants as P
+use Rattle.bus_rules.specs.declared.Unpacked.{Unpacked}
+use Rattle.bus_rules.specs.declared.Unpacked.the-variants as U
+use Rattle.bus_rules.specs.declared.RequestRead.{RequestRead}
+use Rattle.bus_rules.specs.declared.RequestRead.the-variants as A
+use Rattle.bus_rules.specs.declared.RequestBytes.{RequestBytes}
+
+-- what packs into an identifier unpacks from it
+abbrev pub UnpackAfterPack : Parts → Packed → Type 0
+UnpackAfterPack p r = (id : ℕ) → r ≡ P.Is id → unpackOf id ≡ U.Is p
+
+-- what unpacks from an identifier packs into it
+abbrev pub PackAfterUnpack : ℕ → Unpacked → Type 0
+PackAfterUnpack id r = (p : Parts) → r ≡ U.Is p → packOf p ≡ P.Is id
+
+-- the identifier is the sum of each row's part times 2 to the row's lowest bit, and each row's part is it divided by that, modulo
+-- 2 to the row's width; the table has two rows, its bit 4 and its bits 0-3
+pub record Rows (id : ℕ) (p : Parts) : Type 0 where
+  pub sum : id ≡ p .table / 16 * 2 ^ 2 + p .table % 16 * 2 ^ 3 + p .to * 2 ^ 7 + p .from * 2 ^ 11 + p .kind * 2 ^ 15 + p .offset * 2 ^ 18
+  pub tableHigh : p .table / 16 ≡ row 2 1 id
+  pub tableLow : p .table % 16 ≡ row 3 4 id
+  pub to : p .to ≡ row 7 4 id
+  pub from : p .from ≡ row 11 4 id
+  pub kind : p .kind ≡ row 15 3 id
+  pub offset : p .offset ≡ row 18 11 id
+  pub spare : row 0 2 id ≡ 0
+
+-- of every lawful identifier
+abbrev pub RowLaw : ℕ → Unpacked → Type 0
+RowLaw id r = (p : Parts) → r ≡ U.Is p → Rows id p
+
+-- what is written in request bytes is read from them
+abbrev pub ReadAfterWrite : Request → RequestBytes → Type 0
+ReadAfterWrite q r = r .number ≡ 0 → (a b c : ℕ) → r .bytes ≡ a ∷ b ∷ c ∷ [] → readRequestOf a b c ≡ A.Is q
+
+-- what is read from request bytes writes them
+abbrev pub WriteAfterRead : (a b c : ℕ) → RequestRead → Type 0
+WriteAfterRead a b c r = (q : Request) → r ≡ A.Is q → requestBytesOf q ≡ record { number = 0; bytes = a ∷ b ∷ c ∷ [] }

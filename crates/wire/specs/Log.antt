@@ -1,0 +1,18 @@
+-- What the logs MLG and FRD share: a block's counter, what is handed out of a block, and parts of a file.
+use Prim.Native.Nat.{ℕ, zero, suc, _%_}
+pub use Rattle.wire.specs.declared.Span.{Span}
+pub use Rattle.wire.specs.declared.Tally.{Tally}
+
+-- "The counter is the number of earlier blocks .., modulo .."
+unfoldable pub counterOf : (modulus earlier : ℕ) → ℕ
+counterOf modulus earlier = earlier % modulus
+
+-- what is found where the number is 0, else a refusal, which holds the number and the block's place
+unfoldable pub judged : {A : Type 0} → (ℕ → ℕ → A) → ℕ → ℕ → A → A
+judged refused zero place x = x
+judged refused (suc n) place x = refused (suc n) place
+
+-- a part's place and length, or a refusal: every other number in it is 0
+unfoldable pub spanOf : (number start len : ℕ) → Span
+spanOf zero start len = record { number = 0; start = start; len = len }
+spanOf (suc n) start len = record { number = suc n; start = 0; len = 0 }
