@@ -13,13 +13,13 @@ use Rattle.wire.proofs.Puts.{put-sets}
 use Rattle.wire.proofs.Orders.{if-zero, else-zero}
 use Rattle.bridge_rules.specs.declared.Bridge.{Bridge}
 use Rattle.bridge_rules.specs.declared.Slot.{Slot}
-use Rattle.bridge_rules.specs.Model.{Ask, write, askCount, blank, slot, lowestFree, heldSlot, isNone, from, orFour, withSlots, opened}
-use Rattle.bridge_rules.specs.Model.{openNumber, openOf, closeNumber, closeOf, ticketNumber, bytesNumber, slotSpan, spanOf, noSpan}
+use Rattle.bridge_rules.specs.State.{blank, slot, lowestFree, heldSlot, isNone, from, orFour, withSlots, sound, asks}
+use Rattle.bridge_rules.specs.Answers.{openedOf}
+use Rattle.bridge_rules.specs.Opening.{Ask, write, askCount, opened, openNumber, openOf}
+use Rattle.bridge_rules.specs.Ending.{closeNumber, closeOf, ticketNumber, bytesNumber, slotSpan, spanOf, noSpan, partOf, bytesOf}
 use Rattle.bridge_rules.specs.declared.Span.{Span}
 use Rattle.bridge_rules.specs.declared.Changed.{Changed}
 use Rattle.bridge_rules.specs.declared.Opened.{Opened}
-use Rattle.bridge_rules.specs.Answers.{openedOf}
-use Rattle.bridge_rules.specs.Model.{sound, asks, partOf, bytesOf}
 use Rattle.bridge.proofs.CodeSlots.{free-from, holder-from, holder-small, from-four}
 use Rattle.bridge_rules.proofs.Sound.{SlotOk, okFree, okReady, okWaiting, okDone, okGaveUp, true-sound}
 use Rattle.bridge_rules.proofs.Refusals.{open-facts, lent-ok}

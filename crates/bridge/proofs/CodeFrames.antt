@@ -29,11 +29,11 @@ use Rattle.bus_rules.proofs.IdentLaws.{unpacked-is}
 use Rattle.bus_rules.proofs.FrameLaws.{part-length}
 use Rattle.bridge_rules.specs.declared.Bridge.{Bridge}
 use Rattle.bridge_rules.specs.declared.Slot.{Slot}
-use Rattle.bridge_rules.specs.Model.{Frame, slot, sound, isReady, isNone, from, orFour, nextReady, agedBridge, lentNumber, turnOf}
-use Rattle.bridge_rules.specs.Model.{sendFor, chunkLen, outgoing, awaits, awaiting, contentNumber, replyNumber, frameOf, advanced, withSlots}
-use Rattle.bridge_rules.specs.Model.{waiting, isWaiting, asks, moved, requested, sentSlot}
+use Rattle.bridge_rules.specs.State.{Frame, slot, sound, isReady, isNone, from, orFour, nextReady, withSlots, waiting, isWaiting, asks, moved}
+use Rattle.bridge_rules.specs.Answers.{lentNumber, steppedOf}
+use Rattle.bridge_rules.specs.Turn.{agedBridge, turnOf, sendFor, chunkLen, outgoing, advanced, requested, sentSlot}
+use Rattle.bridge_rules.specs.Incoming.{awaits, awaiting, contentNumber, replyNumber, frameOf}
 use Rattle.bridge_rules.specs.declared.Stepped.{Stepped}
-use Rattle.bridge_rules.specs.Answers.{steppedOf}
 use Rattle.bridge_rules.proofs.Search.{search-some, lowest-some, lowest-none, option-cases}
 use Rattle.bridge_rules.proofs.Sound.{ReadyOk, ready-ok, true-sound, sound-true}
 use Rattle.bridge_rules.proofs.CallKinds.{aged-sound, AwaitsOk, awaits-ok, wait-ok}

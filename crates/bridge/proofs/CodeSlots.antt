@@ -12,9 +12,10 @@ use lib.Dec.{eqb, leb}
 use borrow.Author.Tests.{le-leb, lt-leb, lt-ltb, le-ltb, eq-eqb}
 use Rattle.bridge_rules.specs.declared.Bridge.{Bridge}
 use Rattle.bridge_rules.specs.declared.Slot.{Slot}
-use Rattle.bridge_rules.specs.Model.{waiting, ready, done, gaveUp, isReady, isWaiting, blank, slot, moved, soundSlot, soundSlots}
-use Rattle.bridge_rules.specs.Model.{absent, distinct, sound, firstSlot, nextReady, lowestFree, heldSlot, awaiting, orFour}
-use Rattle.bridge_rules.specs.Model.{Frame, isNone, from, ticked, aged, advanced}
+use Rattle.bridge_rules.specs.State.{waiting, ready, done, gaveUp, isReady, isWaiting, blank, slot, moved, soundSlot, soundSlots, absent, distinct, sound}
+use Rattle.bridge_rules.specs.State.{firstSlot, nextReady, lowestFree, heldSlot, orFour, Frame, isNone, from}
+use Rattle.bridge_rules.specs.Turn.{ticked, aged, advanced}
+use Rattle.bridge_rules.specs.Incoming.{awaiting}
 
 -- ── Four slots one by one ──────────────────────────────────────────────────────────────────────────────────────────
 

@@ -5,11 +5,12 @@ use crate::state::blank;
 use crate::state::holder;
 use crate::state::sound;
 ghost use mathlib.Core.Path.{_≡_};
-ghost use Rattle.bridge_rules.specs.Statement.{Demand3};
+ghost use Rattle.bridge_rules.specs.State.{fresh};
+ghost use Rattle.bridge_rules.specs.Ending.{closeNumber, closeOf, resetOf};
+ghost use Rattle.bridge_rules.specs.Demand3.{Demand3};
 ghost use Rattle.bridge_rules.specs.Corollaries.{Corollaries};
 ghost use Rattle.bridge_rules.specs.Calls.{Calls};
 ghost use Rattle.bridge_rules.specs.Examples.{Examples};
-ghost use Rattle.bridge_rules.specs.Model.{closeNumber, closeOf, fresh, resetOf};
 
 fn close_number(b: Bridge, ticket: u32) -> u8
     ensures { λ r. ⌜ r ≡ closeNumber b ticket ⌝ }

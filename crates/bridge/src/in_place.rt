@@ -4,8 +4,10 @@ use crate::ending::close;
 use crate::incoming::frame;
 use crate::turning::turn;
 ghost use mathlib.Core.Path.{_≡_};
-ghost use Rattle.bridge_rules.specs.Model.{turnOf, frameOf, closeOf};
 ghost use Rattle.bridge_rules.specs.Answers.{steppedOf};
+ghost use Rattle.bridge_rules.specs.Turn.{turnOf};
+ghost use Rattle.bridge_rules.specs.Incoming.{frameOf};
+ghost use Rattle.bridge_rules.specs.Ending.{closeOf};
 
 // A turn.
 pub fn turn_in_place(b: &mut Bridge, buffer: &[u8]) -> bus::Served

@@ -12,8 +12,10 @@ ghost use mathlib.Core.Path.{_≡_};
 ghost use mathlib.Core.Bool.{true, _&&_};
 ghost use Prim.Native.Nat.{_+_, _*_, _≤_, _<_};
 ghost use lib.Dec.{eqb};
-ghost use Rattle.bridge_rules.specs.Model.{sound, isWaiting, chunkLen, contentNumber, awaiting, orFour, replyNumber, frameOf};
+ghost use Rattle.bridge_rules.specs.State.{sound, isWaiting, orFour};
 ghost use Rattle.bridge_rules.specs.Answers.{steppedOf};
+ghost use Rattle.bridge_rules.specs.Turn.{chunkLen};
+ghost use Rattle.bridge_rules.specs.Incoming.{contentNumber, awaiting, replyNumber, frameOf};
 
 // 1 to 5, by which a bridge of this own number judges a frame; else 0.
 fn content_number(own: u8, f: bus::Frame) -> u8

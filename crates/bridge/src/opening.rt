@@ -11,8 +11,9 @@ use crate::state::lowest_free;
 ghost use mathlib.Core.Path.{_≡_};
 ghost use mathlib.Core.Bool.{false};
 ghost use lib.ListN.{length, set};
-ghost use Rattle.bridge_rules.specs.Model.{ready, read, write, roomNumber, openNumber, lowestFree, from, isNone, openOf};
+ghost use Rattle.bridge_rules.specs.State.{ready, lowestFree, from, isNone};
 ghost use Rattle.bridge_rules.specs.Answers.{openedOf};
+ghost use Rattle.bridge_rules.specs.Opening.{read, write, roomNumber, openNumber, openOf};
 
 // 12 and 13: no free slot, and tickets used up; else 0.
 fn room_number(b: Bridge) -> u8

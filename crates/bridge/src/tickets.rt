@@ -10,7 +10,7 @@ use crate::state::sound;
 ghost use mathlib.Core.Path.{_≡_};
 ghost use Prim.Native.Nat.{_+_, _<_, _≤_};
 ghost use lib.ListN.{length};
-ghost use Rattle.bridge_rules.specs.Model.{phaseNumber, ticketNumber, statusOf, bytesNumber, slotSpan, spanOf, partOf, bytesOf};
+ghost use Rattle.bridge_rules.specs.Ending.{phaseNumber, ticketNumber, statusOf, bytesNumber, slotSpan, spanOf, partOf, bytesOf};
 
 fn phase_number(phase: u8) -> u8
     ensures { λ r. ⌜ r ≡ phaseNumber phase ⌝ }

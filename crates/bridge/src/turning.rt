@@ -18,8 +18,9 @@ ghost use mathlib.Core.Option.{some};
 ghost use Prim.Native.Nat.{_+_, _≤_, _<_};
 ghost use lib.ListN.{length};
 ghost use Rattle.bus_rules.specs.Ident.{idOf};
-ghost use Rattle.bridge_rules.specs.Model.{slot, sound, isReady, readFrame, writeFrame, sentFrame, sentSlot, sendFor, turnOf};
+ghost use Rattle.bridge_rules.specs.State.{slot, sound, isReady};
 ghost use Rattle.bridge_rules.specs.Answers.{steppedOf};
+ghost use Rattle.bridge_rules.specs.Turn.{readFrame, writeFrame, sentFrame, sentSlot, sendFor, turnOf};
 
 // The identifier of a slot's next frame, of a type.
 fn identifier(own: u8, kind: u8, x: Slot) -> u32

@@ -5,7 +5,8 @@ use mathlib.Core.Logic.{_≢_}
 use mathlib.Core.Bool.{false}
 use native.Mathlib.Omega.{arith}
 use native.Mathlib.Decide.{decLe}
-use Rattle.bridge_rules.specs.Model.{Slot, ready, waiting, gaveUp, aged, isWaiting}
+use Rattle.bridge_rules.specs.State.{Slot, ready, waiting, gaveUp, isWaiting}
+use Rattle.bridge_rules.specs.Turn.{aged}
 use Rattle.bridge_rules.proofs.Sound.{SlotOk, okFree, okReady, okWaiting, okDone, okGaveUp, aged-other, aged-waits, aged-again, aged-ends}
 
 pub data AgeCase (y : Slot) : Type 0 where

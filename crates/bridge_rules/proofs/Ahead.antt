@@ -4,10 +4,14 @@ use mathlib.Core.Path.{_≡_, refl, sym, _∙_, ap}
 use mathlib.Core.Bool.{Bool, true, false, true≢false}
 use native.Mathlib.Omega.{arith}
 use native.Mathlib.Decide.{decLt}
-use Rattle.bridge_rules.specs.Model.{Frame, Slot, ready, waiting, done, gaveUp, Call, Result, itsOwn, opening, turn, close, reset, awaits, slot}
-use Rattle.bridge_rules.specs.Model.{aged, askCount, isWaiting, isReady, asks}
-use Rattle.bridge_rules.specs.Statement.{Run, state, buffer, answer, Lawful, Transfer, slotOf, Stands, turns, chunks, Sent, Matches, Awaits}
-use Rattle.bridge_rules.specs.Statement.{Replied, ThreeFailed}
+use Rattle.bridge_rules.specs.State.{Frame, Slot, ready, waiting, done, gaveUp, slot, isWaiting, isReady, asks}
+use Rattle.bridge_rules.specs.Answers.{Result}
+use Rattle.bridge_rules.specs.Opening.{askCount}
+use Rattle.bridge_rules.specs.Turn.{aged}
+use Rattle.bridge_rules.specs.Incoming.{awaits}
+use Rattle.bridge_rules.specs.Call.{Call, itsOwn, opening, turn, close, reset}
+use Rattle.bridge_rules.specs.Run.{Run, state, buffer, answer, Lawful, Transfer, slotOf, Stands, turns, chunks}
+use Rattle.bridge_rules.specs.Replies.{Sent, Matches, Awaits, Replied, ThreeFailed}
 use Rattle.bridge_rules.proofs.Search.{none-some}
 use Rattle.bridge_rules.proofs.Sound.{ReadyOk, ready-ok, sent-read, aged-same}
 use Rattle.bridge_rules.proofs.Sound.{advanced-same}

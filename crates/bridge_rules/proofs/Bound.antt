@@ -5,8 +5,9 @@ use mathlib.Core.Logic.{_⊎_, inl, inr}
 use mathlib.Core.Bool.{true, false, false≢true}
 use native.Mathlib.Omega.{arith}
 use native.Mathlib.Decide.{decLt, decLe}
-use Rattle.bridge_rules.specs.Model.{Slot, ready, waiting, done, gaveUp, aged, advanced, isReady, isWaiting, asks, carries}
-use Rattle.bridge_rules.specs.Statement.{Run, storage, state, buffer, Lawful, Transfer, ticket, slotOf, Stands, turns, chunks}
+use Rattle.bridge_rules.specs.State.{Slot, ready, waiting, done, gaveUp, isReady, isWaiting, asks, carries}
+use Rattle.bridge_rules.specs.Turn.{aged, advanced}
+use Rattle.bridge_rules.specs.Run.{Run, storage, state, buffer, Lawful, Transfer, ticket, slotOf, Stands, turns, chunks}
 use Rattle.bridge_rules.proofs.Sound.{SlotOk, okFree, okReady, okWaiting, okDone, okGaveUp, aged-other, aged-waits, aged-again, aged-ends}
 use Rattle.bridge_rules.proofs.Sound.{advanced-more, advanced-done, sent-write, sent-read}
 use Rattle.bridge_rules.proofs.Effects.{Unserved, idle, elsewhere, dist, dist-small}

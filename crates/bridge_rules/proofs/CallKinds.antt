@@ -14,13 +14,15 @@ use borrow.Author.Tests.{eqb-true, eqb-false, ne-eqb, eq-eqb, lt-ltb, le-ltb, no
 use Rattle.bus_rules.specs.Frames.{content}
 use Rattle.bus_rules.specs.Ident.{idTable, idFrom, idOffset}
 use Rattle.wire.specs.Order.{_if_else_}
-use Rattle.bridge_rules.specs.Model.{Frame, Bridge, Slot, waiting, Ask, Call, Result, itsOwn, other, opening, turn, frame, status, bytes, close}
-use Rattle.bridge_rules.specs.Model.{reset, askDevice, askTable, askOffset, askCount, askGiven, blank, slot, fresh, sound, aged, advanced}
-use Rattle.bridge_rules.specs.Model.{sentSlot, opened, isReady, isWaiting, isFree, isNone, from, lowestFree, heldSlot, openNumber, openOf}
-use Rattle.bridge_rules.specs.Model.{nextReady, agedBridge, sendFor, turnOf, awaits, contentNumber, awaiting, replyNumber, frameOf}
-use Rattle.bridge_rules.specs.Model.{closeNumber, closeOf, resetOf, step, withSlots, plain, lentList, bytesOf, chunkLen, resetNumber}
-use Rattle.bridge_rules.specs.Model.{asks}
-use Rattle.bridge_rules.specs.Statement.{Shaped, isTurn}
+use Rattle.bridge_rules.specs.State.{Frame, Bridge, Slot, waiting, blank, slot, fresh, sound, isReady, isWaiting, isFree, isNone, from, lowestFree}
+use Rattle.bridge_rules.specs.State.{heldSlot, nextReady, withSlots, asks}
+use Rattle.bridge_rules.specs.Answers.{Result, plain}
+use Rattle.bridge_rules.specs.Opening.{Ask, askDevice, askTable, askOffset, askCount, askGiven, opened, openNumber, openOf}
+use Rattle.bridge_rules.specs.Turn.{aged, advanced, sentSlot, agedBridge, sendFor, turnOf, chunkLen}
+use Rattle.bridge_rules.specs.Incoming.{awaits, contentNumber, awaiting, replyNumber, frameOf}
+use Rattle.bridge_rules.specs.Ending.{closeNumber, closeOf, resetOf, bytesOf, resetNumber}
+use Rattle.bridge_rules.specs.Call.{Call, itsOwn, other, opening, turn, frame, status, bytes, close, reset, step, lentList}
+use Rattle.bridge_rules.specs.Run.{Shaped, isTurn}
 use Rattle.bridge_rules.proofs.ReadWrite.{told-ask}
 use Rattle.bridge_rules.proofs.Refusals.{else-first, else-second, LawfulArgs, OpenFacts, open-facts, lent-clear, lent-ten, open-ten}
 use Rattle.bridge_rules.proofs.Refusals.{reply-later, reply-ten}

@@ -5,9 +5,11 @@ use mathlib.Core.Logic.{_⊎_, inl, inr}
 use mathlib.Core.Bool.{true, false}
 use native.Mathlib.Omega.{arith}
 use native.Mathlib.Decide.{decLt}
-use Rattle.bridge_rules.specs.Model.{isWrite, plain}
-use Rattle.bridge_rules.specs.Statement.{Run, Lawful, Transfer, Stands, Done, shownAt, chunks, Replied, Failed}
-use Rattle.bridge_rules.specs.Statement.{ThreeFailed, AllWritten, Claims}
+use Rattle.bridge_rules.specs.Answers.{plain}
+use Rattle.bridge_rules.specs.Opening.{isWrite}
+use Rattle.bridge_rules.specs.Run.{Run, Lawful, Transfer, Stands, Done, shownAt, chunks}
+use Rattle.bridge_rules.specs.Replies.{Replied, Failed, ThreeFailed, AllWritten}
+use Rattle.bridge_rules.specs.Demand3.{Claims}
 use Rattle.bridge_rules.specs.Corollaries.{Corollaries}
 use Rattle.bridge_rules.proofs.Search.{cases}
 use Rattle.bridge_rules.proofs.Storages.{turns-mono}

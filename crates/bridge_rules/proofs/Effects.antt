@@ -12,10 +12,13 @@ use lib.Seq.{getD-set-same, getD-set-other, sets}
 use lib.Dec.{eqb}
 use Rattle.bus_rules.specs.Frames.{content}
 use Rattle.bus_rules.specs.Ident.{idOffset}
-use Rattle.bridge_rules.specs.Model.{Frame, Bridge, Slot, Ask, Call, Result, itsOwn, opening, turn, frame, close, reset, read, write, askGiven}
-use Rattle.bridge_rules.specs.Model.{blank, slot, aged, advanced, sentSlot, sentFrame, opened, isReady, isFree, lowestFree, agedBridge}
-use Rattle.bridge_rules.specs.Model.{sendFor, awaits, contentNumber, step}
-use Rattle.bridge_rules.specs.Statement.{isTurn}
+use Rattle.bridge_rules.specs.State.{Frame, Bridge, Slot, blank, slot, isReady, isFree, lowestFree}
+use Rattle.bridge_rules.specs.Answers.{Result}
+use Rattle.bridge_rules.specs.Opening.{Ask, read, write, askGiven, opened}
+use Rattle.bridge_rules.specs.Turn.{aged, advanced, sentSlot, sentFrame, agedBridge, sendFor}
+use Rattle.bridge_rules.specs.Incoming.{awaits, contentNumber}
+use Rattle.bridge_rules.specs.Call.{Call, itsOwn, opening, turn, frame, close, reset, step}
+use Rattle.bridge_rules.specs.Run.{isTurn}
 use Rattle.bridge_rules.proofs.FrameLaws.{len-inside, content-short}
 use Rattle.bridge_rules.proofs.Search.{cases}
 use Rattle.bridge_rules.proofs.Sound.{Sound, ReadyOk, ready-ok, slot-set-same, slot-set-other}

@@ -15,10 +15,13 @@ use Rattle.bus_rules.specs.Ident.{idOf, idFrom}
 use Rattle.bus_rules.specs.Frames.{frameWith, content, req, rsp}
 use Rattle.bus_rules.specs.Holder.{serveOf, answerWith}
 use Rattle.bus_rules.specs.declared.Served.{Served}
-use Rattle.bridge_rules.specs.Model.{Frame, Lent, itsOwn, other, Call, opening, turn, frame, status, bytes, close, reset, read, isWrite, askDevice, contentNumber}
-use Rattle.bridge_rules.specs.Statement.{Run, Lawful, ShapedLent, Shaped, Transfer, Closing, Stands, isTurn, accepted, turns}
-use Rattle.bridge_rules.specs.Statement.{chunks, requestFrame, answer, ledger, matchesCall, Matches, Sent, Replied, Device, Timeline, Arrives, Own, range}
-use Rattle.bridge_rules.specs.Statement.{NotAfter, Meanwhile, Unwritten}
+use Rattle.bridge_rules.specs.State.{Frame}
+use Rattle.bridge_rules.specs.Opening.{read, isWrite, askDevice}
+use Rattle.bridge_rules.specs.Incoming.{contentNumber}
+use Rattle.bridge_rules.specs.Call.{Lent, itsOwn, other, Call, opening, turn, frame, status, bytes, close, reset}
+use Rattle.bridge_rules.specs.Run.{Run, Lawful, ShapedLent, Shaped, Transfer, Closing, Stands, isTurn, accepted, turns, chunks, answer, ledger}
+use Rattle.bridge_rules.specs.Replies.{requestFrame, matchesCall, Matches, Sent, Replied}
+use Rattle.bridge_rules.specs.Device.{Device, Timeline, Arrives, Own, range, NotAfter, Meanwhile, Unwritten}
 use Rattle.bridge_rules.specs.Examples.{directory, memory, holding, after, run, reply, before, DoneRead, alone, unchanging, AloneShows}
 use Rattle.bridge_rules.specs.Examples.{together, written, TogetherShows, restarted, writtenOnce, RestartedShows, torn, overwritten, TornShows}
 use Rattle.bridge_rules.specs.Examples.{forged, ForgedShows, late, slow, LateShows, silence, sendsOf, Reckonings, Examples}

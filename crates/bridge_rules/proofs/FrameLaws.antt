@@ -10,7 +10,8 @@ use lib.Seq.{take-take, take-append-seam}
 use Rattle.bus_rules.specs.Frames.{cmd, req, padded, content, frameWith}
 use Rattle.bus_rules.specs.Ident.{idOf, idKind}
 use Rattle.bus_rules.specs.Request.{request}
-use Rattle.bridge_rules.specs.Model.{Frame, Slot, outgoing, sentFrame, readFrame, writeFrame, chunkLen, asks, carries}
+use Rattle.bridge_rules.specs.State.{Frame, Slot, asks, carries}
+use Rattle.bridge_rules.specs.Turn.{outgoing, sentFrame, readFrame, writeFrame, chunkLen}
 use Rattle.bus_rules.proofs.IdentLaws.{kind-of-id}
 use Rattle.bridge_rules.proofs.ReadWrite.{asks-alone}
 

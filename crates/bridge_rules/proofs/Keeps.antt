@@ -10,11 +10,14 @@ use lib.ListN.{length, replicate}
 use lib.Dec.{eqb}
 use borrow.Author.Tests.{ne-eqb, le-ltb}
 use Rattle.wire.specs.Order.{_if_else_, _orElse_}
-use Rattle.bridge_rules.specs.Model.{Frame, Bridge, Ask, Call, Result, itsOwn, other, opening, turn, frame, status, bytes, close, reset, from}
-use Rattle.bridge_rules.specs.Model.{heldSlot, openNumber, openOf, nextReady, agedBridge, sendFor, turnOf, replyNumber, frameOf}
-use Rattle.bridge_rules.specs.Model.{closeNumber, closeOf, resetNumber, resetOf, bytesOf, bytesNumber, step, unless, changedBy, keeping, plain}
-use Rattle.bridge_rules.specs.Model.{lentNumber, lentList, fresh, noSpan, slotSpan, spanOf, statusOf, sound}
-use Rattle.bridge_rules.specs.Statement.{state, buffer, answer}
+use Rattle.bridge_rules.specs.State.{Frame, Bridge, from, heldSlot, nextReady, fresh, sound}
+use Rattle.bridge_rules.specs.Answers.{Result, unless, changedBy, plain, lentNumber}
+use Rattle.bridge_rules.specs.Opening.{Ask, openNumber, openOf}
+use Rattle.bridge_rules.specs.Turn.{agedBridge, sendFor, turnOf}
+use Rattle.bridge_rules.specs.Incoming.{replyNumber, frameOf}
+use Rattle.bridge_rules.specs.Ending.{closeNumber, closeOf, resetNumber, resetOf, bytesOf, bytesNumber, noSpan, slotSpan, spanOf, statusOf}
+use Rattle.bridge_rules.specs.Call.{Call, itsOwn, other, opening, turn, frame, status, bytes, close, reset, step, keeping, lentList}
+use Rattle.bridge_rules.specs.Run.{state, buffer, answer}
 use Rattle.bridge_rules.specs.Calls.{KeepsSound, ResetFresh, UnsoundRefused, RefusalsKeep}
 use Rattle.bridge_rules.proofs.Sound.{Sound, sound-true, true-sound}
 use Rattle.bridge_rules.proofs.Status.{span-number}

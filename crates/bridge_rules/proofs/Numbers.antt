@@ -14,13 +14,15 @@ use Rattle.bus_rules.specs.Ident.{idSpare, idTo, idKind}
 use Rattle.wire.specs.Order.{_if_else_, _orElse_}
 use Rattle.wire.specs.First.{First, Zero}
 use Rattle.wire.proofs.Orders.{if-zero, else-zero}
-use Rattle.bridge_rules.specs.Model.{askNumber, roomNumber, resetNumber, bytes, bytesOf, spanOf, bytesNumber}
-use Rattle.bridge_rules.specs.Model.{Frame, turn, frame, close, reset, waiting, isWrite, turnOf, agedBridge, nextReady, lentNumber, frameOf}
-use Rattle.bridge_rules.specs.Model.{replyNumber, closeOf, closeNumber, heldSlot, resetOf, contentNumber, awaits, awaiting, Bridge, free}
-use Rattle.bridge_rules.specs.Model.{Ask, Call, Lent, Result, itsOwn, other, opening, askDevice, askTable, askOffset, askCount, slot, sound}
-use Rattle.bridge_rules.specs.Model.{isFree, isNone, lowestFree, openNumber, openOf, step, unless, plain}
-use Rattle.bridge_rules.specs.Statement.{Replied, ticket, Run, Lawful, Shaped, Transfer, Stands, slotOf, state, buffer, answer, accepted}
-use Rattle.bridge_rules.specs.Statement.{ledger}
+use Rattle.bridge_rules.specs.State.{askNumber, Frame, waiting, nextReady, heldSlot, Bridge, free, slot, sound, isFree, isNone, lowestFree}
+use Rattle.bridge_rules.specs.Answers.{lentNumber, Result, unless, plain}
+use Rattle.bridge_rules.specs.Opening.{roomNumber, isWrite, Ask, askDevice, askTable, askOffset, askCount, openNumber, openOf}
+use Rattle.bridge_rules.specs.Turn.{turnOf, agedBridge}
+use Rattle.bridge_rules.specs.Incoming.{frameOf, replyNumber, contentNumber, awaits, awaiting}
+use Rattle.bridge_rules.specs.Ending.{resetNumber, bytesOf, spanOf, bytesNumber, closeOf, closeNumber, resetOf}
+use Rattle.bridge_rules.specs.Call.{bytes, turn, frame, close, reset, Call, Lent, itsOwn, other, opening, step}
+use Rattle.bridge_rules.specs.Run.{ticket, Run, Lawful, Shaped, Transfer, Stands, slotOf, state, buffer, answer, accepted, ledger}
+use Rattle.bridge_rules.specs.Replies.{Replied}
 use Rattle.bridge_rules.specs.Calls.{FrameInRun, NumbersInRun, NumbersInRuns, OpeningNumber, OpeningNumbers, OpeningInRun, Acceptable, OpensExactly}
 use Rattle.bridge_rules.proofs.Refusals.{OpenFacts, open-facts, open-lent, lent-clear, lent-ten, open-later, open-ten, reply-later, reply-ten}
 use Rattle.bridge_rules.proofs.ReadWrite.{read-of}

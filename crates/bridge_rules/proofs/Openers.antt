@@ -6,13 +6,20 @@ use Rattle.bus_rules.specs.Request.{request, requestOf, reserved}
 use Rattle.bus_rules.specs.Holder.{sizeOf, rightOf, startOf, totalOf, soundTables, soundDirectory, directoryNumber, lengthNumber, memoryNumber, byKind, commandNumber}
 use Rattle.bus_rules.specs.Holder.{requestNumber, queryNumber, byteOf, requestAt, reservedAt, kindNumber, serveNumber, noAnswer, answerWith, replyTo}
 use Rattle.bus_rules.specs.Holder.{placeOf, protocol, actOf, memoryAct, servedBy, memoryBy, serveOf, memoryOf}
-use Rattle.bridge_rules.specs.Model.{asks, carries, askNumber, slot, fresh, soundPhase, soundSlot, soundSlots, absent, distinct, sound}
-use Rattle.bridge_rules.specs.Model.{firstSlot, lowestFree, heldSlot, nextReady, lentNumber, roomNumber, openNumber, opened, openOf}
-use Rattle.bridge_rules.specs.Model.{ticked, aged, agedBridge, chunkLen, readFrame, outgoing, writeFrame, sentFrame, advanced, requested}
-use Rattle.bridge_rules.specs.Model.{sentSlot, sendFor, turnOf, contentNumber, awaits, awaiting, replyNumber, frameOf, phaseNumber}
-use Rattle.bridge_rules.specs.Model.{ticketNumber, statusOf, bytesNumber, slotSpan, spanOf, bytesOf, closeNumber, closeOf, resetNumber, resetOf}
-use Rattle.bridge_rules.specs.Model.{step}
-use Rattle.bridge_rules.specs.Statement.{storage, accepted, turns, slotOf, commandFrame, requestFrame, matchesFrame, range, join, ledger, firstGivable}
+use Rattle.bridge_rules.specs.State.{asks, carries, askNumber, slot, fresh, soundPhase, soundSlot, soundSlots, absent, distinct, sound, firstSlot}
+use Rattle.bridge_rules.specs.State.{lowestFree, heldSlot, nextReady}
+use Rattle.bridge_rules.specs.Answers.{lentNumber}
+use Rattle.bridge_rules.specs.Opening.{roomNumber, openNumber, opened, openOf}
+use Rattle.bridge_rules.specs.Turn.{ticked, aged, agedBridge, chunkLen, readFrame, outgoing, writeFrame, sentFrame, advanced, requested, sentSlot}
+use Rattle.bridge_rules.specs.Turn.{sendFor, turnOf}
+use Rattle.bridge_rules.specs.Incoming.{contentNumber, awaits, awaiting, replyNumber, frameOf}
+use Rattle.bridge_rules.specs.Ending.{phaseNumber, ticketNumber, statusOf, bytesNumber, slotSpan, spanOf, bytesOf, closeNumber, closeOf, resetNumber}
+use Rattle.bridge_rules.specs.Ending.{resetOf}
+use Rattle.bridge_rules.specs.Call.{step}
+use Rattle.bridge_rules.specs.Run.{storage, accepted, turns, slotOf, ledger, firstGivable}
+use Rattle.bridge_rules.specs.Replies.{commandFrame, requestFrame, matchesFrame}
+use Rattle.bridge_rules.specs.Device.{range}
+use Rattle.bridge_rules.specs.Demand3.{join}
 
 unfoldable pub frames : Unit {0}
 unfolding _if_else_ _orElse_ idOf idOffset idKind idFrom idTo idTable idSpare padded content frameWith noFrame headNumber

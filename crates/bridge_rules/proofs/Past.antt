@@ -10,10 +10,14 @@ use native.Mathlib.Decide.{ℕ-discrete, decLt}
 use lib.ListN.{length, getD}
 use lib.Seq.{sets}
 use Rattle.bus_rules.specs.Frames.{content}
-use Rattle.bridge_rules.specs.Model.{Frame, Slot, ready, waiting, done, gaveUp, Call, itsOwn, turn, frame, aged, advanced, sentSlot, sentFrame}
-use Rattle.bridge_rules.specs.Model.{awaits, contentNumber, isWrite, askCount, isWaiting, asks}
-use Rattle.bridge_rules.specs.Statement.{Run, state, buffer, answer, Lawful, Shaped, Transfer, slotOf, Stands, accepted, turns, lenOf}
-use Rattle.bridge_rules.specs.Statement.{place, Sent, Matches, Replied, Failed, brought}
+use Rattle.bridge_rules.specs.State.{Frame, Slot, ready, waiting, done, gaveUp, isWaiting, asks}
+use Rattle.bridge_rules.specs.Opening.{isWrite, askCount}
+use Rattle.bridge_rules.specs.Turn.{aged, advanced, sentSlot, sentFrame}
+use Rattle.bridge_rules.specs.Incoming.{awaits, contentNumber}
+use Rattle.bridge_rules.specs.Call.{Call, itsOwn, turn, frame}
+use Rattle.bridge_rules.specs.Run.{Run, state, buffer, answer, Lawful, Shaped, Transfer, slotOf, Stands, accepted, turns, lenOf}
+use Rattle.bridge_rules.specs.Replies.{place, Sent, Matches, Replied, Failed}
+use Rattle.bridge_rules.specs.Demand3.{brought}
 use Rattle.bridge_rules.proofs.ReadWrite.{asks-of, read-of}
 use Rattle.bridge_rules.proofs.FrameLaws.{len-eight, len-inside, len-small, content-length}
 use Rattle.bridge_rules.proofs.Sound.{Same, ReadyOk, aged-same, advanced-same, sent-same, advanced-more, advanced-done, sent-read}

@@ -5,7 +5,8 @@ use mathlib.Core.Logic.{_⊎_, inl, inr}
 use mathlib.Core.Bool.{Bool, true, false, _||_, false≢true, true≢false}
 use native.Mathlib.Omega.{arith}
 use borrow.Author.Tests.{eqb-true, ne-eqb}
-use Rattle.bridge_rules.specs.Model.{reads, writes, asks, carries, Ask, read, write, isWrite, askKind}
+use Rattle.bridge_rules.specs.State.{reads, writes, asks, carries}
+use Rattle.bridge_rules.specs.Opening.{Ask, read, write, isWrite, askKind}
 
 -- a kind of the two that there are
 abbrev pub Told : ℕ → Type 0

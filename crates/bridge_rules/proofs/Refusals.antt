@@ -7,8 +7,10 @@ use native.Mathlib.Omega.{arith}
 use borrow.Author.Tests.{eqb-true, eqb-false, eq-eqb, ne-eqb, le-ltb, ltb-false, leb-false, not-false}
 use Rattle.wire.specs.Order.{_if_else_, _orElse_}
 use Rattle.wire.proofs.Orders.{if-zero, else-zero, else-some}
-use Rattle.bridge_rules.specs.Model.{Frame, Bridge, Ask, askDevice, askTable, askOffset, askCount, askNumber, sound, isNone, lowestFree}
-use Rattle.bridge_rules.specs.Model.{lentNumber, roomNumber, openNumber, contentNumber, awaiting, replyNumber}
+use Rattle.bridge_rules.specs.State.{Frame, Bridge, askNumber, sound, isNone, lowestFree}
+use Rattle.bridge_rules.specs.Answers.{lentNumber}
+use Rattle.bridge_rules.specs.Opening.{Ask, askDevice, askTable, askOffset, askCount, roomNumber, openNumber}
+use Rattle.bridge_rules.specs.Incoming.{contentNumber, awaiting, replyNumber}
 
 -- the first of two numbers, and the second
 pub else-first : (a b : ℕ) → a ≢ 0 → (a orElse b) ≡ a

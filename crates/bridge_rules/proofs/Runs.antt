@@ -11,11 +11,13 @@ use lib.Seq.{sets}
 use lib.Dec.{eqb}
 use borrow.Author.Tests.{eq-eqb}
 use Rattle.bus_rules.specs.Frames.{content}
-use Rattle.bridge_rules.specs.Model.{Frame, ready, done, isFree, Bridge, Slot, Ask, Call, Lent, Result, itsOwn, opening, turn, frame, close, reset}
-use Rattle.bridge_rules.specs.Model.{askKind, askDevice, askTable, askOffset, askCount, askGiven, slot, aged, advanced, sentSlot, sentFrame}
-use Rattle.bridge_rules.specs.Model.{opened, awaits, contentNumber, step}
-use Rattle.bridge_rules.specs.Statement.{Run, storage, state, buffer, answer, Lawful, Transfer, ticket, slotOf, Closing, Stands, accepted}
-use Rattle.bridge_rules.specs.Statement.{ledger}
+use Rattle.bridge_rules.specs.State.{Frame, ready, done, isFree, Bridge, Slot, slot}
+use Rattle.bridge_rules.specs.Answers.{Result}
+use Rattle.bridge_rules.specs.Opening.{Ask, askKind, askDevice, askTable, askOffset, askCount, askGiven, opened}
+use Rattle.bridge_rules.specs.Turn.{aged, advanced, sentSlot, sentFrame}
+use Rattle.bridge_rules.specs.Incoming.{awaits, contentNumber}
+use Rattle.bridge_rules.specs.Call.{Call, Lent, itsOwn, opening, turn, frame, close, reset, step}
+use Rattle.bridge_rules.specs.Run.{Run, storage, state, buffer, answer, Lawful, Transfer, ticket, slotOf, Closing, Stands, accepted, ledger}
 use Rattle.bridge_rules.proofs.Search.{Lowest}
 use Rattle.bridge_rules.proofs.Sound.{SlotOk, okFree, okReady, okWaiting, okDone, okGaveUp, held-free, Sound, Same, same-refl, ReadyOk, aged-same, advanced-same, sent-same}
 use Rattle.bridge_rules.proofs.Sound.{slot-set-same, no-ticket}

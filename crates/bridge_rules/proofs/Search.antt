@@ -9,7 +9,8 @@ use native.Mathlib.Nat.{add-suc, suc-add, add-zero}
 use native.Mathlib.Omega.{arith}
 use lib.Dec.{eqb}
 use borrow.Author.Tests.{eqb-true, eqb-false}
-use Rattle.bridge_rules.specs.Model.{Bridge, Result, firstSlot, unless, plain}
+use Rattle.bridge_rules.specs.State.{Bridge, firstSlot}
+use Rattle.bridge_rules.specs.Answers.{Result, unless, plain}
 
 -- where a search ends: at distance d, with every test before it failed
 pub record Found (p : ℕ → Bool) (start fuel k : ℕ) : Type 0 where

@@ -11,10 +11,13 @@ use lib.Dec.{eqb}
 use borrow.Author.Tests.{eqb-true, eq-eqb}
 use Rattle.bus_rules.specs.Frames.{cmd, req}
 use Rattle.bus_rules.specs.Ident.{idOf, idTable, idFrom, idOffset}
-use Rattle.bridge_rules.specs.Model.{Frame, Slot, waiting, Call, itsOwn, other, opening, turn, frame, status, bytes, close, reset, sentFrame}
-use Rattle.bridge_rules.specs.Model.{readFrame, chunkLen, contentNumber, askDevice, askTable, askOffset, askCount, isWaiting, asks, carries}
-use Rattle.bridge_rules.specs.Statement.{Run, state, buffer, Lawful, ledger, Transfer, slotOf, chunks, lenOf, place, requestFrame}
-use Rattle.bridge_rules.specs.Statement.{matchesFrame, matchesCall, Matches}
+use Rattle.bridge_rules.specs.State.{Frame, Slot, waiting, isWaiting, asks, carries}
+use Rattle.bridge_rules.specs.Opening.{askDevice, askTable, askOffset, askCount}
+use Rattle.bridge_rules.specs.Turn.{sentFrame, readFrame, chunkLen}
+use Rattle.bridge_rules.specs.Incoming.{contentNumber}
+use Rattle.bridge_rules.specs.Call.{Call, itsOwn, other, opening, turn, frame, status, bytes, close, reset}
+use Rattle.bridge_rules.specs.Run.{Run, state, buffer, Lawful, ledger, Transfer, slotOf, chunks, lenOf}
+use Rattle.bridge_rules.specs.Replies.{place, requestFrame, matchesFrame, matchesCall, Matches}
 use Rattle.bridge_rules.proofs.ReadWrite.{asks-alone}
 use Rattle.bridge_rules.proofs.FrameLaws.{kinds-apart, id-of, reply-byte, read-is, write-is}
 use Rattle.bridge_rules.proofs.Search.{some-eq, and-true}

@@ -9,11 +9,15 @@ use lib.ListN.{length, take, drop, getD, length-take, length-drop}
 use lib.Seq.{take-add, getD-take, getD-drop, drop-drop, ext-getD}
 use lib.Dec.{eqb}
 use borrow.Author.Tests.{eqb-true, eq-eqb, ne-eqb}
-use Rattle.bridge_rules.specs.Model.{Bridge, Slot, free, ready, waiting, done, gaveUp, Call, itsOwn, frame, slot, chunkLen, plain}
-use Rattle.bridge_rules.specs.Model.{Answer, partOf, slotSpan}
-use Rattle.bridge_rules.specs.Model.{isWrite, askCount, asks, carries}
-use Rattle.bridge_rules.specs.Statement.{Run, state, buffer, Lawful, Shaped, Transfer, slotOf, Stands, chunks, lenOf, place, Matches, Replied}
-use Rattle.bridge_rules.specs.Statement.{brought, join, showing, statusAt, shownAt}
+use Rattle.bridge_rules.specs.State.{Bridge, Slot, free, ready, waiting, done, gaveUp, slot, asks, carries}
+use Rattle.bridge_rules.specs.Answers.{plain, Answer}
+use Rattle.bridge_rules.specs.Opening.{isWrite, askCount}
+use Rattle.bridge_rules.specs.Turn.{chunkLen}
+use Rattle.bridge_rules.specs.Ending.{partOf, slotSpan}
+use Rattle.bridge_rules.specs.Call.{Call, itsOwn, frame}
+use Rattle.bridge_rules.specs.Run.{Run, state, buffer, Lawful, Shaped, Transfer, slotOf, Stands, chunks, lenOf, statusAt, shownAt}
+use Rattle.bridge_rules.specs.Replies.{place, Matches, Replied}
+use Rattle.bridge_rules.specs.Demand3.{brought, join, showing}
 use Rattle.bridge_rules.proofs.ReadWrite.{carries-of, carries-alone}
 use Rattle.bridge_rules.proofs.FrameLaws.{len-eight, len-inside, content-length}
 use Rattle.bridge_rules.proofs.Sound.{SlotOk, okFree, okReady, okWaiting, okDone, okGaveUp}

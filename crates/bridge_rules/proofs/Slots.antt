@@ -10,11 +10,13 @@ use native.Mathlib.Decide.{ℕ-discrete, decLt}
 use lib.Dec.{ltb, eqb}
 use borrow.Author.Tests.{eqb-true, not-true}
 use Rattle.wire.specs.Order.{_if_else_}
-use Rattle.bridge_rules.specs.Model.{Frame, Bridge, Slot, free, ready, Call, Result, itsOwn, opening, frame, close, reset, blank, slot}
-use Rattle.bridge_rules.specs.Model.{fresh, aged, sentFrame, agedBridge, sendFor, isFree, isWaiting, lowestFree, heldSlot, closeNumber}
-use Rattle.bridge_rules.specs.Model.{closeOf, resetOf, resetNumber, step, sound}
-use Rattle.bridge_rules.specs.Statement.{ledger, Run, storage, state, buffer, answer, Lawful, Transfer, ticket, slotOf, Closing, Stands, Places}
-use Rattle.bridge_rules.specs.Statement.{accepted, isTurn}
+use Rattle.bridge_rules.specs.State.{Frame, Bridge, Slot, free, ready, blank, slot, fresh, isFree, isWaiting, lowestFree, heldSlot, sound}
+use Rattle.bridge_rules.specs.Answers.{Result}
+use Rattle.bridge_rules.specs.Turn.{aged, sentFrame, agedBridge, sendFor}
+use Rattle.bridge_rules.specs.Ending.{closeNumber, closeOf, resetOf, resetNumber}
+use Rattle.bridge_rules.specs.Call.{Call, itsOwn, opening, frame, close, reset, step}
+use Rattle.bridge_rules.specs.Run.{ledger, Run, storage, state, buffer, answer, Lawful, Transfer, ticket, slotOf, Closing, Stands, accepted, isTurn}
+use Rattle.bridge_rules.specs.Demand3.{Places}
 use Rattle.bridge_rules.proofs.Search.{some-eq, none-some, cases, Lowest, lowest-some, and-true, option-cases}
 use Rattle.bridge_rules.proofs.Sound.{held-free, Sound, sound-true, slot-set-same, ReadyOk, ready-ok, aged-other, aged-same}
 use Rattle.bridge_rules.proofs.CallKinds.{Kind, nothing, opens, sends, idles, takes, closes, resets, heldBy, slot-aged, aged-sound}

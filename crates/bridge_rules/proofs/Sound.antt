@@ -11,9 +11,9 @@ use lib.ListN.{length, getD, set, length-set}
 use lib.Seq.{getD-set-same, getD-set-other}
 use lib.Dec.{leb, ltb, eqb}
 use borrow.Author.Tests.{not-true, eqb-true, eqb-false, ne-eqb, eq-eqb, lt-ltb, le-ltb, le-leb, lt-leb, ltb-true, leb-true}
-use Rattle.bridge_rules.specs.Model.{isZero, Bridge, Slot, free, ready, waiting, done, gaveUp, blank, slot, sound, soundPhase, soundSlot}
-use Rattle.bridge_rules.specs.Model.{soundSlots, absent, distinct, askNumber, ticked, aged, advanced, requested, sentSlot, isReady, isWaiting}
-use Rattle.bridge_rules.specs.Model.{isFree, asks, carries, moved, partway}
+use Rattle.bridge_rules.specs.State.{isZero, Bridge, Slot, free, ready, waiting, done, gaveUp, blank, slot, sound, soundPhase, soundSlot, soundSlots}
+use Rattle.bridge_rules.specs.State.{absent, distinct, askNumber, isReady, isWaiting, isFree, asks, carries, moved, partway}
+use Rattle.bridge_rules.specs.Turn.{ticked, aged, advanced, requested, sentSlot}
 use Rattle.bridge_rules.specs.Calls.{SoundNumbers}
 use Rattle.bridge_rules.proofs.ReadWrite.{Told, carries-alone, kinds-clash, told-test, test-told, told-small}
 use Rattle.bridge_rules.proofs.Refusals.{LawfulArgs, args-lawful, args-clear}

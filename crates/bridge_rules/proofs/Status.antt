@@ -11,9 +11,12 @@ use lib.ListN.{length}
 use lib.Dec.{eqb}
 use borrow.Author.Tests.{eqb-true, eq-eqb}
 use Rattle.wire.specs.Order.{_if_else_}
-use Rattle.bridge_rules.specs.Model.{itsOwn, status, bytes, Bridge, done, gaveUp, slot, isFree, heldSlot, phaseNumber, ticketNumber, step}
-use Rattle.bridge_rules.specs.Model.{statusOf, bytesOf, bytesNumber, asks, noSpan, slotSpan, spanOf, partOf, plain, sound}
-use Rattle.bridge_rules.specs.Statement.{Run, state, buffer, Lawful, Transfer, ticket, slotOf, Stands, statusAt, shownAt, showing}
+use Rattle.bridge_rules.specs.State.{Bridge, done, gaveUp, slot, isFree, heldSlot, asks, sound}
+use Rattle.bridge_rules.specs.Answers.{plain}
+use Rattle.bridge_rules.specs.Ending.{phaseNumber, ticketNumber, statusOf, bytesOf, bytesNumber, noSpan, slotSpan, spanOf, partOf}
+use Rattle.bridge_rules.specs.Call.{itsOwn, status, bytes, step}
+use Rattle.bridge_rules.specs.Run.{Run, state, buffer, Lawful, Transfer, ticket, slotOf, Stands, statusAt, shownAt}
+use Rattle.bridge_rules.specs.Demand3.{showing}
 use Rattle.bridge_rules.proofs.Search.{cases, Lowest, lowest-some, lowest-none, and-true}
 use Rattle.bridge_rules.proofs.Sound.{held-free, Sound, sound-true}
 use Rattle.bridge_rules.proofs.CallKinds.{heldBy}

@@ -11,10 +11,12 @@ use lib.ListN.{length, getD, set, replicate, length-set, length-map}
 use lib.Seq.{getD-set-same, getD-set-other}
 use lib.Dec.{ltb, eqb}
 use borrow.Author.Tests.{ne-eqb, eq-eqb, lt-ltb, le-ltb}
-use Rattle.bridge_rules.specs.Model.{Bridge, Slot, Answer, Call, Result, plain, itsOwn, opening, turn, frame, status, bytes, close, reset, blank, slot}
-use Rattle.bridge_rules.specs.Model.{fresh, aged, opened, agedBridge, sendFor, step}
-use Rattle.bridge_rules.specs.Statement.{Run, storage, state, buffer, answer, Lawful, accepted, turns, Ledger, newLedger, firstGivable, noted}
-use Rattle.bridge_rules.specs.Statement.{ledger}
+use Rattle.bridge_rules.specs.State.{Bridge, Slot, blank, slot, fresh}
+use Rattle.bridge_rules.specs.Answers.{Answer, Result, plain}
+use Rattle.bridge_rules.specs.Opening.{opened}
+use Rattle.bridge_rules.specs.Turn.{aged, agedBridge, sendFor}
+use Rattle.bridge_rules.specs.Call.{Call, itsOwn, opening, turn, frame, status, bytes, close, reset, step}
+use Rattle.bridge_rules.specs.Run.{Run, storage, state, buffer, answer, Lawful, accepted, turns, Ledger, newLedger, firstGivable, noted, ledger}
 use Rattle.bridge_rules.proofs.Search.{cases, Lowest}
 use Rattle.bridge_rules.proofs.Sound.{Sound, aged-same, advanced-same, sent-same, slot-set-same, slot-set-other, no-ticket, has-ticket}
 use Rattle.bridge_rules.proofs.CallKinds.{Kind, nothing, opens, sends, idles, takes, closes, resets, kind, kind-sound, fresh-sound}

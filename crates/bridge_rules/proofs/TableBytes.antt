@@ -13,11 +13,15 @@ use Rattle.bus_rules.specs.Holder.{startOf, requestAt, placeOf, answerWith, ser
 use Rattle.bus_rules.specs.Ident.{idOf, idOffset, idKind, idFrom, idTable}
 use Rattle.bus_rules.specs.Request.{request}
 use Rattle.bus_rules.specs.declared.Directory.{Directory}
-use Rattle.bridge_rules.specs.Model.{Frame, Slot, done, opening, aged, sentFrame, chunkLen, contentNumber, askDevice, askTable, askOffset, askCount, asks}
-use Rattle.bridge_rules.specs.Model.{carries}
-use Rattle.bridge_rules.specs.Statement.{Arrives, Sent, Run, state, buffer, Lawful, Transfer, slotOf, Stands, lenOf, Replied, brought}
-use Rattle.bridge_rules.specs.Statement.{showing, shownAt, Done, Device, Timeline, range, Own, NotAfter, Meanwhile, Arrivals, Unwritten}
-use Rattle.bridge_rules.specs.Statement.{Premises}
+use Rattle.bridge_rules.specs.State.{Frame, Slot, done, asks, carries}
+use Rattle.bridge_rules.specs.Opening.{askDevice, askTable, askOffset, askCount}
+use Rattle.bridge_rules.specs.Turn.{aged, sentFrame, chunkLen}
+use Rattle.bridge_rules.specs.Incoming.{contentNumber}
+use Rattle.bridge_rules.specs.Call.{opening}
+use Rattle.bridge_rules.specs.Run.{Run, state, buffer, Lawful, Transfer, slotOf, Stands, lenOf, shownAt, Done}
+use Rattle.bridge_rules.specs.Replies.{Sent, Replied}
+use Rattle.bridge_rules.specs.Device.{Arrives, Device, Timeline, range, Own, NotAfter, Meanwhile, Arrivals, Unwritten, Premises}
+use Rattle.bridge_rules.specs.Demand3.{brought, showing}
 use Rattle.bridge_rules.specs.Corollaries.{SinceTaken}
 use Rattle.bridge_rules.proofs.ReadWrite.{read-of}
 use Rattle.bus_rules.proofs.IdentLaws.{offset-of-id, kind-of-id, table-of-id}

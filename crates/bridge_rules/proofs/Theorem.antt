@@ -7,9 +7,13 @@ use mathlib.Core.Bool.{true, false}
 use native.Mathlib.Omega.{arith}
 use native.Mathlib.Decide.{decLt}
 use lib.ListN.{length, getD, List·getD-eq-default}
-use Rattle.bridge_rules.specs.Model.{Slot, free, ready, waiting, done, gaveUp, Answer, Call, status, isWrite}
-use Rattle.bridge_rules.specs.Statement.{Run, state, buffer, After, Lawful, Shaped, Transfer, Stands, turns, chunks, Replied, ThreeFailed}
-use Rattle.bridge_rules.specs.Statement.{AllWritten, statusAt, Claims, ReadClaims, runOf, Demand3}
+use Rattle.bridge_rules.specs.State.{Slot, free, ready, waiting, done, gaveUp}
+use Rattle.bridge_rules.specs.Answers.{Answer}
+use Rattle.bridge_rules.specs.Opening.{isWrite}
+use Rattle.bridge_rules.specs.Call.{Call, status}
+use Rattle.bridge_rules.specs.Run.{Run, state, buffer, Lawful, Shaped, Transfer, Stands, turns, chunks, statusAt}
+use Rattle.bridge_rules.specs.Replies.{Replied, ThreeFailed, AllWritten}
+use Rattle.bridge_rules.specs.Demand3.{After, Claims, ReadClaims, runOf, Demand3}
 use Rattle.bridge_rules.specs.Calls.{Calls}
 use Rattle.bridge_rules.proofs.ReadWrite.{read-of}
 use Rattle.bridge_rules.proofs.Sound.{sound-numbers, SlotOk, okFree, okReady, okWaiting, okDone, okGaveUp}

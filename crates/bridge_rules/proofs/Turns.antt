@@ -11,9 +11,11 @@ use lib.ListN.{length, take, drop, length-take, length-drop}
 use Rattle.bus_rules.specs.Frames.{cmd, req, frameWith}
 use Rattle.bus_rules.specs.Ident.{idOf}
 use Rattle.bus_rules.specs.Request.{request}
-use Rattle.bridge_rules.specs.Model.{Frame, Bridge, Slot, ready, Result, itsOwn, turn, slot, sound, aged, sentFrame, isReady, nextReady}
-use Rattle.bridge_rules.specs.Model.{agedBridge, sendFor, turnOf, step, lentNumber, chunkLen}
-use Rattle.bridge_rules.specs.Statement.{Transfer}
+use Rattle.bridge_rules.specs.State.{Frame, Bridge, Slot, ready, slot, sound, isReady, nextReady}
+use Rattle.bridge_rules.specs.Answers.{Result, lentNumber}
+use Rattle.bridge_rules.specs.Turn.{aged, sentFrame, agedBridge, sendFor, turnOf, chunkLen}
+use Rattle.bridge_rules.specs.Call.{itsOwn, turn, step}
+use Rattle.bridge_rules.specs.Run.{Transfer}
 use Rattle.bridge_rules.specs.Calls.{FirstReady, NextBytes, TurnYields, TurnSends, SendsForTransfers}
 use Rattle.bridge_rules.proofs.Refusals.{lent-ok, lent-clear}
 use Rattle.bridge_rules.proofs.ReadWrite.{Told, asks-of}

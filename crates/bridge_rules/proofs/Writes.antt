@@ -11,10 +11,11 @@ use lib.ListN.{length, take, drop, getD, length-take, length-drop}
 use lib.Seq.{getD-take, getD-drop, ext-getD}
 use lib.Dec.{eqb}
 use borrow.Author.Tests.{eq-eqb, ne-eqb}
-use Rattle.bridge_rules.specs.Model.{outgoing, Slot, done, Ask, read, write, aged, sentSlot, sentFrame, writeFrame, opened, isWrite, askDevice}
-use Rattle.bridge_rules.specs.Model.{askTable, askOffset, askCount, askGiven, carries}
-use Rattle.bridge_rules.specs.Statement.{Run, storage, state, buffer, answer, Lawful, Transfer, slotOf, Stands, accepted, chunks, lenOf}
-use Rattle.bridge_rules.specs.Statement.{commandFrame, Wrote, AllWritten}
+use Rattle.bridge_rules.specs.State.{Slot, done, carries}
+use Rattle.bridge_rules.specs.Opening.{Ask, read, write, opened, isWrite, askDevice, askTable, askOffset, askCount, askGiven}
+use Rattle.bridge_rules.specs.Turn.{outgoing, aged, sentSlot, sentFrame, writeFrame}
+use Rattle.bridge_rules.specs.Run.{Run, storage, state, buffer, answer, Lawful, Transfer, slotOf, Stands, accepted, chunks, lenOf}
+use Rattle.bridge_rules.specs.Replies.{commandFrame, Wrote, AllWritten}
 use Rattle.bridge_rules.proofs.ReadWrite.{kinds-clash, carries-of}
 use Rattle.bridge_rules.proofs.FrameLaws.{len-inside}
 use Rattle.bridge_rules.proofs.Search.{none-some}

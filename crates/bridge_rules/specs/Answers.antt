@@ -1,11 +1,48 @@
--- What each call of the code hands back, of what the model's gives.
-use mathlib.Core.Option.{Option, none, some}
+-- What a call answers, and what the code's calls hand back of it.
+-- what a call answers: a number, an opening's ticket, a turn's frame, the bytes call's part
 use Prim.Native.Nat.{ℕ}
+use mathlib.Core.List.{List, []}
+use mathlib.Core.Option.{Option, none, some}
+use mathlib.Core.Bool.{cond, not}
+use lib.Dec.{eqb}
+use Rattle.wire.specs.Order.{_if_else_}
 use Rattle.bus_rules.specs.Holder.{noAnswer}
-pub use Rattle.bus_rules.specs.declared.Served.{Served}
-use Rattle.bridge_rules.specs.Model.{Frame, Result}
+use Rattle.bus_rules.specs.declared.Frame.{Frame}
+use Rattle.bridge_rules.specs.declared.Bridge.{Bridge}
+pub use Rattle.bridge_rules.specs.declared.Changed.{Changed}
 pub use Rattle.bridge_rules.specs.declared.Opened.{Opened}
 pub use Rattle.bridge_rules.specs.declared.Stepped.{Stepped}
+pub use Rattle.bus_rules.specs.declared.Served.{Served}
+use Rattle.bridge_rules.specs.State.{sound}
+
+pub record Answer : Type 0 where
+  pub number : ℕ
+  pub ticket : ℕ
+  pub sent : Option Frame
+  pub shown : List ℕ
+
+-- an answer with the state and the buffer after the call
+pub record Result : Type 0 where
+  pub answer : Answer
+  pub state : Bridge
+  pub buffer : List ℕ
+
+-- a number alone
+abbrev pub plain : ℕ → Answer
+plain n = record { number = n; ticket = 0; sent = none; shown = [] }
+
+-- a refusal leaves state and lent memory unchanged and yields no frame; every other number in it is 0
+abbrev pub unless : ℕ → Result → Bridge → List ℕ → Result
+unless n r s b = cond (eqb n 0) r (record { answer = plain n; state = s; buffer = b })
+
+-- the same of a call that takes no buffer
+abbrev pub changedBy : ℕ → Bridge → Bridge → Changed
+changedBy n after before = record { bridge = cond (eqb n 0) after before; number = n }
+
+-- 11: state unsound; 10: lent memory of wrong length. A lent buffer of exactly 512 bytes; n is its length
+unfoldable pub lentNumber : Bridge → ℕ → ℕ
+lentNumber s n = 11 if not (sound s) else 10 if not (eqb n 512) else 0
+
 
 -- an opening's state, ticket and number
 unfoldable pub openedOf : Result → Opened

@@ -10,10 +10,13 @@ use Rattle.bus_rules.specs.Frames.{cmd, req, rsp, frameWith}
 use Rattle.bus_rules.specs.Ident.{idOf, idSpare, idTo, idKind}
 use Rattle.bus_rules.specs.Request.{request}
 use Rattle.wire.specs.First.{First, Zero}
-use Rattle.bridge_rules.specs.Model.{Frame, Bridge, Slot, free, ready, asks, carries, Answer, Ask, Call, Lent, itsOwn, other, opening, turn, frame, bytes, close}
-use Rattle.bridge_rules.specs.Model.{reset, askDevice, askTable, askOffset, askCount, isWrite, slot, sound, aged, chunkLen, fresh, plain, step}
-use Rattle.bridge_rules.specs.Statement.{Replied, ticket, Run, Lawful, Transfer, Stands, slotOf, lastServed, answer, accepted, ledger}
-use Rattle.bridge_rules.specs.Statement.{chunks, requestFrame, commandFrame}
+use Rattle.bridge_rules.specs.State.{Frame, Bridge, Slot, free, ready, asks, carries, slot, sound, fresh}
+use Rattle.bridge_rules.specs.Answers.{Answer, plain}
+use Rattle.bridge_rules.specs.Opening.{Ask, askDevice, askTable, askOffset, askCount, isWrite}
+use Rattle.bridge_rules.specs.Turn.{aged, chunkLen}
+use Rattle.bridge_rules.specs.Call.{Call, Lent, itsOwn, other, opening, turn, frame, bytes, close, reset, step}
+use Rattle.bridge_rules.specs.Run.{ticket, Run, Lawful, Transfer, Stands, slotOf, answer, accepted, ledger, chunks}
+use Rattle.bridge_rules.specs.Replies.{Replied, lastServed, requestFrame, commandFrame}
 
 -- ── Sound states ───────────────────────────────────────────────────────────────────────────────────────────────────
 

@@ -2,9 +2,11 @@
 use Prim.Native.Nat.{ℕ, _≤_, _<_}
 use mathlib.Core.Path.{_≡_}
 use mathlib.Core.Bool.{false}
-use Rattle.bridge_rules.specs.Model.{isWrite}
-use Rattle.bridge_rules.specs.Statement.{Run, Lawful, Transfer, Stands, Done, GivenUp, shownAt, showing, Replied, Timeline, range, Arrivals}
-use Rattle.bridge_rules.specs.Statement.{Unwritten, Sent}
+use Rattle.bridge_rules.specs.Opening.{isWrite}
+use Rattle.bridge_rules.specs.Run.{Run, Lawful, Transfer, Stands, Done, GivenUp, shownAt}
+use Rattle.bridge_rules.specs.Replies.{Replied, Sent}
+use Rattle.bridge_rules.specs.Device.{Timeline, range, Arrivals, Unwritten}
+use Rattle.bridge_rules.specs.Demand3.{showing}
 
 -- ── What has ended stays so while it stands ────────────────────────────────────────────────────────────────────────
 

@@ -12,9 +12,13 @@ use Rattle.bus_rules.specs.Ident.{idOf}
 use Rattle.bus_rules.specs.Frames.{cmd, rsp, frameWith}
 use Rattle.bus_rules.specs.Holder.{memoryOf}
 use Rattle.bus_rules.specs.declared.Directory.{Directory}
-use Rattle.bridge_rules.specs.Model.{Frame, Call, itsOwn, opening, turn, frame, status, close, reset, read, write}
-use Rattle.bridge_rules.specs.Statement.{Run, Lawful, Transfer, Stands, Done, shownAt, showing, answer, answerTo, Sent, Device, Timeline}
-use Rattle.bridge_rules.specs.Statement.{range, Arrives, Own, Arrivals, Current, NotAfter, Meanwhile, Unwritten, Premises, runOf}
+use Rattle.bridge_rules.specs.State.{Frame}
+use Rattle.bridge_rules.specs.Opening.{read, write}
+use Rattle.bridge_rules.specs.Call.{Call, itsOwn, opening, turn, frame, status, close, reset}
+use Rattle.bridge_rules.specs.Run.{Run, Lawful, Transfer, Stands, Done, shownAt, answer, answerTo}
+use Rattle.bridge_rules.specs.Replies.{Sent}
+use Rattle.bridge_rules.specs.Device.{Device, Timeline, range, Arrives, Own, Arrivals, Current, NotAfter, Meanwhile, Unwritten, Premises}
+use Rattle.bridge_rules.specs.Demand3.{showing, runOf}
 
 -- device 5: table 7 has 16 bytes, 100 to 115, and all rights
 unfoldable pub directory : Directory

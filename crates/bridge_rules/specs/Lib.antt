@@ -1,6 +1,14 @@
-pub mod Model
+pub mod State
 pub mod Answers
-pub mod Statement
+pub mod Opening
+pub mod Turn
+pub mod Incoming
+pub mod Ending
+pub mod Call
+pub mod Run
+pub mod Replies
+pub mod Device
+pub mod Demand3
 pub mod Corollaries
 pub mod Calls
 pub mod Examples

@@ -1,8 +1,10 @@
 // The thin calls: turn, frame and close change the bridge in the caller's own storage.
 use bridge::Bridge;
 ghost use mathlib.Core.Path.{_≡_};
-ghost use Rattle.bridge_rules.specs.Model.{turnOf, frameOf, closeOf};
 ghost use Rattle.bridge_rules.specs.Answers.{steppedOf};
+ghost use Rattle.bridge_rules.specs.Turn.{turnOf};
+ghost use Rattle.bridge_rules.specs.Incoming.{frameOf};
+ghost use Rattle.bridge_rules.specs.Ending.{closeOf};
 
 #[no_mangle]
 pub extern "C" fn hg_turn_in_place(b: &mut Bridge, buffer: &[u8]) -> bus::Served

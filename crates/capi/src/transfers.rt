@@ -7,8 +7,11 @@ use bridge::Stepped;
 ghost use mathlib.Core.Path.{_≡_};
 ghost use Prim.Native.Nat.{_+_, _≤_};
 ghost use lib.ListN.{length};
-ghost use Rattle.bridge_rules.specs.Model.{read, write, openOf, turnOf, frameOf, statusOf, spanOf, closeOf, resetOf};
 ghost use Rattle.bridge_rules.specs.Answers.{openedOf, steppedOf};
+ghost use Rattle.bridge_rules.specs.Opening.{read, write, openOf};
+ghost use Rattle.bridge_rules.specs.Turn.{turnOf};
+ghost use Rattle.bridge_rules.specs.Incoming.{frameOf};
+ghost use Rattle.bridge_rules.specs.Ending.{statusOf, spanOf, closeOf, resetOf};
 
 #[no_mangle]
 pub extern "C" fn hg_open_read(

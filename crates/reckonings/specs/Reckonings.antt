@@ -21,7 +21,8 @@ use Rattle.bus_rules.specs.declared.Unpacked.the-variants as U
 use Rattle.bus_rules.specs.declared.RequestRead.{RequestRead}
 use Rattle.bus_rules.specs.declared.RequestRead.the-variants as A
 use Rattle.bridge_rules.specs.Model as B
-use Rattle.bridge_rules.specs.Statement.{answerTo, runOf}
+use Rattle.bridge_rules.specs.Run.{answerTo}
+use Rattle.bridge_rules.specs.Demand3.{runOf}
 use Rattle.mlgfile.specs.Block.{sumIn}
 use Rattle.mlgfile.specs.Writing.{dataBytes}
 use Rattle.wire.specs.BigEndian.{beBytes}

@@ -1,7 +1,7 @@
 use borrow.Author.Needs.{needs}
 use Rattle.bridge.proofs.ending.close_number.Statement.{statement}
 use Rattle.bridge.proofs.ending.close_number.Tie as tie
-use Rattle.bridge_rules.specs.Model.{closeNumber}
+use Rattle.bridge_rules.specs.Ending.{closeNumber}
 use Rattle.wire.proofs.Orders.{order}
 use Rattle.bridge.proofs.CodeSlots.{holder-none, holder-some}
 

@@ -1,7 +1,7 @@
 use borrow.Author.Needs.{needs}
 use Rattle.bridge.proofs.ending.fresh.Statement.{statement}
 use Rattle.bridge.proofs.ending.fresh.Tie as tie
-use Rattle.bridge_rules.specs.Model.{fresh}
+use Rattle.bridge_rules.specs.State.{fresh}
 
 blank-requires : tie.Need-blank-requires
 blank-requires c κs = search needs

@@ -2,7 +2,7 @@ use Rattle.wire.specs.Order.{_if_else_}
 use borrow.Author.Needs.{needs}
 use Rattle.bridge.proofs.ending.reset.Statement.{statement}
 use Rattle.bridge.proofs.ending.reset.Tie as tie
-use Rattle.bridge_rules.specs.Model.{resetOf, resetNumber}
+use Rattle.bridge_rules.specs.Ending.{resetOf, resetNumber}
 use borrow.Author.Tests.{lt-ltb, le-ltb}
 use Rattle.bridge_rules.proofs.Theorem.{demand3, calls}
 use Rattle.bridge_rules.proofs.Corollary.{corollaries}

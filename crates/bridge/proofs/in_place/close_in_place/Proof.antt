@@ -41,7 +41,7 @@ use denote.Exit.{yes}
 use Rattle.bridge_rules.specs.declared.Bridge.{Bridge}
 use Rattle.bridge_rules.proofs.Bridge as T
 use Rattle.bridge_rules.proofs.Bridge.Laws as T′
-use Rattle.bridge_rules.specs.Model.{closeOf}
+use Rattle.bridge_rules.specs.Ending.{closeOf}
 use Rattle.bridge_rules.specs.declared.Changed.{Changed}
 use Rattle.bridge_rules.proofs.Changed as U
 use Rattle.bridge_rules.proofs.Changed.Laws as U′

@@ -49,8 +49,8 @@ use Rattle.bus_rules.proofs.Frame as F
 use Rattle.bus_rules.proofs.Frame.Laws as F′
 use Rattle.bus_rules.proofs.Served as S
 use Rattle.bus_rules.proofs.Served.Laws as S′
-use Rattle.bridge_rules.specs.Model.{frameOf}
 use Rattle.bridge_rules.specs.Answers.{steppedOf}
+use Rattle.bridge_rules.specs.Incoming.{frameOf}
 use Rattle.bridge_rules.specs.declared.Stepped.{Stepped}
 use Rattle.bridge_rules.proofs.Stepped as U
 use Rattle.bridge_rules.proofs.Stepped.Laws as U′

@@ -44,8 +44,8 @@ use denote.Exit.{yes}
 use Rattle.bridge_rules.specs.declared.Bridge.{Bridge}
 use Rattle.bridge_rules.proofs.Bridge as T
 use Rattle.bridge_rules.proofs.Bridge.Laws as T′
-use Rattle.bridge_rules.specs.Model.{turnOf}
 use Rattle.bridge_rules.specs.Answers.{steppedOf}
+use Rattle.bridge_rules.specs.Turn.{turnOf}
 use Rattle.bridge_rules.specs.declared.Stepped.{Stepped}
 use Rattle.bridge_rules.proofs.Stepped as U
 use Rattle.bridge_rules.proofs.Stepped.Laws as U′

@@ -5,7 +5,8 @@ use Prim.Native.Nat.{_<_}
 use mathlib.Core.Path.{_≡_, sym, _∙_}
 use native.Mathlib.Omega.{arith}
 use lib.ListN.{length}
-use Rattle.bridge_rules.specs.Model.{slot, replyNumber, orFour, awaiting}
+use Rattle.bridge_rules.specs.State.{slot, orFour}
+use Rattle.bridge_rules.specs.Incoming.{replyNumber, awaiting}
 use Rattle.bridge.proofs.CodeFrames.{frame-refused, reply-at, frame-is}
 
 judge-reply-requires : tie.Need-judge-reply-requires

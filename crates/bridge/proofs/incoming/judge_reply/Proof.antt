@@ -1,7 +1,8 @@
 use borrow.Author.Needs.{needs}
 use Rattle.bridge.proofs.incoming.judge_reply.Statement.{statement}
 use Rattle.bridge.proofs.incoming.judge_reply.Tie as tie
-use Rattle.bridge_rules.specs.Model.{sound, replyNumber}
+use Rattle.bridge_rules.specs.State.{sound}
+use Rattle.bridge_rules.specs.Incoming.{replyNumber}
 use Rattle.wire.proofs.Orders.{order}
 use native.Mathlib.Omega.{arith}
 use Rattle.bridge.proofs.CodeSlots.{awaiting-none, awaiting-some}

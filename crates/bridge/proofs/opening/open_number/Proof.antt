@@ -1,7 +1,7 @@
 use borrow.Author.Needs.{needs}
 use Rattle.bridge.proofs.opening.open_number.Statement.{statement}
 use Rattle.bridge.proofs.opening.open_number.Tie as tie
-use Rattle.bridge_rules.specs.Model.{openNumber}
+use Rattle.bridge_rules.specs.Opening.{openNumber}
 use Rattle.wire.proofs.Orders.{order}
 
 lent-number-requires : tie.Need-lent-number-requires

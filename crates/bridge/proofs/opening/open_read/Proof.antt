@@ -3,7 +3,7 @@ use Rattle.bridge.proofs.opening.open_read.Statement.{statement}
 use Rattle.bridge.proofs.opening.open_read.Tie as tie
 use mathlib.Core.Path.{sym, _∙_}
 use native.Mathlib.Omega.{arith}
-use Rattle.bridge_rules.specs.Model.{read, opened}
+use Rattle.bridge_rules.specs.Opening.{read, opened}
 use Rattle.bridge.proofs.CodeCalls.{open-refused, open-room, open-ticket, open-few, open-is}
 
 open-number-requires : tie.Need-open-number-requires

@@ -1,7 +1,7 @@
 use borrow.Author.Needs.{needs}
 use Rattle.bridge.proofs.opening.room_number.Statement.{statement}
 use Rattle.bridge.proofs.opening.room_number.Tie as tie
-use Rattle.bridge_rules.specs.Model.{roomNumber}
+use Rattle.bridge_rules.specs.Opening.{roomNumber}
 use Rattle.wire.proofs.Orders.{order}
 use Rattle.bridge.proofs.CodeSlots.{free-none, free-some}
 

@@ -6,7 +6,8 @@ use mathlib.Core.Path.{_≡_, sym, _∙_, ap}
 use mathlib.Core.Logic.{⊎-elim}
 use native.Mathlib.Omega.{arith}
 use borrow.Author.Tests.{ne-eqb}
-use Rattle.bridge_rules.specs.Model.{withSlots, agedBridge}
+use Rattle.bridge_rules.specs.State.{withSlots}
+use Rattle.bridge_rules.specs.Turn.{agedBridge}
 use Rattle.bridge.proofs.CodeSlots.{four-slots, agedOn, ages, stays, rests, aged-four}
 
 abbrev Inv-loop : tie.InvT-loop

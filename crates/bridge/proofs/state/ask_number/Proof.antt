@@ -1,7 +1,7 @@
 use borrow.Author.Needs.{needs}
 use Rattle.bridge.proofs.state.ask_number.Statement.{statement}
 use Rattle.bridge.proofs.state.ask_number.Tie as tie
-use Rattle.bridge_rules.specs.Model.{askNumber}
+use Rattle.bridge_rules.specs.State.{askNumber}
 use Rattle.wire.proofs.Orders.{order}
 
 returns : tie.Need-returns

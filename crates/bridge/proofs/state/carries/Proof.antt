@@ -1,7 +1,7 @@
 use Rattle.bridge.proofs.state.carries.Statement.{statement}
 use Rattle.bridge.proofs.state.carries.Tie as tie
 use mathlib.Core.Path.{refl}
-use Rattle.bridge_rules.specs.Model.{carries}
+use Rattle.bridge_rules.specs.State.{carries}
 
 returns : tie.Need-returns
 unfolding carries

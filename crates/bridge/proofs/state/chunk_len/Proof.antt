@@ -2,7 +2,7 @@ use borrow.Author.Needs.{needs}
 use Rattle.bridge.proofs.state.chunk_len.Statement.{statement}
 use Rattle.bridge.proofs.state.chunk_len.Tie as tie
 use native.Mathlib.Omega.{arith}
-use Rattle.bridge_rules.specs.Model.{chunkLen}
+use Rattle.bridge_rules.specs.Turn.{chunkLen}
 
 returns : tie.Need-returns
 unfolding chunkLen

@@ -2,7 +2,7 @@ use borrow.Author.Needs.{needs}
 use Rattle.bridge.proofs.state.holder.Statement.{statement}
 use Rattle.bridge.proofs.state.holder.Tie as tie
 use mathlib.Core.Path.{_∙_}
-use Rattle.bridge_rules.specs.Model.{heldSlot, slot, firstSlot}
+use Rattle.bridge_rules.specs.State.{heldSlot, slot, firstSlot}
 
 array-copy-out-holds : tie.Need-array-copy-out-holds
 array-copy-out-holds c = search needs

@@ -1,7 +1,7 @@
 use borrow.Author.Needs.{needs}
 use Rattle.bridge.proofs.state.lent_number.Statement.{statement}
 use Rattle.bridge.proofs.state.lent_number.Tie as tie
-use Rattle.bridge_rules.specs.Model.{lentNumber}
+use Rattle.bridge_rules.specs.Answers.{lentNumber}
 use Rattle.wire.proofs.Orders.{order}
 
 sound-requires : tie.Need-sound-requires

@@ -2,7 +2,7 @@ use borrow.Author.Needs.{needs}
 use Rattle.bridge.proofs.state.lowest_free.Statement.{statement}
 use Rattle.bridge.proofs.state.lowest_free.Tie as tie
 use mathlib.Core.Path.{_∙_}
-use Rattle.bridge_rules.specs.Model.{lowestFree, slot, firstSlot}
+use Rattle.bridge_rules.specs.State.{lowestFree, slot, firstSlot}
 
 array-copy-out-is-free : tie.Need-array-copy-out-is-free
 array-copy-out-is-free c = search needs

@@ -3,7 +3,7 @@ use Rattle.bridge.proofs.state.next_ready.Tie as tie
 use Prim.Native.Nat.{ℕ, _+_, _-_, _≤_}
 use mathlib.Core.Path.{_≡_, sym, _∙_, ap}
 use native.Mathlib.Omega.{arith}
-use Rattle.bridge_rules.specs.Model.{firstSlot, orFour}
+use Rattle.bridge_rules.specs.State.{firstSlot, orFour}
 use Rattle.bridge.proofs.CodeSlots.{readyIn, misses, hits, ends, whole}
 use borrow.Author.Needs.{needs}
 

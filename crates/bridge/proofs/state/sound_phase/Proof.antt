@@ -2,7 +2,7 @@ use borrow.Author.Needs.{needs}
 use Rattle.bridge.proofs.state.sound_phase.Statement.{statement}
 use Rattle.bridge.proofs.state.sound_phase.Tie as tie
 use borrow.Author.Tests.{eq-eqb, ne-eqb}
-use Rattle.bridge_rules.specs.Model.{soundPhase}
+use Rattle.bridge_rules.specs.State.{soundPhase}
 
 most-sends-requires : tie.Need-most-sends-requires
 most-sends-requires c κs = search needs

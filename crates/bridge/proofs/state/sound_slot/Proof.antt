@@ -2,7 +2,7 @@ use borrow.Author.Needs.{needs}
 use Rattle.bridge.proofs.state.sound_slot.Statement.{statement}
 use Rattle.bridge.proofs.state.sound_slot.Tie as tie
 use borrow.Author.Tests.{eq-eqb, ne-eqb}
-use Rattle.bridge_rules.specs.Model.{soundSlot}
+use Rattle.bridge_rules.specs.State.{soundSlot}
 
 returns : tie.Need-returns
 unfolding soundSlot

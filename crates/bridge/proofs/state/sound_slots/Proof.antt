@@ -6,7 +6,7 @@ use mathlib.Core.Path.{_≡_, refl, sym, _∙_}
 use mathlib.Core.Bool.{_&&_}
 use native.Mathlib.Omega.{arith}
 use lib.ListN.{length, drop}
-use Rattle.bridge_rules.specs.Model.{soundSlots}
+use Rattle.bridge_rules.specs.State.{soundSlots}
 use Rattle.bridge.proofs.CodeSlots.{slots-step, slots-end}
 
 abbrev Inv-loop : tie.InvT-loop

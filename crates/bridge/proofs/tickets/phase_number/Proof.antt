@@ -1,6 +1,6 @@
 use Rattle.bridge.proofs.tickets.phase_number.Statement.{statement}
 use Rattle.bridge.proofs.tickets.phase_number.Tie as tie
-use Rattle.bridge_rules.specs.Model.{phaseNumber}
+use Rattle.bridge_rules.specs.Ending.{phaseNumber}
 use Rattle.wire.proofs.Orders.{order}
 
 returns : tie.Need-returns

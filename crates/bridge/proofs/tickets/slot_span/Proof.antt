@@ -2,7 +2,8 @@ use borrow.Author.Needs.{needs}
 use Rattle.bridge.proofs.tickets.slot_span.Statement.{statement}
 use Rattle.bridge.proofs.tickets.slot_span.Tie as tie
 use mathlib.Core.Path.{sym, _∙_}
-use Rattle.bridge_rules.specs.Model.{slotSpan, slot}
+use Rattle.bridge_rules.specs.State.{slot}
+use Rattle.bridge_rules.specs.Ending.{slotSpan}
 
 mul-x : tie.Need-mul-x
 mul-x c = search needs

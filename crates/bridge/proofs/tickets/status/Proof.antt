@@ -1,7 +1,7 @@
 use borrow.Author.Needs.{needs}
 use Rattle.bridge.proofs.tickets.status.Statement.{statement}
 use Rattle.bridge.proofs.tickets.status.Tie as tie
-use Rattle.bridge_rules.specs.Model.{statusOf}
+use Rattle.bridge_rules.specs.Ending.{statusOf}
 use Rattle.wire.proofs.Orders.{order}
 
 sound-requires : tie.Need-sound-requires

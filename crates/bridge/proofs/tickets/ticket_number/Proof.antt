@@ -3,7 +3,8 @@ use borrow.Author.Needs.{needs}
 use Rattle.bridge.proofs.tickets.ticket_number.Statement.{statement}
 use Rattle.bridge.proofs.tickets.ticket_number.Tie as tie
 use mathlib.Core.Path.{_∙_}
-use Rattle.bridge_rules.specs.Model.{ticketNumber, slot}
+use Rattle.bridge_rules.specs.State.{slot}
+use Rattle.bridge_rules.specs.Ending.{ticketNumber}
 use native.Mathlib.Omega.{arith}
 use Rattle.bridge.proofs.CodeSlots.{holder-none, holder-some}
 

@@ -4,7 +4,7 @@ use Rattle.bridge.proofs.turning.command_frame.Tie as tie
 use native.Mathlib.Omega.{arith}
 use Rattle.bus_rules.specs.Frames.{frameWith}
 use Rattle.bus_rules.proofs.FrameLaws.{part-is}
-use Rattle.bridge_rules.specs.Model.{writeFrame, outgoing}
+use Rattle.bridge_rules.specs.Turn.{writeFrame, outgoing}
 use Rattle.bridge.proofs.CodeFrames.{goes-inside, goes-length}
 
 identifier-requires : tie.Need-identifier-requires

@@ -2,7 +2,7 @@ use borrow.Author.Needs.{needs}
 use Rattle.bridge.proofs.turning.frame_for.Statement.{statement}
 use Rattle.bridge.proofs.turning.frame_for.Tie as tie
 use mathlib.Core.Path.{sym, _∙_}
-use Rattle.bridge_rules.specs.Model.{sentFrame}
+use Rattle.bridge_rules.specs.Turn.{sentFrame}
 
 carries-requires : tie.Need-carries-requires
 carries-requires c κs = search needs

@@ -5,7 +5,7 @@ use mathlib.Core.Path.{_∙_}
 use native.Mathlib.Omega.{arith}
 use Rattle.bus_rules.specs.Frames.{frameWith, padded}
 use Rattle.bus_rules.specs.Request.{request}
-use Rattle.bridge_rules.specs.Model.{readFrame}
+use Rattle.bridge_rules.specs.Turn.{readFrame}
 use Rattle.bridge.proofs.CodeFrames.{requests}
 use Rattle.bridge_rules.proofs.FrameLaws.{len-eight}
 

@@ -1,8 +1,9 @@
 use borrow.Author.Needs.{needs}
 use Rattle.bridge.proofs.turning.send.Statement.{statement}
 use Rattle.bridge.proofs.turning.send.Tie as tie
-use Rattle.bridge_rules.specs.Model.{sendFor, slot}
+use Rattle.bridge_rules.specs.State.{slot}
 use Rattle.bridge_rules.specs.Answers.{steppedOf}
+use Rattle.bridge_rules.specs.Turn.{sendFor}
 use Rattle.bridge_rules.proofs.Sound.{true-sound}
 use Rattle.bridge.proofs.CodeFrames.{readies}
 

@@ -1,0 +1,104 @@
+-- DEMAND 3, continued: the device's own replies, and the premises of its last sentence.
+use Prim.Native.Nat.{ℕ, _+_, _≤_, _<_}
+use mathlib.Core.List.{List}
+use mathlib.Core.Option.{some}
+use mathlib.Core.Bool.{true}
+use lib.ListN.{take, drop}
+use Rattle.bus_rules.specs.Ident.{idFrom}
+use Rattle.bus_rules.specs.Frames.{content}
+use Rattle.bus_rules.specs.Request.{request}
+use mathlib.Core.Path.{_≡_}
+use Rattle.bus_rules.specs.Holder.{startOf, serveOf, answerWith}
+use Rattle.bus_rules.specs.declared.Directory.{Directory}
+use Rattle.bus_rules.specs.declared.Frame.{Frame}
+use Rattle.bridge_rules.specs.Opening.{askDevice, askTable, askOffset, askCount}
+use Rattle.bridge_rules.specs.Incoming.{contentNumber}
+use Rattle.bridge_rules.specs.Call.{itsOwn, frame}
+use Rattle.bridge_rules.specs.Run.{Run, answer, ledger, Transfer, Stands, accepted}
+use Rattle.bridge_rules.specs.Replies.{Sent, Replied}
+
+-- ── "A reply is the device's own if the holder's rules give it for a request sent earlier, from the device's memory when
+-- it answered, between the two." ─────────────────────────────────────────────────────────────────────────────────────
+
+pub record Device : Type 0 where
+  pub directory : Directory
+  pub memory : List ℕ
+
+-- a timeline: when each event was, what the device was at each moment, and for each event at which a reply arrives the
+-- turn whose request it answers and the moment at which the device answered
+pub record Timeline : Type 0 where
+  pub when : ℕ → ℕ
+  pub device : ℕ → Device
+  pub asked : ℕ → ℕ
+  pub answered : ℕ → ℕ
+
+-- "each reply arriving under its number": between the opening and a reply that the read took before event n, frame f arrives at
+-- event m with the asked device as its sender, and neither 10 nor 1 to 5 refuses it, so it is an RSP to the bridge
+pub record Arrives (r : Run) (x : Transfer r) (n m : ℕ) (f : Frame) : Type 0 where
+  pub since : x .at < m
+  pub c : ℕ
+  pub m′ : ℕ
+  pub before : m′ < n
+  pub last : Replied r x c m′
+  pub until : m ≤ m′
+  pub call : r .calls m ≡ frame itsOwn f
+  pub passes : contentNumber (ledger r m .own) f ≡ 0
+  pub device : idFrom (f .id) ≡ askDevice (x .ask)
+
+-- it is THE DEVICE'S OWN, unaltered, to a request that these calls sent: the holder's rules (demand 2) give it for that request.
+-- (The paper asks for `earlier`, `sinceAsked` and `sameLen`; the proof of demand 3 does without them.)
+pub record Own (r : Run) (t : Timeline) (m : ℕ) (f : Frame) : Type 0 where
+  pub request : Frame
+  pub reply : Frame
+  pub earlier : t .asked m < m
+  pub turned : accepted r (t .asked m) ≡ true
+  pub yields : answer r (t .asked m) .sent ≡ some request
+  pub sinceAsked : t .when (t .asked m) ≤ t .answered m
+  pub untilArrived : t .answered m ≤ t .when m
+  pub gives : serveOf (t .device (t .answered m) .directory) (t .device (t .answered m) .memory) request ≡ answerWith reply
+  pub sameId : f .id ≡ reply .id
+  pub sameLen : f .len ≡ reply .len
+  pub sameBytes : content f ≡ content reply
+
+-- ── "Meanwhile: from its first answer to this read until that is done; a changed directory counts as a write; the
+-- table's bytes are the range's then." ───────────────────────────────────────────────────────────────────────────────
+
+-- moment τ₀ is not after any answer that the read took; the device's first answer to this read, taken or lost, is such a moment
+-- (`TakenAnswers` of Corollaries: what it took are answers to this read)
+abbrev pub NotAfter : (r : Run) → Transfer r → ℕ → Timeline → ℕ → Type 0
+NotAfter r x n t τ₀ = (c m : ℕ) → m < n → Replied r x c m → τ₀ ≤ t .answered m
+
+-- moment τ is MEANWHILE: not before τ₀, nor after the arrival of a reply that the read took, by the last of which it is done
+pub record Meanwhile (r : Run) (x : Transfer r) (n : ℕ) (t : Timeline) (τ₀ τ : ℕ) : Type 0 where
+  pub since : τ₀ ≤ τ
+  pub c : ℕ
+  pub m : ℕ
+  pub before : m < n
+  pub last : Replied r x c m
+  pub until : τ ≤ t .when m
+
+-- THE TABLE'S BYTES: those of the asked range, in a device as it is at a moment
+unfoldable pub range : (r : Run) → Transfer r → Device → List ℕ
+range r x d = take (askCount (x .ask)) (drop (startOf (d .directory) (askTable (x .ask)) + askOffset (x .ask)) (d .memory))
+
+-- "no reply to a closed or reset transfer arrives": the transfer whose request is answered still stands
+abbrev pub Current : (r : Run) → Transfer r → ℕ → Timeline → Type 0
+Current r x n t = (m : ℕ) (f : Frame) → Arrives r x n m f → (y : Transfer r) (c : ℕ) → Sent r y c (t .asked m) → Stands r y m
+
+-- what arrives: "each reply arriving under its number is its own, unaltered, to a request these calls sent, and no reply to a
+-- closed or reset transfer arrives"
+pub record Arrivals (r : Run) (x : Transfer r) (n : ℕ) (t : Timeline) : Type 0 where
+  pub own : (m : ℕ) (f : Frame) → Arrives r x n m f → Own r t m f
+  pub current : Current r x n t
+
+-- "its range isn't written" between any two moments of a set, and "a changed directory counts as a write". (The paper asks for
+-- `directory`; the proof does without it, for `range` speaks of the range where the directory puts it.)
+pub record Unwritten (r : Run) (x : Transfer r) (t : Timeline) (During : ℕ → Type 0) : Type 0 where
+  pub directory : (τ τ′ : ℕ) → During τ → During τ′ → t .device τ .directory ≡ t .device τ′ .directory
+  pub unchanged : (τ τ′ : ℕ) → During τ → During τ′ → range r x (t .device τ) ≡ range r x (t .device τ′)
+
+-- the premises of demand 3's last sentence, from moment τ₀ on
+pub record Premises (r : Run) (x : Transfer r) (n : ℕ) (t : Timeline) (τ₀ : ℕ) : Type 0 where
+  pub arrivals : Arrivals r x n t
+  pub first : NotAfter r x n t τ₀
+  pub unwritten : Unwritten r x t (Meanwhile r x n t τ₀)

@@ -1,0 +1,89 @@
+-- 01 "Bridge": opening a transfer.
+use Prim.Native.Nat.{ℕ, suc, _*_}
+use mathlib.Core.List.{List, []}
+use mathlib.Core.Option.{none}
+use mathlib.Core.Bool.{Bool, true, false}
+use lib.ListN.{length, set}
+use lib.Seq.{sets}
+use lib.Dec.{leb}
+use Rattle.wire.specs.Order.{_if_else_, _orElse_}
+use Rattle.bridge_rules.specs.declared.Bridge.{Bridge}
+use Rattle.bridge_rules.specs.declared.Slot.{Slot}
+use Rattle.bridge_rules.specs.State.{ready, reads, writes, askNumber, lowestFree, isNone, from}
+use Rattle.bridge_rules.specs.Answers.{Result, unless, lentNumber}
+
+-- ── What an opening asks for ───────────────────────────────────────────────────────────────────────────────────────
+
+-- a write's count is the number of its bytes
+pub data Ask : Type 0 where
+  read : (device table offset count : ℕ) → Ask
+  write : (device table offset : ℕ) (given : List ℕ) → Ask
+
+abbrev pub isWrite : Ask → Bool
+isWrite (read d t o n) = false
+isWrite (write d t o bs) = true
+
+abbrev pub askKind : Ask → ℕ
+askKind (read d t o n) = reads
+askKind (write d t o bs) = writes
+
+abbrev pub askDevice : Ask → ℕ
+askDevice (read d t o n) = d
+askDevice (write d t o bs) = d
+
+abbrev pub askTable : Ask → ℕ
+askTable (read d t o n) = t
+askTable (write d t o bs) = t
+
+abbrev pub askOffset : Ask → ℕ
+askOffset (read d t o n) = o
+askOffset (write d t o bs) = o
+
+abbrev pub askCount : Ask → ℕ
+askCount (read d t o n) = n
+askCount (write d t o bs) = length bs
+
+abbrev pub askGiven : Ask → List ℕ
+askGiven (read d t o n) = []
+askGiven (write d t o bs) = bs
+
+-- ── Opening ────────────────────────────────────────────────────────────────────────────────────────────────────────
+
+-- 12 / 13: no free slot / tickets used up
+unfoldable pub roomNumber : Bridge → ℕ
+roomNumber s = 12 if isNone (lowestFree s) else 13 if leb 4294967295 (s .tickets) else 0
+
+-- Order: 11, 10, 7, 9, 8, 12, 13
+unfoldable pub openNumber : Bridge → ℕ → Ask → ℕ
+openNumber s n a =
+    lentNumber s n orElse askNumber (askDevice a) (askTable a) (askOffset a) (askCount a) orElse roomNumber s
+
+-- the slot that it takes
+unfoldable pub opened : Ask → ℕ → Slot
+opened a ticket = record {
+  ticket = ticket;
+  offset = askOffset a;
+  phase = ready;
+  kind = askKind a;
+  device = askDevice a;
+  table = askTable a;
+  count = askCount a;
+  progress = 0;
+  sends = 0;
+  left = 0;
+}
+
+-- a write's bytes are copied into its slot (128 bytes of the buffer per slot), and their number is the count
+abbrev pub withGiven : List ℕ → ℕ → List ℕ → List ℕ
+withGiven b k given = sets b (128 * k) given
+
+-- it takes the lowest free slot and the next ticket, from 1 to 4,294,967,295
+unfoldable pub openOf : Bridge → List ℕ → Ask → Result
+openOf s b a = unless (openNumber s (length b) a) (record {
+  answer = record { number = 0; ticket = suc (s .tickets); sent = none; shown = [] };
+  state = record { slots = set (s .slots) k (opened a (suc (s .tickets))); tickets = suc (s .tickets); own = s .own; last = s .last };
+  buffer = withGiven b k (askGiven a);
+}) s b
+  where
+    k : ℕ
+    k = from (lowestFree s)

@@ -1,0 +1,178 @@
+-- DEMAND 3, as one statement over whole lists of calls, with the words of 01's last paragraph on the bridge in its order.
+--
+-- Calls are numbered from 0, oldest first; an event is the number of a call. What call n gets and answers depends on the calls
+-- before it alone. All that follows goes by the calls, their answers and what the bridge handed back names as last served.
+use Prim.Native.Nat.{ℕ, zero, suc, _+_, _*_, _/_, _≤_, _<_}
+use mathlib.Core.List.{List, [], _∷_, map}
+use mathlib.Core.Bool.{Bool, true, false, cond, _&&_}
+use lib.ListN.{length, set, replicate}
+use lib.Dec.{ltb, eqb}
+use mathlib.Core.Path.{_≡_}
+use mathlib.Core.Logic.{_⊎_, _≢_}
+use Rattle.bridge_rules.specs.declared.Bridge.{Bridge}
+use Rattle.bridge_rules.specs.State.{fresh}
+use Rattle.bridge_rules.specs.Answers.{Answer, Result}
+use Rattle.bridge_rules.specs.Opening.{Ask, askCount}
+use Rattle.bridge_rules.specs.Turn.{chunkLen}
+use Rattle.bridge_rules.specs.Call.{Lent, itsOwn, other, Call, opening, turn, frame, status, bytes, close, reset, step}
+
+-- ── A run: any own number, any 512 bytes and the calls ─────────────────────────────────────────────────────────────
+
+pub record Run : Type 0 where
+  pub own : ℕ
+  pub buffer : List ℕ
+  pub calls : ℕ → Call
+
+-- the bridge and its buffer
+pub record Storage : Type 0 where
+  pub state : Bridge
+  pub buffer : List ℕ
+
+abbrev pub next : Storage → Call → Storage
+next w c = let r : Result = step (w .state) (w .buffer) c in record { state = r .state; buffer = r .buffer }
+
+-- after the first n calls: each gets the bridge as the last left it, and the bridge's own buffer
+unfoldable pub storage : Run → ℕ → Storage
+storage r zero = record { state = fresh (r .own); buffer = r .buffer }
+storage r (suc n) = next (storage r n) (r .calls n)
+
+abbrev pub state : Run → ℕ → Bridge
+state r n = storage r n .state
+
+abbrev pub buffer : Run → ℕ → List ℕ
+buffer r n = storage r n .buffer
+
+-- what a call c answers after the first n calls, and what call n answers
+abbrev pub answerTo : Run → ℕ → Call → Answer
+answerTo r n c = step (state r n) (buffer r n) c .answer
+
+abbrev pub answer : Run → ℕ → Answer
+answer r n = answerTo r n (r .calls n)
+
+-- the shape of arguments: a frame has eight bytes; a buffer that is not the bridge's own is one of wrong length
+abbrev pub ShapedLent : Lent → Type 0
+ShapedLent itsOwn = Unit {0}
+ShapedLent (other l) = length l ≢ 512
+
+abbrev pub Shaped : Call → Type 0
+Shaped (opening l a) = ShapedLent l
+Shaped (turn l) = ShapedLent l
+Shaped (frame l f) = ShapedLent l × (length (f .bytes) ≡ 8)
+Shaped (status t) = Unit {0}
+Shaped (bytes l t) = ShapedLent l
+Shaped (close t) = Unit {0}
+Shaped (reset o) = Unit {0}
+
+pub record Lawful (r : Run) : Type 0 where
+  pub own : r .own ≤ 15
+  pub buffer : length (r .buffer) ≡ 512
+  pub shaped : (k : ℕ) → Shaped (r .calls k)
+
+-- ── The ledger: own number, tickets and slots by the calls and their answers alone ─────────────────────────────────
+
+-- It uses the calls and their answers, never the bridge, and so do `slotOf` and the frames below; `Places` says that its slots are
+-- the paper's.
+
+-- the own number, the last ticket given, and the ticket of each slot (0: free)
+pub record Ledger : Type 0 where
+  pub own : ℕ
+  pub lastTicket : ℕ
+  pub tickets : List ℕ
+
+abbrev pub newLedger : ℕ → Ledger
+newLedger own = record { own = own; lastTicket = 0; tickets = replicate 4 0 }
+
+-- a slot that an opening may take
+abbrev pub givableEntry : ℕ → Bool
+givableEntry t = eqb t 0
+
+-- the first such slot; the number of slots if there is none
+unfoldable pub firstGivable : List ℕ → ℕ
+firstGivable [] = 0
+firstGivable (t ∷ ts) = cond (givableEntry t) 0 (suc (firstGivable ts))
+
+-- a call answered 0, and its answer: an opening takes the lowest free slot, a closing frees its slot, a reset all
+abbrev pub noted : Ledger → Answer → Call → Ledger
+noted g y (opening l a) =
+    record { own = g .own; lastTicket = y .ticket; tickets = set (g .tickets) (firstGivable (g .tickets)) (y .ticket) }
+noted g y (turn l) = g
+noted g y (frame l f) = g
+noted g y (status u) = g
+noted g y (bytes l u) = g
+noted g y (close u) = record { own = g .own; lastTicket = g .lastTicket; tickets = map (λ v. cond (eqb v u) 0 v) (g .tickets) }
+noted g y (reset o) = newLedger o
+
+-- after the first n calls
+unfoldable pub ledger : Run → ℕ → Ledger
+ledger r zero = newLedger (r .own)
+ledger r (suc n) = cond (eqb (answer r n .number) 0) (noted (ledger r n) (answer r n) (r .calls n)) (ledger r n)
+
+-- ── "A transfer is an opening answered 0; it stands until its closing or a reset is answered 0." ───────────────────
+
+-- a TRANSFER
+pub record Transfer (r : Run) : Type 0 where
+  pub at : ℕ
+  pub lent : Lent
+  pub ask : Ask
+  pub call : r .calls at ≡ opening lent ask
+  pub accepted : answer r at .number ≡ 0
+
+abbrev pub ticket : (r : Run) → Transfer r → ℕ
+ticket r x = answer r (x .at) .ticket
+
+-- its slot: the lowest that was free at its opening
+unfoldable pub slotOf : (r : Run) → Transfer r → ℕ
+slotOf r x = firstGivable (ledger r (x .at) .tickets)
+
+-- event m is its closing, or a reset, answered 0
+abbrev pub Closing : (r : Run) → Transfer r → ℕ → Type 0
+Closing r x m = (answer r m .number ≡ 0) × ((r .calls m ≡ close (ticket r x)) ⊎ ((o : ℕ) × (r .calls m ≡ reset o)))
+
+-- it STANDS after the first n calls
+abbrev pub Stands : (r : Run) → Transfer r → ℕ → Type 0
+Stands r x n = (x .at < n) × ((m : ℕ) → x .at < m → m < n → ¬ Closing r x m)
+
+-- its started eight bytes, here called chunks and numbered from 0, and the length of one: eight, the last shorter
+abbrev pub chunks : (r : Run) → Transfer r → ℕ
+chunks r x = (askCount (x .ask) + 7) / 8
+
+abbrev pub lenOf : (r : Run) → Transfer r → ℕ → ℕ
+lenOf r x c = chunkLen (askCount (x .ask)) (8 * c)
+
+-- ── "Turns answered 0 are accepted, and only they count." ──────────────────────────────────────────────────────────
+
+abbrev pub isTurn : Call → Bool
+isTurn (opening l a) = false
+isTurn (turn l) = true
+isTurn (frame l f) = false
+isTurn (status t) = false
+isTurn (bytes l t) = false
+isTurn (close t) = false
+isTurn (reset o) = false
+
+-- event m is an ACCEPTED turn
+unfoldable pub accepted : Run → ℕ → Bool
+accepted r m = isTurn (r .calls m) && eqb (answer r m .number) 0
+
+-- the number of accepted turns after event j and before event n
+unfoldable pub turns : Run → ℕ → ℕ → ℕ
+turns r j zero = 0
+turns r j (suc n) = turns r j n + cond (ltb j n && accepted r n) 1 0
+
+-- ── "Done is status 0 to its ticket while it stands, given up 16; a read shows what a bytes call with the bridge's
+-- buffer hands back for it." ─────────────────────────────────────────────────────────────────────────────────────────
+
+-- what status and the bytes call answer to a transfer's ticket after the first n calls
+abbrev pub statusAt : (r : Run) → Transfer r → ℕ → ℕ
+statusAt r x n = answerTo r n (status (ticket r x)) .number
+
+-- what it SHOWS
+abbrev pub shownAt : (r : Run) → Transfer r → ℕ → Answer
+shownAt r x n = answerTo r n (bytes itsOwn (ticket r x))
+
+-- DONE and GIVEN UP, of a transfer that stands
+abbrev pub Done : (r : Run) → Transfer r → ℕ → Type 0
+Done r x n = statusAt r x n ≡ 0
+
+abbrev pub GivenUp : (r : Run) → Transfer r → ℕ → Type 0
+GivenUp r x n = statusAt r x n ≡ 16

@@ -1,0 +1,72 @@
+-- 01 "Bridge": a turn.
+-- a waiting read one turn on: 20 turns after a send it is ready again, or after its third send has given up
+use Prim.Native.Nat.{ℕ, suc, _+_, _*_, _-_, min}
+use mathlib.Core.List.{List, [], map}
+use mathlib.Core.Option.{Option, none, some}
+use mathlib.Core.Bool.{cond}
+use lib.ListN.{length, take, drop, set}
+use lib.Dec.{leb, ltb}
+use Rattle.bus_rules.specs.Ident.{idOf}
+use Rattle.bus_rules.specs.Frames.{cmd, req, frameWith}
+use Rattle.bus_rules.specs.Request.{request}
+use Rattle.bus_rules.specs.declared.Frame.{Frame}
+use Rattle.bridge_rules.specs.declared.Bridge.{Bridge}
+use Rattle.bridge_rules.specs.declared.Slot.{Slot}
+use Rattle.bridge_rules.specs.State.{ready, waiting, done, gaveUp, isWaiting, asks, carries, slot, withSlots, moved, nextReady}
+use Rattle.bridge_rules.specs.Answers.{Result, plain, unless, lentNumber}
+
+unfoldable pub ticked : Slot → Slot
+ticked x =
+    moved x (cond (leb (x .left) 1) (cond (leb 3 (x .sends)) gaveUp ready) waiting) (x .progress) (x .sends) (x .left - 1)
+
+unfoldable pub aged : Slot → Slot
+aged x = cond (isWaiting (x .phase)) (ticked x) x
+
+-- of all slots
+unfoldable pub agedBridge : Bridge → Bridge
+agedBridge s = withSlots s (map aged (s .slots))
+
+-- a transfer goes in order, eight bytes a frame, the last shorter: the length of the part that starts at `progress`
+unfoldable pub chunkLen : ℕ → ℕ → ℕ
+chunkLen count progress = min 8 (count - progress)
+
+-- a read sends REQ with reply table 6 and reply offset its place in the buffer
+unfoldable pub readFrame : ℕ → ℕ → Slot → Frame
+readFrame own k x =
+    frameWith (idOf (x .offset + x .progress) req own (x .device) (x .table))
+    (request 6 (128 * k + x .progress) (chunkLen (x .count) (x .progress)))
+
+-- a write sends CMD with the next of its bytes
+unfoldable pub outgoing : ℕ → Slot → List ℕ → List ℕ
+outgoing k x b = take (chunkLen (x .count) (x .progress)) (drop (128 * k + x .progress) b)
+
+unfoldable pub writeFrame : ℕ → ℕ → Slot → List ℕ → Frame
+writeFrame own k x b = frameWith (idOf (x .offset + x .progress) cmd own (x .device) (x .table)) (outgoing k x b)
+
+unfoldable pub sentFrame : ℕ → ℕ → Slot → List ℕ → Frame
+sentFrame own k x b = cond (carries (x .kind)) (writeFrame own k x b) (readFrame own k x)
+
+-- past the current eight bytes: the next are ready with no sends counted, or the transfer is done
+unfoldable pub advanced : Slot → Slot
+advanced x = moved x (cond (ltb (x .progress + 8) (x .count)) ready done) (min (x .progress + 8) (x .count)) 0 0
+
+-- a read that sent its REQ waits
+unfoldable pub requested : Slot → Slot
+requested x = moved x waiting (x .progress) (suc (x .sends)) 20
+
+-- a write that sent its CMD is ready at once for the next, or done
+unfoldable pub sentSlot : Slot → Slot
+sentSlot x = cond (asks (x .kind)) (requested x) (advanced x)
+
+-- it sends for one ready slot, or answers 0 with no frame if none is ready
+unfoldable pub sendFor : Bridge → List ℕ → Option ℕ → Result
+sendFor s b none = record { answer = plain 0; state = s; buffer = b }
+sendFor s b (some k) = record {
+  answer = record { number = 0; ticket = 0; sent = some (sentFrame (s .own) k (slot s k) b); shown = [] };
+  state = record { slots = set (s .slots) k (sentSlot (slot s k)); tickets = s .tickets; own = s .own; last = k };
+  buffer = b;
+}
+
+-- a turn (refusals 11, 10) first ages each waiting read, then sends
+unfoldable pub turnOf : Bridge → List ℕ → Result
+turnOf s b = unless (lentNumber s (length b)) (sendFor (agedBridge s) b (nextReady (agedBridge s))) s b
