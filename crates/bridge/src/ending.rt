@@ -10,7 +10,7 @@ ghost use Rattle.bridge_rules.specs.Ending.{closeNumber, closeOf, resetOf};
 ghost use Rattle.bridge_rules.specs.Demand3.{Demand3};
 ghost use Rattle.bridge_rules.specs.Corollaries.{Corollaries};
 ghost use Rattle.bridge_rules.specs.Calls.{Calls};
-ghost use Rattle.bridge_rules.specs.Examples.{Examples};
+ghost use Rattle.bridge_examples.specs.Examples.{Examples};
 
 fn close_number(b: Bridge, ticket: u32) -> u8
     ensures { λ r. ⌜ r ≡ closeNumber b ticket ⌝ }

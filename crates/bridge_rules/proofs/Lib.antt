@@ -23,4 +23,3 @@ pub mod Turns
 pub mod Theorem
 pub mod Corollary
 pub mod Openers
-pub mod ExampleRuns

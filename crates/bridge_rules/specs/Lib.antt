@@ -11,4 +11,3 @@ pub mod Device
 pub mod Demand3
 pub mod Corollaries
 pub mod Calls
-pub mod Examples

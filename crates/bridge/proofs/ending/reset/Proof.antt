@@ -6,7 +6,7 @@ use Rattle.bridge_rules.specs.Ending.{resetOf, resetNumber}
 use borrow.Author.Tests.{lt-ltb, le-ltb}
 use Rattle.bridge_rules.proofs.Theorem.{demand3, calls}
 use Rattle.bridge_rules.proofs.Corollary.{corollaries}
-use Rattle.bridge_rules.proofs.ExampleRuns.{examples}
+use Rattle.bridge_examples.proofs.Examples.{examples}
 
 returns : tie.Need-returns
 unfolding resetOf resetNumber _if_else_
