@@ -13,14 +13,14 @@ use Rattle.wire.proofs.Puts.{put-sets}
 use Rattle.wire.proofs.Orders.{if-zero, else-zero}
 use Rattle.bridge_rules.specs.declared.Bridge.{Bridge}
 use Rattle.bridge_rules.specs.declared.Slot.{Slot}
-use Rattle.bridge_rules.specs.State.{blank, slot, lowestFree, heldSlot, isNone, from, orFour, withSlots, sound, asks}
+use Rattle.bridge_rules.specs.State.{blank, slot, lowestFree, heldSlot, isNone, orZero, orFour, withSlots, sound, asks}
 use Rattle.bridge_rules.specs.Answers.{openedOf}
 use Rattle.bridge_rules.specs.Opening.{Ask, write, askCount, opened, openNumber, openOf}
 use Rattle.bridge_rules.specs.Ending.{closeNumber, closeOf, ticketNumber, bytesNumber, slotSpan, spanOf, noSpan, partOf, bytesOf}
 use Rattle.bridge_rules.specs.declared.Span.{Span}
 use Rattle.bridge_rules.specs.declared.Changed.{Changed}
 use Rattle.bridge_rules.specs.declared.Opened.{Opened}
-use Rattle.bridge.proofs.CodeSlots.{free-from, holder-from, holder-small, from-four}
+use Rattle.bridge.proofs.CodeSlots.{free-from, holder-from, holder-small, orZero-four}
 use Rattle.bridge_rules.proofs.Sound.{SlotOk, okFree, okReady, okWaiting, okDone, okGaveUp, true-sound}
 use Rattle.bridge_rules.proofs.Refusals.{open-facts, lent-ok}
 
@@ -36,7 +36,7 @@ module _ (s : Bridge) (b : List ℕ) (a : Ask) where
     pub open-room : isNone (lowestFree s) ≡ false
     open-room = open-facts s (length b) a e .slotted
 
-    pub open-at : (k : ℕ) → k ≡ orFour (lowestFree s) → (k ≡ from (lowestFree s)) × (k < 4)
+    pub open-at : (k : ℕ) → k ≡ orFour (lowestFree s) → (k ≡ orZero (lowestFree s)) × (k < 4)
     open-at k q = free-from s k q open-room
 
     pub open-ticket : s .tickets < 4294967295
@@ -47,7 +47,7 @@ module _ (s : Bridge) (b : List ℕ) (a : Ask) where
 
     pub open-is : (x : Slot) → x ≡ opened a (s .tickets + 1)
         → _≡_ {A = Opened} (record {
-          bridge = record { slots = set (s .slots) (from (lowestFree s)) x; tickets = x .ticket; own = s .own; last = s .last };
+          bridge = record { slots = set (s .slots) (orZero (lowestFree s)) x; tickets = x .ticket; own = s .own; last = s .last };
           ticket = x .ticket;
           number = 0;
         }) (openedOf (openOf s b a))
@@ -78,7 +78,7 @@ module _ (s : Bridge) (t : ℕ) where
     unfolding closeNumber
     close-held = if-zero 13 _ _ (if-zero 10 _ _ e .1) .0
 
-    pub close-at : (k ≡ from (heldSlot s t)) × (k < 4)
+    pub close-at : (k ≡ orZero (heldSlot s t)) × (k < 4)
     close-at = holder-from s t k q close-held
 
     pub close-is : _≡_ {A = Changed} (record { bridge = withSlots s (set (s .slots) k blank); number = 0 }) (closeOf s t)
@@ -104,7 +104,7 @@ module _ (s : Bridge) (n t : ℕ) where
     unfolding bytesNumber ticketNumber
     bytes-held = if-zero 13 _ _ (if-zero 9 _ _ (if-zero 10 _ _ e .1) .1) .0
 
-    pub bytes-at : (k ≡ from (heldSlot s t)) × (k < 4)
+    pub bytes-at : (k ≡ orZero (heldSlot s t)) × (k < 4)
     bytes-at = holder-from s t k q bytes-held
 
     pub span-is : slotSpan s k ≡ spanOf s n t
@@ -137,11 +137,11 @@ unfolding spanOf
 span-fits s b t p q = rw q (go (eqb (bytesNumber s (length b) t) 0) refl)
   where
     go : (c : Bool) → eqb (bytesNumber s (length b) t) 0 ≡ c
-        → cond c (slotSpan s (from (heldSlot s t))) (noSpan (bytesNumber s (length b) t)) .start
-        + cond c (slotSpan s (from (heldSlot s t))) (noSpan (bytesNumber s (length b) t)) .count ≤ length b
+        → cond c (slotSpan s (orZero (heldSlot s t))) (noSpan (bytesNumber s (length b) t)) .start
+        + cond c (slotSpan s (orZero (heldSlot s t))) (noSpan (bytesNumber s (length b) t)) .count ≤ length b
     go true e =
         let z : bytesNumber s (length b) t ≡ 0 = eqb-true _ 0 e in
-        omega (arith, bytes-lent s (length b) t z .1, slotSpan-fits s (from (heldSlot s t)) (bytes-lent s (length b) t z .0) (from-four (heldSlot s t) (holder-small s t)))
+        omega (arith, bytes-lent s (length b) t z .1, slotSpan-fits s (orZero (heldSlot s t)) (bytes-lent s (length b) t z .0) (orZero-four (heldSlot s t) (holder-small s t)))
     go false e = omega arith
 
 pub bytes-of : (s : Bridge) (b : List ℕ) (t : ℕ) (p : Span) → p ≡ spanOf s (length b) t → (p .number ≡ bytesOf s b t .number) × (partOf b p ≡ bytesOf s b t .shown)

@@ -29,7 +29,7 @@ use Rattle.bus_rules.proofs.IdentLaws.{unpacked-is}
 use Rattle.bus_rules.proofs.FrameLaws.{part-length}
 use Rattle.bridge_rules.specs.declared.Bridge.{Bridge}
 use Rattle.bridge_rules.specs.declared.Slot.{Slot}
-use Rattle.bridge_rules.specs.State.{Frame, slot, sound, isReady, isNone, from, orFour, nextReady, withSlots, waiting, isWaiting, asks, moved}
+use Rattle.bridge_rules.specs.State.{Frame, slot, sound, isReady, isNone, orZero, orFour, nextReady, withSlots, waiting, isWaiting, asks, moved}
 use Rattle.bridge_rules.specs.Answers.{lentNumber, steppedOf}
 use Rattle.bridge_rules.specs.Turn.{agedBridge, turnOf, sendFor, chunkLen, outgoing, advanced, requested, sentSlot}
 use Rattle.bridge_rules.specs.Incoming.{awaits, awaiting, contentNumber, replyNumber, frameOf}
@@ -218,7 +218,7 @@ module _ (s : Bridge) (b : List ℕ) (f : Frame) where
     reply-found = if-zero 16 _ _ (else-zero _ _ (else-zero _ _ e .1) .1) .0
 
     module _ (k : ℕ) (q : k ≡ orFour (awaiting s f)) where
-      pub reply-at : (k ≡ from (awaiting s f)) × (k < 4)
+      pub reply-at : (k ≡ orZero (awaiting s f)) × (k < 4)
       reply-at = awaiting-from s f k q reply-found
 
       reply-awaited : AwaitsOk s f k

@@ -13,7 +13,7 @@ use borrow.Author.Tests.{le-leb, lt-leb, lt-ltb, le-ltb, eq-eqb}
 use Rattle.bridge_rules.specs.declared.Bridge.{Bridge}
 use Rattle.bridge_rules.specs.declared.Slot.{Slot}
 use Rattle.bridge_rules.specs.State.{waiting, ready, done, gaveUp, isReady, isWaiting, blank, slot, moved, soundSlot, soundSlots, absent, distinct, sound}
-use Rattle.bridge_rules.specs.State.{firstSlot, nextReady, lowestFree, heldSlot, orFour, Frame, isNone, from}
+use Rattle.bridge_rules.specs.State.{firstSlot, nextReady, lowestFree, heldSlot, orFour, Frame, isNone, orZero}
 use Rattle.bridge_rules.specs.Turn.{ticked, aged, advanced}
 use Rattle.bridge_rules.specs.Incoming.{awaiting}
 
@@ -133,13 +133,13 @@ is-some : (o : Option ℕ) (k : ℕ) → Small o → k ≡ orFour o → (k ≡ 4
 is-some none k m e h = absurd (h e)
 is-some (some j) k m e h = (ap some (sym e), omega arith)
 
-from-some : (o : Option ℕ) (k : ℕ) → Small o → k ≡ orFour o → isNone o ≡ false → (k ≡ from o) × (k < 4)
+from-some : (o : Option ℕ) (k : ℕ) → Small o → k ≡ orFour o → isNone o ≡ false → (k ≡ orZero o) × (k < 4)
 from-some none k m e h = absurd (let z : _≡_ {A = Bool} true false = h in let y : _≡_ {A = ℕ} 0 1 = cc in omega arith)
 from-some (some j) k m e h = (e, omega arith)
 
-pub from-four : (o : Option ℕ) → Small o → from o < 4
-from-four none m = omega arith
-from-four (some k) m = m
+pub orZero-four : (o : Option ℕ) → Small o → orZero o < 4
+orZero-four none m = omega arith
+orZero-four (some k) m = m
 
 -- of each search
 module _ (s : Bridge) (k : ℕ) (e : k ≡ orFour (lowestFree s)) where
@@ -149,7 +149,7 @@ module _ (s : Bridge) (k : ℕ) (e : k ≡ orFour (lowestFree s)) where
   pub free-some : (k ≡ 4 → ⊥) → (lowestFree s ≡ some k) × (k < 4)
   free-some = is-some (lowestFree s) k (free-small s) e
 
-  pub free-from : isNone (lowestFree s) ≡ false → (k ≡ from (lowestFree s)) × (k < 4)
+  pub free-from : isNone (lowestFree s) ≡ false → (k ≡ orZero (lowestFree s)) × (k < 4)
   free-from = from-some (lowestFree s) k (free-small s) e
 
 module _ (s : Bridge) (t k : ℕ) (e : k ≡ orFour (heldSlot s t)) where
@@ -159,7 +159,7 @@ module _ (s : Bridge) (t k : ℕ) (e : k ≡ orFour (heldSlot s t)) where
   pub holder-some : (k ≡ 4 → ⊥) → (heldSlot s t ≡ some k) × (k < 4)
   holder-some = is-some (heldSlot s t) k (holder-small s t) e
 
-  pub holder-from : isNone (heldSlot s t) ≡ false → (k ≡ from (heldSlot s t)) × (k < 4)
+  pub holder-from : isNone (heldSlot s t) ≡ false → (k ≡ orZero (heldSlot s t)) × (k < 4)
   holder-from = from-some (heldSlot s t) k (holder-small s t) e
 
 module _ (s : Bridge) (k : ℕ) (e : k ≡ orFour (nextReady s)) where
@@ -176,7 +176,7 @@ module _ (s : Bridge) (f : Frame) (k : ℕ) (e : k ≡ orFour (awaiting s f)) wh
   pub awaiting-some : (k ≡ 4 → ⊥) → (awaiting s f ≡ some k) × (k < 4)
   awaiting-some = is-some (awaiting s f) k (awaiting-small s f) e
 
-  pub awaiting-from : isNone (awaiting s f) ≡ false → (k ≡ from (awaiting s f)) × (k < 4)
+  pub awaiting-from : isNone (awaiting s f) ≡ false → (k ≡ orZero (awaiting s f)) × (k < 4)
   awaiting-from = from-some (awaiting s f) k (awaiting-small s f) e
 
 -- ── Aging ──────────────────────────────────────────────────────────────────────────────────────────────────────────

@@ -11,7 +11,7 @@ use crate::state::lowest_free;
 ghost use mathlib.Core.Path.{_≡_};
 ghost use mathlib.Core.Bool.{false};
 ghost use lib.ListN.{length, set};
-ghost use Rattle.bridge_rules.specs.State.{ready, lowestFree, from, isNone};
+ghost use Rattle.bridge_rules.specs.State.{ready, lowestFree, orZero, isNone};
 ghost use Rattle.bridge_rules.specs.Answers.{openedOf};
 ghost use Rattle.bridge_rules.specs.Opening.{read, write, roomNumber, openNumber, openOf};
 
@@ -64,7 +64,7 @@ fn begun(ticket: u32, kind: u8, device: u8, table: u8, offset: u16, count: u8) -
 // The lowest free slot holds x, and its ticket is the last given.
 fn hold(b: Bridge, x: Slot) -> Opened
     requires { ⌜ isNone (lowestFree b) ≡ false ⌝ }
-    ensures { λ r. ⌜ r ≡ record { bridge = record { slots = set (b .slots) (from (lowestFree b)) x; tickets = x .ticket; own = b .own; last = b .last }; ticket = x .ticket; number = 0 } ⌝ }
+    ensures { λ r. ⌜ r ≡ record { bridge = record { slots = set (b .slots) (orZero (lowestFree b)) x; tickets = x .ticket; own = b .own; last = b .last }; ticket = x .ticket; number = 0 } ⌝ }
 {
     let k = lowest_free(b);
     let mut t = b;

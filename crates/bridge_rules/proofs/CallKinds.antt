@@ -14,7 +14,7 @@ use borrow.Author.Tests.{eqb-true, eqb-false, ne-eqb, eq-eqb, lt-ltb, le-ltb, no
 use Rattle.bus_rules.specs.Frames.{content}
 use Rattle.bus_rules.specs.Ident.{idTable, idFrom, idOffset}
 use Rattle.wire.specs.Order.{_if_else_}
-use Rattle.bridge_rules.specs.State.{Frame, Bridge, Slot, waiting, blank, slot, fresh, sound, isReady, isWaiting, isFree, isNone, from, lowestFree}
+use Rattle.bridge_rules.specs.State.{Frame, Bridge, Slot, waiting, blank, slot, fresh, sound, isReady, isWaiting, isFree, isNone, orZero, lowestFree}
 use Rattle.bridge_rules.specs.State.{heldSlot, nextReady, withSlots, asks}
 use Rattle.bridge_rules.specs.Answers.{Result, plain}
 use Rattle.bridge_rules.specs.Opening.{Ask, askDevice, askTable, askOffset, askCount, askGiven, opened, openNumber, openOf}
@@ -144,15 +144,15 @@ idle-state s b h = h
 module _ (s : Bridge) (b : List ℕ) (h : Sound s) (lb : length b ≡ 512) where
   opening-own : (a : Ask) → Kind s b (opening itsOwn a)
   unfolding step openOf lowestFree
-  opening-own a = go (outcome (openNumber s (length b) a) (openResult s b a (from (lowestFree s))) s b)
+  opening-own a = go (outcome (openNumber s (length b) a) (openResult s b a (orZero (lowestFree s))) s b)
     where
-      pick : OpenFacts s a → openOf s b a ≡ openResult s b a (from (lowestFree s))
+      pick : OpenFacts s a → openOf s b a ≡ openResult s b a (orZero (lowestFree s))
           → (lowestFree s ≡ none) ⊎ ((k : ℕ) × (lowestFree s ≡ some k)) → Kind s b (opening itsOwn a)
       pick o e (inl z) = absurd (true≢false (sym (ap isNone z) ∙ o .slotted))
       pick o e (inr z) = opens a (z .0) refl (z .1) (lowest-some (freeAt s) (z .0) (z .1)) (o .law) (o .ticketed) (e
-          ∙ ap (λ (o : Option ℕ). openResult s b a (from o)) (z .1))
+          ∙ ap (λ (o : Option ℕ). openResult s b a (orZero o)) (z .1))
 
-      go : Outcome (openNumber s (length b) a) (openResult s b a (from (lowestFree s))) s b (openOf s b a) → Kind s b (opening itsOwn a)
+      go : Outcome (openNumber s (length b) a) (openResult s b a (orZero (lowestFree s))) s b (openOf s b a) → Kind s b (opening itsOwn a)
       go (refused n e) = refuses s b (opening itsOwn a) (openNumber s (length b) a) n refl e
       go (through n e) = pick (open-facts s (length b) a n) e (option-cases (lowestFree s))
 

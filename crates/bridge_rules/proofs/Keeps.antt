@@ -10,7 +10,7 @@ use lib.ListN.{length, replicate}
 use lib.Dec.{eqb}
 use borrow.Author.Tests.{ne-eqb, le-ltb}
 use Rattle.wire.specs.Order.{_if_else_, _orElse_}
-use Rattle.bridge_rules.specs.State.{Frame, Bridge, from, heldSlot, nextReady, fresh, sound}
+use Rattle.bridge_rules.specs.State.{Frame, Bridge, orZero, heldSlot, nextReady, fresh, sound}
 use Rattle.bridge_rules.specs.Answers.{Result, unless, changedBy, plain, lentNumber}
 use Rattle.bridge_rules.specs.Opening.{Ask, openNumber, openOf}
 use Rattle.bridge_rules.specs.Turn.{agedBridge, sendFor, turnOf}
@@ -156,9 +156,9 @@ span-keeps : (s : Bridge) (m t n : ℕ) → spanOf s m t .number ≡ n → n ≢
 unfolding spanOf
 span-keeps s m t n e d = go (eqb (bytesNumber s m t) 0) e
   where
-    go : (c : Bool) → cond c (slotSpan s (from (heldSlot s t))) (noSpan (bytesNumber s m t)) .number ≡ n
-        → cond c (slotSpan s (from (heldSlot s t))) (noSpan (bytesNumber s m t)) ≡ noSpan n
-    go true q = absurd (d (sym q ∙ span-number s (from (heldSlot s t))))
+    go : (c : Bool) → cond c (slotSpan s (orZero (heldSlot s t))) (noSpan (bytesNumber s m t)) .number ≡ n
+        → cond c (slotSpan s (orZero (heldSlot s t))) (noSpan (bytesNumber s m t)) ≡ noSpan n
+    go true q = absurd (d (sym q ∙ span-number s (orZero (heldSlot s t))))
     go false q = ap noSpan q
 
 bytes-keeps : (s : Bridge) (b : List ℕ) (t n : ℕ) → bytesOf s b t .number ≡ n → n ≢ 0 → bytesOf s b t ≡ plain n

@@ -43,7 +43,6 @@ changedBy n after before = record { bridge = cond (eqb n 0) after before; number
 unfoldable pub lentNumber : Bridge → ℕ → ℕ
 lentNumber s n = 11 if not (sound s) else 10 if not (eqb n 512) else 0
 
-
 -- an opening's state, ticket and number
 unfoldable pub openedOf : Result → Opened
 openedOf r = record { bridge = r .state; ticket = r .answer .ticket; number = r .answer .number }

@@ -10,7 +10,7 @@ use Rattle.wire.specs.Order.{_if_else_}
 use Rattle.bridge_rules.specs.declared.Bridge.{Bridge}
 use Rattle.bridge_rules.specs.declared.Changed.{Changed}
 pub use Rattle.bridge_rules.specs.declared.Span.{Span}
-use Rattle.bridge_rules.specs.State.{done, gaveUp, asks, blank, slot, fresh, withSlots, sound, heldSlot, isNone, from}
+use Rattle.bridge_rules.specs.State.{done, gaveUp, asks, blank, slot, fresh, withSlots, sound, heldSlot, isNone, orZero}
 use Rattle.bridge_rules.specs.Answers.{Answer, changedBy}
 
 unfoldable pub phaseNumber : ℕ → ℕ
@@ -18,7 +18,7 @@ phaseNumber phase = 0 if eqb phase done else 16 if eqb phase gaveUp else 15
 
 -- 14: ticket unknown
 unfoldable pub ticketNumber : Bridge → ℕ → ℕ
-ticketNumber s t = 14 if isNone (heldSlot s t) else phaseNumber (slot s (from (heldSlot s t)) .phase)
+ticketNumber s t = 14 if isNone (heldSlot s t) else phaseNumber (slot s (orZero (heldSlot s t)) .phase)
 
 -- status answers 11, then 0, 14, 15 or 16
 unfoldable pub statusOf : Bridge → ℕ → ℕ
@@ -37,7 +37,7 @@ slotSpan s k = cond (asks (slot s k .kind)) (record { number = 0; start = 128 * 
 
 -- of a ticket, with a buffer of length n
 unfoldable pub spanOf : Bridge → ℕ → ℕ → Span
-spanOf s n t = cond (eqb (bytesNumber s n t) 0) (slotSpan s (from (heldSlot s t))) (noSpan (bytesNumber s n t))
+spanOf s n t = cond (eqb (bytesNumber s n t) 0) (slotSpan s (orZero (heldSlot s t))) (noSpan (bytesNumber s n t))
 
 abbrev pub partOf : List ℕ → Span → List ℕ
 partOf b p = take (p .count) (drop (p .start) b)
@@ -52,7 +52,7 @@ unfoldable pub closeNumber : Bridge → ℕ → ℕ
 closeNumber s t = 11 if not (sound s) else 14 if isNone (heldSlot s t) else 0
 
 unfoldable pub closeOf : Bridge → ℕ → Changed
-closeOf s t = changedBy (closeNumber s t) (withSlots s (set (s .slots) (from (heldSlot s t)) blank)) s
+closeOf s t = changedBy (closeNumber s t) (withSlots s (set (s .slots) (orZero (heldSlot s t)) blank)) s
 
 -- reset turns any state into the fresh bridge of a given own number (11 if over 15)
 unfoldable pub resetNumber : ℕ → ℕ

@@ -12,7 +12,7 @@ use Rattle.bus_rules.specs.Ident.{idOffset, idKind, idFrom, idTable}
 use Rattle.bus_rules.specs.Frames.{rsp, content, headNumber}
 use Rattle.bus_rules.specs.declared.Frame.{Frame}
 use Rattle.bridge_rules.specs.declared.Bridge.{Bridge}
-use Rattle.bridge_rules.specs.State.{isWaiting, slot, withSlots, firstSlot, isNone, from}
+use Rattle.bridge_rules.specs.State.{isWaiting, slot, withSlots, firstSlot, isNone, orZero}
 use Rattle.bridge_rules.specs.Answers.{Result, plain, unless, lentNumber}
 use Rattle.bridge_rules.specs.Turn.{chunkLen, advanced}
 
@@ -42,4 +42,4 @@ frameOf s b f = unless (replyNumber s (length b) f) (record {
 }) s b
   where
     k : ℕ
-    k = from (awaiting s f)
+    k = orZero (awaiting s f)

@@ -9,7 +9,7 @@ use lib.Dec.{leb}
 use Rattle.wire.specs.Order.{_if_else_, _orElse_}
 use Rattle.bridge_rules.specs.declared.Bridge.{Bridge}
 use Rattle.bridge_rules.specs.declared.Slot.{Slot}
-use Rattle.bridge_rules.specs.State.{ready, reads, writes, askNumber, lowestFree, isNone, from}
+use Rattle.bridge_rules.specs.State.{ready, reads, writes, askNumber, lowestFree, isNone, orZero}
 use Rattle.bridge_rules.specs.Answers.{Result, unless, lentNumber}
 
 -- ── What an opening asks for ───────────────────────────────────────────────────────────────────────────────────────
@@ -86,4 +86,4 @@ openOf s b a = unless (openNumber s (length b) a) (record {
 }) s b
   where
     k : ℕ
-    k = from (lowestFree s)
+    k = orZero (lowestFree s)

@@ -170,9 +170,9 @@ abbrev pub isNone : Option ℕ → Bool
 isNone none = true
 isNone (some k) = false
 
-abbrev pub from : Option ℕ → ℕ
-from none = 0
-from (some k) = k
+abbrev pub orZero : Option ℕ → ℕ
+orZero none = 0
+orZero (some k) = k
 
 -- a slot's number, or 4 for none
 abbrev pub orFour : Option ℕ → ℕ
