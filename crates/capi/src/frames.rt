@@ -1,6 +1,6 @@
 // Identifiers, request bytes, and the table holder.
-use crate::RequestRead;
 use crate::Packed;
+use crate::RequestRead;
 use crate::Unpacked;
 ghost use mathlib.Core.Path.{_≡_};
 ghost use Rattle.bus_rules.specs.Ident.{packOf, unpackOf};
