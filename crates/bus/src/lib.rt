@@ -5,7 +5,6 @@ pub mod ident;
 pub mod requests;
 mod rows;
 
-pub use bus_rules::RequestRead;
 pub use bus_rules::CMD;
 pub use bus_rules::Directory;
 pub use bus_rules::Frame;
@@ -15,6 +14,7 @@ pub use bus_rules::REQ;
 pub use bus_rules::RSP;
 pub use bus_rules::Request;
 pub use bus_rules::RequestBytes;
+pub use bus_rules::RequestRead;
 pub use bus_rules::Served;
 pub use bus_rules::Unpacked;
 pub use bus_rules::XTND;

@@ -1,7 +1,7 @@
 // The three request bytes.
-use crate::RequestRead;
 use crate::Request;
 use crate::RequestBytes;
+use crate::RequestRead;
 use crate::rows::is_reserved;
 use crate::rows::request_of;
 ghost use mathlib.Core.Path.{_≡_};

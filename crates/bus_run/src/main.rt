@@ -1,9 +1,9 @@
 // Runs the worked examples of 002, one line each.
-use bus::RequestRead;
 use bus::Directory;
 use bus::Frame;
 use bus::Packed;
 use bus::Parts;
+use bus::RequestRead;
 use bus::Served;
 use bus::Unpacked;
 
