@@ -3,9 +3,9 @@ use Rattle.wire.specs.Order.{_if_else_, _orElse_}
 use Rattle.bus_rules.specs.Ident.{idOf, idOffset, idKind, idFrom, idTo, idTable, idSpare}
 use Rattle.bus_rules.specs.Frames.{padded, content, frameWith, noFrame, headNumber}
 use Rattle.bus_rules.specs.Request.{request, requestOf, reserved}
-use Rattle.bus_rules.specs.Holder.{sizeOf, rightOf, startOf, totalOf, soundTables, soundDirectory, directoryNumber, lengthNumber, memoryNumber, byKind, commandNumber}
-use Rattle.bus_rules.specs.Holder.{requestNumber, queryNumber, byteOf, requestAt, reservedAt, kindNumber, serveNumber, noAnswer, answerWith, replyTo}
-use Rattle.bus_rules.specs.Holder.{placeOf, protocol, actOf, memoryAct, servedBy, memoryBy, serveOf, memoryOf}
+use Rattle.bus_rules.specs.Device.{sizeOf, rightOf, startOf, totalOf, soundTables, soundDirectory, directoryNumber, lengthNumber, memoryNumber, rangeOf}
+use Rattle.bus_rules.specs.Holder.{byKind, commandNumber, requestNumber, queryNumber, byteOf, requestAt, reservedAt, kindNumber, serveNumber, noAnswer, answerWith, replyTo}
+use Rattle.bus_rules.specs.Holder.{placeOf, protocol, actOf, storing, actAfter, servedBy, afterBy, serveOf, deviceAfter}
 use Rattle.bridge_rules.specs.State.{asks, carries, askNumber, slot, fresh, soundPhase, soundSlot, soundSlots, absent, distinct, sound, firstSlot}
 use Rattle.bridge_rules.specs.State.{lowestFree, heldSlot, nextReady}
 use Rattle.bridge_rules.specs.Answers.{lentNumber}
@@ -34,11 +34,11 @@ unfolding sizeOf rightOf startOf totalOf soundTables soundDirectory directoryNum
 holder = tt
 
 unfoldable pub holder2 : Unit {0}
-unfolding requestAt reservedAt kindNumber serveNumber noAnswer answerWith replyTo placeOf protocol actOf memoryAct servedBy memoryBy
+unfolding requestAt reservedAt kindNumber serveNumber noAnswer answerWith replyTo placeOf protocol actOf storing actAfter servedBy afterBy
 holder2 = tt
 
 unfoldable pub holder3 : Unit {0}
-unfolding serveOf memoryOf
+unfolding rangeOf serveOf deviceAfter
 holder3 = tt
 
 unfoldable pub model : Unit {0}
