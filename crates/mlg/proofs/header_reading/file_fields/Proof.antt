@@ -1,0 +1,80 @@
+use borrow.Author.Needs.{needs}
+use Rattle.mlg.proofs.header_reading.file_fields.Statement.{statement}
+use Rattle.mlg.proofs.header_reading.file_fields.Tie as tie
+use Prim.Native.Nat.{_-_}
+use mathlib.Core.Path.{_∙_, ap}
+use native.Mathlib.Omega.{arith}
+use lib.ListN.{length-drop}
+use Rattle.mlg_rules.specs.Header.{fieldsEnd}
+use Rattle.mlg_rules.specs.Layout.{headerLen}
+use Rattle.mlg_rules.specs.Fields.{sizes}
+use Rattle.mlg_rules.proofs.Places.{placed}
+use Rattle.mlg_rules.proofs.Areas.{file-area, file-rest, same-fields}
+
+fields-end-requires : tie.Need-fields-end-requires
+fields-end-requires c κs = search needs
+
+cast-begin : tie.Need-cast-begin
+cast-begin c = search needs
+
+header-len-requires : tie.Need-header-len-requires
+header-len-requires c κs = search needs
+
+sub-check-fields : tie.Need-sub-check-fields
+unfolding fieldsEnd
+sub-check-fields c = omega (arith, c .header-len .ensures, placed _ _ (c .before .before .before .before .pre) .fields)
+
+part-check-fields-start : tie.Need-part-check-fields-start
+unfolding fieldsEnd
+part-check-fields-start c = omega (arith, c .header-len .ensures, placed _ _ (c .before .before .before .before .pre) .fields)
+
+part-check-fields-end : tie.Need-part-check-fields-end
+unfolding fieldsEnd
+part-check-fields-end c = omega (arith, c .header-len .ensures, placed _ _ (c .before .before .before .before .pre) .fields)
+
+sub-check-fields-2 : tie.Need-sub-check-fields-2
+sub-check-fields-2 c = omega (arith, c .before .before .before .fields-end .ensures, placed _ _ (c .before .before .before .before .before .pre) .after-fields, placed _ _ (c .before .before .before .before .before .pre) .data-begins)
+
+part-check-fields-start-2 : tie.Need-part-check-fields-start-2
+part-check-fields-start-2 c = omega (arith, c .before .before .before .fields-end .ensures, placed _ _ (c .before .before .before .before .before .pre) .after-fields, placed _ _ (c .before .before .before .before .before .pre) .data-begins)
+
+part-check-fields-end-2 : tie.Need-part-check-fields-end-2
+part-check-fields-end-2 c = omega (arith, c .before .before .before .fields-end .ensures, placed _ _ (c .before .before .before .before .before .pre) .after-fields, placed _ _ (c .before .before .before .before .before .pre) .data-begins)
+
+sub-check-fields-3 : tie.Need-sub-check-fields-3
+sub-check-fields-3 c = search needs
+
+part-check-fields-start-3 : tie.Need-part-check-fields-start-3
+part-check-fields-start-3 c = search needs
+
+part-check-fields-end-3 : tie.Need-part-check-fields-end-3
+part-check-fields-end-3 c = search needs
+
+check-fields-requires : tie.Need-check-fields-requires
+unfolding fieldsEnd
+check-fields-requires c κs = rw (file-rest (c .before .before .before .before .before .before .before .args .file .now) (c .before .before .before .header-len .result) (headerLen (c .before .before .before .before .before .before .before .args .h .version)) (c .before .before .before .header-len .ensures), length-drop) (omega (arith, placed _ _ (c .before .before .before .before .before .before .before .pre) .fields))
+
+returns : tie.Need-returns
+returns c = let r = file-rest (c .before .before .before .before .before .before .before .before .args .file .now) (c .before .before .before .before .header-len .result) (headerLen (c .before .before .before .before .before .before .before .before .args .h .version)) (c .before .before .before .before .header-len .ensures) in (
+  c .check-fields .ensures .0 ∙ same-fields (c .before .before .before .before .before .before .before .before .args .h .version) (c .before .before .before .before .before .before .before .before .args .h .count) (c .before .before .before .before .before .before .fields-end .ensures) (file-area (c .before .before .before .before .before .before .before .before .args .file .now) (c .before .before .before .before .before .before .before .before .args .h) (c .before .before .before .before .before .before .fields-end .result) (c .before .before .before .before .before .before .fields-end .ensures)) r,
+  λ z. c .check-fields .ensures .1 z ∙ ap (sizes (c .before .before .before .before .before .before .before .before .args .h .version) (c .before .before .before .before .before .before .before .before .args .h .count)) r,
+)
+
+pub file-fields-spec : {M : Type 1} → statement M
+file-fields-spec =
+    tie.close
+    (tie.spec
+    fields-end-requires
+    cast-begin
+    header-len-requires
+    sub-check-fields
+    part-check-fields-start
+    part-check-fields-end
+    sub-check-fields-2
+    part-check-fields-start-2
+    part-check-fields-end-2
+    sub-check-fields-3
+    part-check-fields-start-3
+    part-check-fields-end-3
+    check-fields-requires
+    returns)
