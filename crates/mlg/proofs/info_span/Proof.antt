@@ -18,7 +18,9 @@ span-of-requires c κs = search needs
 
 returns : tie.Need-returns
 unfolding infoSpanOf
-returns c = refused _ _ _ _ _ _ (c .before .before .before .before .args .file .now) (c .span-of .ensures) (c .before .before .read-header-number .ensures) (c .before .if1 .taken)
+returns c =
+    let a = c .before .before .before .before .args in
+    refused _ _ _ _ _ _ (a .file .now) (c .span-of .ensures) (c .before .before .read-header-number .ensures) (c .before .if1 .taken)
 
 numbers-requires : tie.Need-numbers-requires
 numbers-requires c κs = search needs
@@ -31,15 +33,29 @@ span-of-requires-2 c κs = search needs
 
 returns-2 : tie.Need-returns-2
 unfolding infoSpanOf
-returns-2 c = let z = rw (c .before .before .before .numbers .ensures) at (c .before .if2 .taken) in
-    given _ _ _ 0 0 (c .before .before .before .before .before .before .before .args .file .now) (c .span-of2 .ensures) (sym (c .before .before .before .before .before .read-header-number .ensures) ∙ c .before .before .before .before .if1 .left) (sym z) (sym (info-none (c .before .before .before .before .before .before .before .args .file .now) _ z)) (omega arith)
+returns-2 c =
+    let a = c .before .before .before .before .before .before .before .args in
+    let read-header-number = c .before .before .before .before .before .read-header-number in
+    let if1 = c .before .before .before .before .if1 in
+    let numbers = c .before .before .before .numbers in
+    let z = rw (numbers .ensures) at (c .before .if2 .taken) in
+    given _ _ _ 0 0 (a .file .now) (c .span-of2 .ensures) (sym (read-header-number .ensures) ∙ if1 .left) (sym z) (sym (info-none (a .file .now) _ z))
+    (omega arith)
 
 sub-text-len : tie.Need-sub-text-len
-sub-text-len c = let p = rw (← c .before .before .numbers .ensures) at (placed-in (c .before .before .before .before .before .before .args .file .now) (sym (c .before .before .before .before .read-header-number .ensures) ∙ c .before .before .before .if1 .left)) in
+sub-text-len c =
+    let a = c .before .before .before .before .before .before .args in
+    let read-header-number = c .before .before .before .before .read-header-number in
+    let if1 = c .before .before .before .if1 in
+    let p = rw (← c .before .before .numbers .ensures) at (placed-in (a .file .now) (sym (read-header-number .ensures) ∙ if1 .left)) in
     omega (arith, p .info-before (c .if2 .left), p .data-begins)
 
 part-text-len-start : tie.Need-part-text-len-start
-part-text-len-start c = let p = rw (← c .before .before .numbers .ensures) at (placed-in (c .before .before .before .before .before .before .args .file .now) (sym (c .before .before .before .before .read-header-number .ensures) ∙ c .before .before .before .if1 .left)) in
+part-text-len-start c =
+    let a = c .before .before .before .before .before .before .args in
+    let read-header-number = c .before .before .before .before .read-header-number in
+    let if1 = c .before .before .before .if1 in
+    let p = rw (← c .before .before .numbers .ensures) at (placed-in (a .file .now) (sym (read-header-number .ensures) ∙ if1 .left)) in
     omega (arith, p .info-before (c .if2 .left), p .data-begins)
 
 part-text-len-end : tie.Need-part-text-len-end
@@ -53,12 +69,19 @@ span-of-requires-3 c κs = search needs
 
 returns-3 : tie.Need-returns-3
 unfolding infoSpanOf
-returns-3 c = let p = rw (← c .before .before .before .before .before .numbers .ensures) at (placed-in (c .before .before .before .before .before .before .before .before .before .args .file .now) (sym (c .before .before .before .before .before .before .before .read-header-number .ensures) ∙ c .before .before .before .before .before .before .if1 .left)) in
-    let t = c .before .text-len .ensures ∙ ap textLen (tail-part (c .before .before .before .before .before .before .before .before .before .args .file .now) (c .before .before .before .before .before .numbers .result .info)) in
-    given _ _ _ _ _ (c .before .before .before .before .before .before .before .before .before .args .file .now) (c .span-of3 .ensures) (sym (c .before .before .before .before .before .before .before .read-header-number .ensures) ∙ c .before .before .before .before .before .before .if1 .left)
-    (ap (λ (h : Header). h .info) (c .before .before .before .before .before .numbers .ensures))
-    (t ∙ sym (info-some (c .before .before .before .before .before .before .before .before .before .args .file .now) (c .before .before .before .before .before .numbers .result) (c .before .before .before .if2 .left)) ∙ ap (infoLength (c .before .before .before .before .before .before .before .before .before .args .file .now)) (c .before .before .before .before .before .numbers .ensures))
-    (omega (arith, t, info-fits (c .before .before .before .before .before .before .before .before .before .args .file .now) (c .before .before .before .before .before .numbers .result) p (c .before .before .before .if2 .left)))
+returns-3 c =
+    let h = c .before .before .before .before .before in
+    let f = h .before .before .before .before .args .file .now in
+    let ok = sym (h .before .before .read-header-number .ensures) ∙ h .before .if1 .left in
+    let p = rw (← h .numbers .ensures) at (placed-in f ok) in
+    let t = c .before .text-len .ensures ∙ ap textLen (tail-part f (h .numbers .result .info)) in
+    given _ _ _ _ _ f (c .span-of3 .ensures)
+    ok
+    (ap (λ (h : Header). h .info) (h .numbers .ensures))
+    (t
+    ∙ sym (info-some f (h .numbers .result) (c .before .before .before .if2 .left))
+    ∙ ap (infoLength f) (h .numbers .ensures))
+    (omega (arith, t, info-fits f (h .numbers .result) p (c .before .before .before .if2 .left)))
 
 pub info-span-spec : {M : Type 1} → statement M
 info-span-spec =

@@ -23,7 +23,9 @@ type-number-requires c κs = search needs
 
 returns-2 : tie.Need-returns-2
 unfolding valueFieldNumber
-returns-2 c = rw (← field-of _ _ (c .before .before .before .before .before .layout-of .ensures), ← c .before .before .byte-at .ensures, ← c .before .byte-at2 .ensures) (search order depth 12)
+returns-2 c =
+    let layout-of = c .before .before .before .before .before .layout-of in
+    rw (← field-of _ _ (layout-of .ensures), ← c .before .before .byte-at .ensures, ← c .before .byte-at2 .ensures) (search order depth 12)
 
 pub value-field-number-spec : {M : Type 1} → statement M
 value-field-number-spec =

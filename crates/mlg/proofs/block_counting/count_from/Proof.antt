@@ -8,7 +8,8 @@ use Rattle.mlg_rules.specs.Log.{logFrom, logOf, tallyOf}
 use Rattle.mlg_rules.proofs.Tallies.{from, tally-next, tally-stop, tally-none, tally-all, at-fits, goes-by}
 
 abbrev Inv-loop : tie.InvT-loop
-Inv-loop file size begin left₀ at₀ n₀ left at n = (at < 2 ^ 64) × (n + left ≤ length file + 1) × (from size n (logFrom left size n file at) ≡ tallyOf size (logOf size file begin))
+Inv-loop file size begin left₀ at₀ n₀ left at n =
+    (at < 2 ^ 64) × (n + left ≤ length file + 1) × (from size n (logFrom left size n file at) ≡ tallyOf size (logOf size file begin))
 
 abbrev μ-loop : tie.MeasureT-loop
 μ-loop file size begin left₀ at₀ n₀ left at n = left
@@ -26,13 +27,28 @@ stop-number-requires : tie.Need-stop-number-requires Inv-loop μ-loop
 stop-number-requires c κs = tt
 
 returns : tie.Need-returns Inv-loop μ-loop
-returns c = rw (c .stop-number .ensures (c .before .before .before .before .before .before .args .size)) (sym (tally-stop (c .before .before .before .before .loop .left) (c .before .before .before .before .before .before .args .size) (c .before .before .before .before .loop .n) (c .before .before .before .before .before .before .args .file .now) (c .before .before .before .before .loop .at) (c .before .before .read-block .result) (c .before .before .before .loop-test .taken) (sym (c .before .before .read-block .ensures .0 .0)) (c .before .match .keys2)) ∙ c .before .before .before .before .loop .inv .2)
+returns c =
+    let a = c .before .before .before .before .before .before .args in
+    let loop = c .before .before .before .before .loop in
+    let loop-test = c .before .before .before .loop-test in
+    let read-block = c .before .before .read-block in
+    rw (c .stop-number .ensures (a .size)) (sym (tally-stop (loop .left) (a .size) (loop .n) (a .file .now) (loop .at) (read-block .result)
+    (loop-test .taken) (sym (read-block .ensures .0 .0)) (c .before .match .keys2)) ∙ loop .inv .2)
 
 length-of-requires : tie.Need-length-of-requires Inv-loop μ-loop
 length-of-requires c κs = tt
 
 add-at : tie.Need-add-at Inv-loop μ-loop
-add-at c = omega (arith, c .length-of .ensures, at-fits (c .before .before .before .before .before .before .args .size) (c .before .before .before .before .loop .n) (c .before .before .before .before .before .before .args .file .now) (c .before .before .before .before .loop .at) (c .before .before .read-block .result) (sym (c .before .before .read-block .ensures .0 .0)) (goes-by (c .before .before .read-block .result) (c .before .match .keys1)))
+add-at c =
+    let a = c .before .before .before .before .before .before .args in
+    let loop = c .before .before .before .before .loop in
+    let read-block = c .before .before .read-block in
+    omega (
+      arith,
+      c .length-of .ensures,
+      at-fits (a .size) (loop .n) (a .file .now) (loop .at) (read-block .result) (sym (read-block .ensures .0 .0))
+          (goes-by (read-block .result) (c .before .match .keys1)),
+    )
 
 add-n : tie.Need-add-n Inv-loop μ-loop
 add-n c = omega arith
@@ -44,14 +60,28 @@ loop-less : tie.Need-loop-less Inv-loop μ-loop
 loop-less c = omega arith
 
 loop-again : tie.Need-loop-again Inv-loop μ-loop
-loop-again c = (
-  omega (arith, c .length-of .ensures, at-fits (c .before .before .before .before .before .before .args .size) (c .before .before .before .before .loop .n) (c .before .before .before .before .before .before .args .file .now) (c .before .before .before .before .loop .at) (c .before .before .read-block .result) (sym (c .before .before .read-block .ensures .0 .0)) (goes-by (c .before .before .read-block .result) (c .before .match .keys1))),
-  omega arith,
-  rw (c .length-of .ensures) (sym (tally-next (c .before .before .before .before .loop .left) (c .before .before .before .before .before .before .args .size) (c .before .before .before .before .loop .n) (c .before .before .before .before .before .before .args .file .now) (c .before .before .before .before .loop .at) (c .before .before .read-block .result) (c .before .before .before .loop-test .taken) (sym (c .before .before .read-block .ensures .0 .0)) (goes-by (c .before .before .read-block .result) (c .before .match .keys1))) ∙ c .before .before .before .before .loop .inv .2),
-)
+loop-again c =
+    let a = c .before .before .before .before .before .before .args in
+    let loop = c .before .before .before .before .loop in
+    let loop-test = c .before .before .before .loop-test in
+    let read-block = c .before .before .read-block in
+    let match = c .before .match in (
+      omega (
+        arith,
+        c .length-of .ensures,
+        at-fits (a .size) (loop .n) (a .file .now) (loop .at) (read-block .result) (sym (read-block .ensures .0 .0))
+            (goes-by (read-block .result) (match .keys1)),
+      ),
+      omega arith,
+      rw (c .length-of .ensures) (sym (tally-next (loop .left) (a .size) (loop .n) (a .file .now) (loop .at) (read-block .result) (loop-test .taken)
+          (sym (read-block .ensures .0 .0)) (goes-by (read-block .result) (match .keys1))) ∙ loop .inv .2),
+    )
 
 returns-2 : tie.Need-returns-2 Inv-loop μ-loop
-returns-2 c = sym (tally-none (c .before .loop .left) (c .before .before .before .args .size) (c .before .loop .n) (c .before .before .before .args .file .now) (c .before .loop .at) (c .loop-test .left)) ∙ c .before .loop .inv .2
+returns-2 c =
+    let a = c .before .before .before .args in
+    let loop = c .before .loop in
+    sym (tally-none (loop .left) (a .size) (loop .n) (a .file .now) (loop .at) (c .loop-test .left)) ∙ loop .inv .2
 
 pub count-from-spec : {M : Type 1} → statement M
 count-from-spec =

@@ -18,7 +18,10 @@ block-parts-requires : tie.Need-block-parts-requires
 block-parts-requires c κs = (omega arith, sym (c .before .rest-number .ensures) ∙ c .if2 .left, c .before .before .before .before .pre)
 
 returns-3 : tie.Need-returns-3
-returns-3 c = c .block-parts .ensures ∙ sym (block-here _ _ _ _ (c .before .before .before .if1 .left) ∙ judged-yes _ _ _ (sym (c .before .before .rest-number .ensures) ∙ c .before .if2 .left))
+returns-3 c =
+    let if1 = c .before .before .before .if1 in
+    c .block-parts .ensures ∙ sym
+    (block-here _ _ _ _ (if1 .left) ∙ judged-yes _ _ _ (sym (c .before .before .rest-number .ensures) ∙ c .before .if2 .left))
 
 pub block-of-spec : {M : Type 1} → statement M
 block-of-spec =

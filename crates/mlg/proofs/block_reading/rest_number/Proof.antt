@@ -22,18 +22,30 @@ unfolding restNumber
 returns-2 c = rw (← c .before .before .block-len .ensures) (search order depth 9)
 
 sum-number-requires : tie.Need-sum-number-requires
-sum-number-requires c κs = omega (arith, c .before .before .before .block-len .ensures, len-data (c .before .before .before .before .before .before .args .size) _ (c .if3 .taken))
+sum-number-requires c κs =
+    let a = c .before .before .before .before .before .before .args in
+    let block-len = c .before .before .before .block-len in
+    omega (arith, block-len .ensures, len-data (a .size) _ (c .if3 .taken))
 
 returns-3 : tie.Need-returns-3
 unfolding restNumber
 returns-3 c = rw (← c .before .before .before .before .block-len .ensures, c .before .if3 .taken) (search order depth 9)
 
 text-number-requires : tie.Need-text-number-requires
-text-number-requires c κs = let k = known-mark (c .before .before .before .before .before .before .args .size) _ (λ z. c .before .before .if1 .left (c .before .before .before .block-len .ensures ∙ z)) (c .if3 .left) in omega (arith, c .before .before .before .block-len .ensures, len-mark (c .before .before .before .before .before .before .args .size) _ k)
+text-number-requires c κs =
+    let a = c .before .before .before .before .before .before .args in
+    let block-len = c .before .before .before .block-len in
+    let k = known-mark (a .size) _ (λ z. c .before .before .if1 .left (block-len .ensures ∙ z)) (c .if3 .left) in
+    omega (arith, block-len .ensures, len-mark (a .size) _ k)
 
 returns-4 : tie.Need-returns-4
 unfolding restNumber
-returns-4 c = let k = known-mark (c .before .before .before .before .before .before .before .args .size) _ (λ z. c .before .before .before .if1 .left (c .before .before .before .before .block-len .ensures ∙ z)) (c .before .if3 .left) in rw (← c .before .before .before .before .block-len .ensures, k) (search order depth 9)
+returns-4 c =
+    let a = c .before .before .before .before .before .before .before .args in
+    let block-len = c .before .before .before .before .block-len in
+    let if1 = c .before .before .before .if1 in
+    let k = known-mark (a .size) _ (λ z. if1 .left (block-len .ensures ∙ z)) (c .before .if3 .left) in
+    rw (← block-len .ensures, k) (search order depth 9)
 
 pub rest-number-spec : {M : Type 1} → statement M
 rest-number-spec =

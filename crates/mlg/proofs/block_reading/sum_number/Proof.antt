@@ -33,12 +33,16 @@ shared-slice-read-if1 c = search needs
 
 returns : tie.Need-returns
 unfolding lastOf
-returns c = let e = ap (λ (k : ℕ). sumOf (take k (drop 4 (c .before .before .before .before .before .args .t .now)))) {x = c .before .before .before .before .before .args .size + 4 - 4} {y = c .before .before .before .before .before .args .size} (omega arith) in
+returns c =
+    let a = c .before .before .before .before .before .args in
+    let e = ap (λ (k : ℕ). sumOf (take k (drop 4 (a .t .now)))) {x = a .size + 4 - 4} {y = a .size} (omega arith) in
     if-yes 26 _ 0 (not-yes _ (ne-eqb _ _ (λ z. c .if1 .taken (c .before .before .sum-of .ensures ∙ e ∙ z))))
 
 returns-2 : tie.Need-returns-2
 unfolding lastOf
-returns-2 c = let e = ap (λ (k : ℕ). sumOf (take k (drop 4 (c .before .before .before .before .before .args .t .now)))) {x = c .before .before .before .before .before .args .size + 4 - 4} {y = c .before .before .before .before .before .args .size} (omega arith) in
+returns-2 c =
+    let a = c .before .before .before .before .before .args in
+    let e = ap (λ (k : ℕ). sumOf (take k (drop 4 (a .t .now)))) {x = a .size + 4 - 4} {y = a .size} (omega arith) in
     let h = sym e ∙ sym (c .before .before .sum-of .ensures) ∙ c .if1 .left in
     search order depth 9
 

@@ -26,7 +26,14 @@ same-length : tie.Need-same-length
 same-length c = search needs
 
 returns : tie.Need-returns
-returns c = mark-put (c .before .before .before .before .before .before .before .before .before .before .before .before .before .before .args .counter) (c .before .before .before .before .before .before .before .before .before .before .before .before .before .before .args .time) (c .before .before .before .before .before .before .before .before .before .before .before .before .before .before .args .out .now) (c .before .before .before .before .before .before .before .before .before .before .before .before .before .before .args .text .now) _ _ (c .before .before .before .before .before .before .before .before .before .before .before .start-bytes .ensures) (c .before .before .before .before .before .before .before .before .before .before .padded-text .ensures) (c .before .before .before .before .before .before .before .before .before .before .before .before .before .before .pre .0) (c .before .before .before .before .before .before .before .before .before .before .before .before .before .before .pre .1) (c .before .before .before .before .before .before .before .put .ensures) (c .before .before .put2 .ensures)
+returns c =
+    let a = c .before .before .before .before .before .before .before .before .before .before .before .before .before .before .args in
+    let pre = c .before .before .before .before .before .before .before .before .before .before .before .before .before .before .pre in
+    let start-bytes = c .before .before .before .before .before .before .before .before .before .before .before .start-bytes in
+    let padded-text = c .before .before .before .before .before .before .before .before .before .before .padded-text in
+    let put = c .before .before .before .before .before .before .before .put in
+    mark-put (a .counter) (a .time) (a .out .now) (a .text .now) _ _ (start-bytes .ensures) (padded-text .ensures) (pre .0) (pre .1) (put .ensures)
+    (c .before .before .put2 .ensures)
 
 pub put-mark-spec : {M : Type 1} → statement M
 put-mark-spec =

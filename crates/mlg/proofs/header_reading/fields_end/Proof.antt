@@ -15,10 +15,15 @@ cast-result : tie.Need-cast-result
 cast-result c = search needs
 
 mul-result : tie.Need-mul-result
-mul-result c = rw (c .before .field-len .ensures) (omega (arith, fields-most (c .before .before .before .args .h .version) (c .before .before .before .args .h .count)))
+mul-result c =
+    let a = c .before .before .before .args in
+    rw (c .before .field-len .ensures) (omega (arith, fields-most (a .h .version) (a .h .count)))
 
 add-result : tie.Need-add-result
-add-result c = rw (c .before .field-len .ensures, c .before .before .header-len .ensures) (omega (arith, header-most (c .before .before .before .args .h .version), fields-most (c .before .before .before .args .h .version) (c .before .before .before .args .h .count)))
+add-result c =
+    let a = c .before .before .before .args in
+    rw (c .before .field-len .ensures, c .before .before .header-len .ensures)
+    (omega (arith, header-most (a .h .version), fields-most (a .h .version) (a .h .count)))
 
 returns : tie.Need-returns
 unfolding fieldsEnd

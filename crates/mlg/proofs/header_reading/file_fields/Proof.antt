@@ -33,13 +33,22 @@ unfolding fieldsEnd
 part-check-fields-end c = omega (arith, c .header-len .ensures, placed _ _ (c .before .before .before .before .pre) .fields)
 
 sub-check-fields-2 : tie.Need-sub-check-fields-2
-sub-check-fields-2 c = omega (arith, c .before .before .before .fields-end .ensures, placed _ _ (c .before .before .before .before .before .pre) .after-fields, placed _ _ (c .before .before .before .before .before .pre) .data-begins)
+sub-check-fields-2 c =
+    let pre = c .before .before .before .before .before .pre in
+    let fields-end = c .before .before .before .fields-end in
+    omega (arith, fields-end .ensures, placed _ _ pre .after-fields, placed _ _ pre .data-begins)
 
 part-check-fields-start-2 : tie.Need-part-check-fields-start-2
-part-check-fields-start-2 c = omega (arith, c .before .before .before .fields-end .ensures, placed _ _ (c .before .before .before .before .before .pre) .after-fields, placed _ _ (c .before .before .before .before .before .pre) .data-begins)
+part-check-fields-start-2 c =
+    let pre = c .before .before .before .before .before .pre in
+    let fields-end = c .before .before .before .fields-end in
+    omega (arith, fields-end .ensures, placed _ _ pre .after-fields, placed _ _ pre .data-begins)
 
 part-check-fields-end-2 : tie.Need-part-check-fields-end-2
-part-check-fields-end-2 c = omega (arith, c .before .before .before .fields-end .ensures, placed _ _ (c .before .before .before .before .before .pre) .after-fields, placed _ _ (c .before .before .before .before .before .pre) .data-begins)
+part-check-fields-end-2 c =
+    let pre = c .before .before .before .before .before .pre in
+    let fields-end = c .before .before .before .fields-end in
+    omega (arith, fields-end .ensures, placed _ _ pre .after-fields, placed _ _ pre .data-begins)
 
 sub-check-fields-3 : tie.Need-sub-check-fields-3
 sub-check-fields-3 c = search needs
@@ -52,13 +61,23 @@ part-check-fields-end-3 c = search needs
 
 check-fields-requires : tie.Need-check-fields-requires
 unfolding fieldsEnd
-check-fields-requires c κs = rw (file-rest (c .before .before .before .before .before .before .before .args .file .now) (c .before .before .before .header-len .result) (headerLen (c .before .before .before .before .before .before .before .args .h .version)) (c .before .before .before .header-len .ensures), length-drop) (omega (arith, placed _ _ (c .before .before .before .before .before .before .before .pre) .fields))
+check-fields-requires c κs =
+    let a = c .before .before .before .before .before .before .before .args in
+    let pre = c .before .before .before .before .before .before .before .pre in
+    let header-len = c .before .before .before .header-len in
+    rw (file-rest (a .file .now) (header-len .result) (headerLen (a .h .version)) (header-len .ensures), length-drop)
+    (omega (arith, placed _ _ pre .fields))
 
 returns : tie.Need-returns
-returns c = let r = file-rest (c .before .before .before .before .before .before .before .before .args .file .now) (c .before .before .before .before .header-len .result) (headerLen (c .before .before .before .before .before .before .before .before .args .h .version)) (c .before .before .before .before .header-len .ensures) in (
-  c .check-fields .ensures .0 ∙ same-fields (c .before .before .before .before .before .before .before .before .args .h .version) (c .before .before .before .before .before .before .before .before .args .h .count) (c .before .before .before .before .before .before .fields-end .ensures) (file-area (c .before .before .before .before .before .before .before .before .args .file .now) (c .before .before .before .before .before .before .before .before .args .h) (c .before .before .before .before .before .before .fields-end .result) (c .before .before .before .before .before .before .fields-end .ensures)) r,
-  λ z. c .check-fields .ensures .1 z ∙ ap (sizes (c .before .before .before .before .before .before .before .before .args .h .version) (c .before .before .before .before .before .before .before .before .args .h .count)) r,
-)
+returns c =
+    let a = c .before .before .before .before .before .before .before .before .args in
+    let fields-end = c .before .before .before .before .before .before .fields-end in
+    let header-len = c .before .before .before .before .header-len in
+    let r = file-rest (a .file .now) (header-len .result) (headerLen (a .h .version)) (header-len .ensures) in (
+      c .check-fields .ensures .0 ∙ same-fields (a .h .version) (a .h .count) (fields-end .ensures)
+          (file-area (a .file .now) (a .h) (fields-end .result) (fields-end .ensures)) r,
+      λ z. c .check-fields .ensures .1 z ∙ ap (sizes (a .h .version) (a .h .count)) r,
+    )
 
 pub file-fields-spec : {M : Type 1} → statement M
 file-fields-spec =

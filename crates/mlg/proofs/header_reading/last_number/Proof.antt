@@ -40,11 +40,27 @@ zero-count-requires c κs = search needs
 
 returns-3 : tie.Need-returns-3
 unfolding lastNumber areaIn
-returns-3 c = rw (← c .before .before .before .before .before .before .before .before .before .pre .0, ← (c .before .zero-count .ensures ∙ ap zeros (area-part (c .before .before .before .before .before .before .before .before .before .args .file .now) (fieldsEnd (c .before .before .before .before .before .before .before .before .before .args .h)) (c .before .before .before .before .before .before .before .before .before .args .h .begin) (c .before .before .before .before .before .before .before .before .before .args .h .info) (placed _ _ (c .before .before .before .before .before .before .before .before .before .pre .1) .info-after (c .before .before .before .before .if2 .left))))) (search order depth 12)
+returns-3 c =
+    let pre = c .before .before .before .before .before .before .before .before .before .pre in
+    let a = c .before .before .before .before .before .before .before .before .before .args in
+    let if2 = c .before .before .before .before .if2 in
+    rw (
+      ← pre .0,
+      ← (c .before .zero-count .ensures ∙ ap zeros
+          (area-part (a .file .now) (fieldsEnd (a .h)) (a .h .begin) (a .h .info) (placed _ _ (pre .1) .info-after (if2 .left)))),
+    ) (search order depth 12)
 
 returns-4 : tie.Need-returns-4
 unfolding lastNumber areaIn
-returns-4 c = rw (← c .before .before .before .before .before .before .before .before .before .pre .0, ← (c .before .zero-count .ensures ∙ ap zeros (area-part (c .before .before .before .before .before .before .before .before .before .args .file .now) (fieldsEnd (c .before .before .before .before .before .before .before .before .before .args .h)) (c .before .before .before .before .before .before .before .before .before .args .h .begin) (c .before .before .before .before .before .before .before .before .before .args .h .info) (placed _ _ (c .before .before .before .before .before .before .before .before .before .pre .1) .info-after (c .before .before .before .before .if2 .left))))) (search order depth 12)
+returns-4 c =
+    let pre = c .before .before .before .before .before .before .before .before .before .pre in
+    let a = c .before .before .before .before .before .before .before .before .before .args in
+    let if2 = c .before .before .before .before .if2 in
+    rw (
+      ← pre .0,
+      ← (c .before .zero-count .ensures ∙ ap zeros
+          (area-part (a .file .now) (fieldsEnd (a .h)) (a .h .begin) (a .h .info) (placed _ _ (pre .1) .info-after (if2 .left)))),
+    ) (search order depth 12)
 
 pub last-number-spec : {M : Type 1} → statement M
 last-number-spec =

@@ -26,11 +26,17 @@ is-served-requires c κs = search needs
 
 returns-3 : tie.Need-returns-3
 unfolding nameNumber
-returns-3 c = rw (← c .before .before .before .before .before .before .header-len .ensures, ← c .before .before .before .before .be48 .ensures, ← c .before .before .be16 .ensures, ← c .before .is-served .ensures) (search order depth 12)
+returns-3 c =
+    let header-len = c .before .before .before .before .before .before .header-len in
+    let be48 = c .before .before .before .before .be48 in
+    rw (← header-len .ensures, ← be48 .ensures, ← c .before .before .be16 .ensures, ← c .before .is-served .ensures) (search order depth 12)
 
 returns-4 : tie.Need-returns-4
 unfolding nameNumber
-returns-4 c = rw (← c .before .before .before .before .before .before .header-len .ensures, ← c .before .before .before .before .be48 .ensures, ← c .before .before .be16 .ensures, ← c .before .is-served .ensures) (search order depth 12)
+returns-4 c =
+    let header-len = c .before .before .before .before .before .before .header-len in
+    let be48 = c .before .before .before .before .be48 in
+    rw (← header-len .ensures, ← be48 .ensures, ← c .before .before .be16 .ensures, ← c .before .is-served .ensures) (search order depth 12)
 
 pub name-number-spec : {M : Type 1} → statement M
 name-number-spec =

@@ -37,7 +37,20 @@ be16-requires-3 c κs = search needs
 
 returns : tie.Need-returns
 unfolding numbersOf
-returns c = rw (c .be163 .ensures, c .before .be162 .ensures, c .before .before .be322 .ensures, c .before .before .before .info-len .ensures, c .before .before .before .before .info-at .ensures, c .before .before .before .before .before .be32 .ensures, c .before .before .before .before .before .before .be16 .ensures)
+returns c =
+    let be16 = c .before .before .before .before .before .before .be16 in
+    let be32 = c .before .before .before .before .before .be32 in
+    let info-at = c .before .before .before .before .info-at in
+    let info-len = c .before .before .before .info-len in
+    rw (
+      c .be163 .ensures,
+      c .before .be162 .ensures,
+      c .before .before .be322 .ensures,
+      info-len .ensures,
+      info-at .ensures,
+      be32 .ensures,
+      be16 .ensures,
+    )
 
 pub numbers-spec : {M : Type 1} → statement M
 numbers-spec =

@@ -30,7 +30,9 @@ unfolding readHeaderNumber bodyNumber
 returns-3 c = rw (← c .before .before .before .before .numbers .ensures) (search order depth 12)
 
 last-number-requires : tie.Need-last-number-requires
-last-number-requires c κs = (c .before .file-fields .ensures .1 (c .if3 .left), sym (c .before .before .before .places-number .ensures) ∙ c .before .before .if2 .left)
+last-number-requires c κs =
+    let places-number = c .before .before .before .places-number in
+    (c .before .file-fields .ensures .1 (c .if3 .left), sym (places-number .ensures) ∙ c .before .before .if2 .left)
 
 returns-4 : tie.Need-returns-4
 unfolding readHeaderNumber bodyNumber

@@ -14,7 +14,10 @@ div-count : tie.Need-div-count
 div-count c = omega (arith, c .field-len .ensures, field-least (c .before .before .before .before .args .version))
 
 cast-count : tie.Need-cast-count
-cast-count c = rw (c .field-len .ensures) (omega (arith, fit (c .before .before .before .before .args .version) (c .before .before .before .before .args .fields .now) (c .before .before .before .before .args .names .now) (c .before .before .before .before .args .info .now) (c .before .before .before .before .pre) .few))
+cast-count c =
+    let a = c .before .before .before .before .args in
+    let pre = c .before .before .before .before .pre in
+    rw (c .field-len .ensures) (omega (arith, fit (a .version) (a .fields .now) (a .names .now) (a .info .now) pre .few))
 
 header-len-requires : tie.Need-header-len-requires
 header-len-requires c κs = search needs
@@ -26,7 +29,12 @@ check-fields-requires : tie.Need-check-fields-requires
 check-fields-requires c κs = rw (c .before .field-len .ensures) (fields-fit (c .before .before .before .before .before .args .version) _)
 
 returns : tie.Need-returns
-returns c = rw (c .before .before .field-len .ensures, c .before .header-len .ensures) at (c .check-fields .ensures .0) ∙ body-is (c .before .before .before .before .before .before .args .version) (c .before .before .before .before .before .before .args .time) (c .before .before .before .before .before .before .args .fields .now) (c .before .before .before .before .before .before .args .names .now) (c .before .before .before .before .before .before .args .info .now) (header-some (c .before .before .before .before .before .before .args .version)) (fit (c .before .before .before .before .before .before .args .version) (c .before .before .before .before .before .before .args .fields .now) (c .before .before .before .before .before .before .args .names .now) (c .before .before .before .before .before .before .args .info .now) (c .before .before .before .before .before .before .pre) .whole)
+returns c =
+    let a = c .before .before .before .before .before .before .args in
+    let pre = c .before .before .before .before .before .before .pre in
+    rw (c .before .before .field-len .ensures, c .before .header-len .ensures) at (c .check-fields .ensures .0) ∙ body-is (a .version) (a .time)
+    (a .fields .now) (a .names .now) (a .info .now) (header-some (a .version))
+    (fit (a .version) (a .fields .now) (a .names .now) (a .info .now) pre .whole)
 
 pub body-number-spec : {M : Type 1} → statement M
 body-number-spec =

@@ -34,7 +34,11 @@ sizes-of-requires c κs = rw (c .before .before .field-len .ensures) (fields-fit
 
 returns-3 : tie.Need-returns-3
 unfolding lengthsNumber
-returns-3 c = rw (← c .before .before .before .before .field-len .ensures, ← c .before .sizes-of .ensures) (if-no 23 _ _ _ (not-no _ (eq-eqb _ _ (c .before .before .before .if1 .left))) (if-no 23 _ _ _ (le-ltb _ _ (c .before .before .if2 .left)) (if-yes 23 _ _ (lt-ltb _ _ (c .if3 .taken)))))
+returns-3 c =
+    let field-len = c .before .before .before .before .field-len in
+    let if1 = c .before .before .before .if1 in
+    rw (← field-len .ensures, ← c .before .sizes-of .ensures) (if-no 23 _ _ _ (not-no _ (eq-eqb _ _ (if1 .left)))
+    (if-no 23 _ _ _ (le-ltb _ _ (c .before .before .if2 .left)) (if-yes 23 _ _ (lt-ltb _ _ (c .if3 .taken)))))
 
 ended-len-requires : tie.Need-ended-len-requires
 ended-len-requires c κs = search needs
@@ -46,31 +50,63 @@ header-len-requires : tie.Need-header-len-requires
 header-len-requires c κs = search needs
 
 add-if4 : tie.Need-add-if4
-add-if4 c = omega (arith, c .header-len .ensures, header-most (c .before .before .before .before .before .before .before .before .before .before .args .version))
+add-if4 c =
+    let a = c .before .before .before .before .before .before .before .before .before .before .args in
+    omega (arith, c .header-len .ensures, header-most (a .version))
 
 sub-if4 : tie.Need-sub-if4
-sub-if4 c = let few = rw (c .before .before .before .before .before .before .field-len .ensures) at (c .before .before .before .before .if2 .left) in omega (arith, c .header-len .ensures, header-most (c .before .before .before .before .before .before .before .before .before .before .args .version), fields-few (c .before .before .before .before .before .before .before .before .before .before .args .version) _ few)
+sub-if4 c =
+    let a = c .before .before .before .before .before .before .before .before .before .before .args in
+    let field-len = c .before .before .before .before .before .before .field-len in
+    let if2 = c .before .before .before .before .if2 in
+    let few = rw (field-len .ensures) at (if2 .left) in
+    omega (arith, c .header-len .ensures, header-most (a .version), fields-few (a .version) _ few)
 
 returns-4 : tie.Need-returns-4
 unfolding lengthsNumber
-returns-4 c = let few = rw (c .before .before .before .before .before .before .before .field-len .ensures) at (c .before .before .before .before .before .if2 .left) in
-    let t = too-long (c .before .before .before .before .before .before .before .before .before .before .before .args .version) (c .before .before .before .before .before .before .before .before .before .before .before .args .fields .now) (c .before .before .before .before .before .before .before .before .before .before .before .args .names .now) (c .before .before .before .before .before .before .before .before .before .before .before .args .info .now) _ _ (c .before .before .ended-len .ensures) (c .before .header-len .ensures) few (c .if4 .taken) in
-    rw (← c .before .before .before .before .before .before .before .field-len .ensures, ← c .before .before .before .before .sizes-of .ensures) (if-no 23 _ _ _ (not-no _ (eq-eqb _ _ (c .before .before .before .before .before .before .if1 .left))) (if-no 23 _ _ _ (le-ltb _ _ (c .before .before .before .before .before .if2 .left)) (if-no 23 _ _ _ (le-ltb _ _ (c .before .before .before .if3 .left)) (if-yes 23 _ _ t))))
+returns-4 c =
+    let a = c .before .before .before .before .before .before .before .before .before .before .before .args in
+    let field-len = c .before .before .before .before .before .before .before .field-len in
+    let if1 = c .before .before .before .before .before .before .if1 in
+    let if2 = c .before .before .before .before .before .if2 in
+    let sizes-of = c .before .before .before .before .sizes-of in
+    let if3 = c .before .before .before .if3 in
+    let few = rw (field-len .ensures) at (if2 .left) in
+    let t = too-long (a .version) (a .fields .now) (a .names .now) (a .info .now) _ _ (c .before .before .ended-len .ensures)
+    (c .before .header-len .ensures) few (c .if4 .taken) in
+    rw (← field-len .ensures, ← sizes-of .ensures) (if-no 23 _ _ _ (not-no _ (eq-eqb _ _ (if1 .left)))
+    (if-no 23 _ _ _ (le-ltb _ _ (if2 .left)) (if-no 23 _ _ _ (le-ltb _ _ (if3 .left)) (if-yes 23 _ _ t))))
 
 text-len-requires : tie.Need-text-len-requires
 text-len-requires c κs = search needs
 
 returns-5 : tie.Need-returns-5
 unfolding lengthsNumber
-returns-5 c = let few = rw (c .before .before .before .before .before .before .before .before .before .field-len .ensures) at (c .before .before .before .before .before .before .before .if2 .left) in
-    let t = not-long (c .before .before .before .before .before .before .before .before .before .before .before .before .before .args .version) (c .before .before .before .before .before .before .before .before .before .before .before .before .before .args .fields .now) (c .before .before .before .before .before .before .before .before .before .before .before .before .before .args .names .now) (c .before .before .before .before .before .before .before .before .before .before .before .before .before .args .info .now) _ _ (c .before .before .before .before .ended-len .ensures) (c .before .before .before .header-len .ensures) few (c .before .before .if4 .left) in
-    rw (← c .before .before .before .before .before .before .before .before .before .field-len .ensures, ← c .before .before .before .before .before .before .sizes-of .ensures, ← c .before .text-len .ensures) (search order depth 12)
+returns-5 c =
+    let a = c .before .before .before .before .before .before .before .before .before .before .before .before .before .args in
+    let field-len = c .before .before .before .before .before .before .before .before .before .field-len in
+    let if2 = c .before .before .before .before .before .before .before .if2 in
+    let sizes-of = c .before .before .before .before .before .before .sizes-of in
+    let ended-len = c .before .before .before .before .ended-len in
+    let header-len = c .before .before .before .header-len in
+    let few = rw (field-len .ensures) at (if2 .left) in
+    let t = not-long (a .version) (a .fields .now) (a .names .now) (a .info .now) _ _ (ended-len .ensures) (header-len .ensures) few
+    (c .before .before .if4 .left) in
+    rw (← field-len .ensures, ← sizes-of .ensures, ← c .before .text-len .ensures) (search order depth 12)
 
 returns-6 : tie.Need-returns-6
 unfolding lengthsNumber
-returns-6 c = let few = rw (c .before .before .before .before .before .before .before .before .before .field-len .ensures) at (c .before .before .before .before .before .before .before .if2 .left) in
-    let t = not-long (c .before .before .before .before .before .before .before .before .before .before .before .before .before .args .version) (c .before .before .before .before .before .before .before .before .before .before .before .before .before .args .fields .now) (c .before .before .before .before .before .before .before .before .before .before .before .before .before .args .names .now) (c .before .before .before .before .before .before .before .before .before .before .before .before .before .args .info .now) _ _ (c .before .before .before .before .ended-len .ensures) (c .before .before .before .header-len .ensures) few (c .before .before .if4 .left) in
-    rw (← c .before .before .before .before .before .before .before .before .before .field-len .ensures, ← c .before .before .before .before .before .before .sizes-of .ensures, ← c .before .text-len .ensures) (search order depth 12)
+returns-6 c =
+    let a = c .before .before .before .before .before .before .before .before .before .before .before .before .before .args in
+    let field-len = c .before .before .before .before .before .before .before .before .before .field-len in
+    let if2 = c .before .before .before .before .before .before .before .if2 in
+    let sizes-of = c .before .before .before .before .before .before .sizes-of in
+    let ended-len = c .before .before .before .before .ended-len in
+    let header-len = c .before .before .before .header-len in
+    let few = rw (field-len .ensures) at (if2 .left) in
+    let t = not-long (a .version) (a .fields .now) (a .names .now) (a .info .now) _ _ (ended-len .ensures) (header-len .ensures) few
+    (c .before .before .if4 .left) in
+    rw (← field-len .ensures, ← sizes-of .ensures, ← c .before .text-len .ensures) (search order depth 12)
 
 pub lengths-number-spec : {M : Type 1} → statement M
 lengths-number-spec =

@@ -78,7 +78,18 @@ array-read-t63 c = search needs
 
 returns : tie.Need-returns
 unfolding numberBytes layoutOf
-returns c = rw (c .before .before .before .before .before .two-bytes .ensures, c .before .before .before .before .four-bytes .ensures, c .before .before .before .four-bytes2 .ensures, c .before .before .four-bytes3 .ensures, c .before .two-bytes2 .ensures, c .two-bytes3 .ensures)
+returns c =
+    let two-bytes = c .before .before .before .before .before .two-bytes in
+    let four-bytes = c .before .before .before .before .four-bytes in
+    let four-bytes2 = c .before .before .before .four-bytes2 in
+    rw (
+      two-bytes .ensures,
+      four-bytes .ensures,
+      four-bytes2 .ensures,
+      c .before .before .four-bytes3 .ensures,
+      c .before .two-bytes2 .ensures,
+      c .two-bytes3 .ensures,
+    )
 
 pub number-bytes-spec : {M : Type 1} → statement M
 number-bytes-spec =

@@ -9,7 +9,10 @@ put-requires : tie.Need-put-requires
 put-requires c κs = search needs
 
 add-put : tie.Need-add-put
-add-put c = omega (arith, ended-length (c .before .before .before .before .before .before .before .before .args .info .now) (c .before .before .before .before .before .if1 .taken))
+add-put c =
+    let a = c .before .before .before .before .before .before .before .before .args in
+    let if1 = c .before .before .before .before .before .if1 in
+    omega (arith, ended-length (a .info .now) (if1 .taken))
 
 slice-aggregate-put : tie.Need-slice-aggregate-put
 slice-aggregate-put c = search needs
@@ -21,10 +24,18 @@ same-length : tie.Need-same-length
 same-length c = search needs
 
 returns : tie.Need-returns
-returns c = put-zero (c .before .before .before .before .before .before .before .before .before .before .before .before .args .out .now) (c .before .before .before .before .before .before .before .before .before .before .before .before .args .at) (c .before .before .before .before .before .before .before .before .before .before .before .before .args .info .now) (c .before .before .before .before .before .before .before .before .before .if1 .taken) (c .before .before .before .before .before .before .before .before .before .before .before .before .pre) (c .before .before .before .before .before .before .before .put .ensures) (c .before .before .put2 .ensures)
+returns c =
+    let a = c .before .before .before .before .before .before .before .before .before .before .before .before .args in
+    let pre = c .before .before .before .before .before .before .before .before .before .before .before .before .pre in
+    let if1 = c .before .before .before .before .before .before .before .before .before .if1 in
+    let put = c .before .before .before .before .before .before .before .put in
+    put-zero (a .out .now) (a .at) (a .info .now) (if1 .taken) pre (put .ensures) (c .before .before .put2 .ensures)
 
 returns-2 : tie.Need-returns-2
-returns-2 c = put-empty (c .before .before .before .args .out .now) (c .before .before .before .args .at) (c .before .before .before .args .info .now) (c .if1 .left) (c .before .before .before .pre)
+returns-2 c =
+    let a = c .before .before .before .args in
+    let pre = c .before .before .before .pre in
+    put-empty (a .out .now) (a .at) (a .info .now) (c .if1 .left) pre
 
 pub put-ended-spec : {M : Type 1} → statement M
 put-ended-spec =

@@ -18,7 +18,16 @@ header-len-requires : tie.Need-header-len-requires
 header-len-requires c κs = search needs
 
 add-end : tie.Need-add-end
-add-end c = omega (arith, c .header-len .ensures, fit (c .before .before .before .before .before .before .before .args .version) (c .before .before .before .before .before .before .before .args .fields .now) (c .before .before .before .before .before .before .before .args .names .now) (c .before .before .before .before .before .before .before .args .info .now) (c .before .before .before .before .before .before .before .pre .0) .file, area-length (c .before .before .before .before .before .before .before .args .names .now) (c .before .before .before .before .before .before .before .args .info .now))
+add-end c =
+    let a = c .before .before .before .before .before .before .before .args in
+    let pre = c .before .before .before .before .before .before .before .pre in
+    omega (
+      arith,
+      c .header-len .ensures,
+      fit (a .version) (a .fields .now) (a .names .now) (a .info .now) (pre .0) .file,
+      area-length (a .names .now)
+          (a .info .now),
+    )
 
 slice-aggregate-put : tie.Need-slice-aggregate-put
 slice-aggregate-put c = search needs
@@ -33,16 +42,48 @@ put-requires-3 : tie.Need-put-requires-3
 put-requires-3 c κs = search needs
 
 add-put-ended : tie.Need-add-put-ended
-add-put-ended c = omega (arith, c .before .before .before .before .before .before .before .before .before .before .before .before .before .before .header-len .ensures, fit (c .before .before .before .before .before .before .before .before .before .before .before .before .before .before .before .before .before .before .before .before .before .args .version) (c .before .before .before .before .before .before .before .before .before .before .before .before .before .before .before .before .before .before .before .before .before .args .fields .now) (c .before .before .before .before .before .before .before .before .before .before .before .before .before .before .before .before .before .before .before .before .before .args .names .now) (c .before .before .before .before .before .before .before .before .before .before .before .before .before .before .before .before .before .before .before .before .before .args .info .now) (c .before .before .before .before .before .before .before .before .before .before .before .before .before .before .before .before .before .before .before .before .before .pre .0) .file, area-length (c .before .before .before .before .before .before .before .before .before .before .before .before .before .before .before .before .before .before .before .before .before .args .names .now) (c .before .before .before .before .before .before .before .before .before .before .before .before .before .before .before .before .before .before .before .before .before .args .info .now))
+add-put-ended c =
+    let a = c .before .before .before .before .before .before .before .before .before .before .before .before .before .before .before .before .before .before .before .before .before .args in
+    let pre = c .before .before .before .before .before .before .before .before .before .before .before .before .before .before .before .before .before .before .before .before .before .pre in
+    let header-len = c .before .before .before .before .before .before .before .before .before .before .before .before .before .before .header-len in
+    omega (
+      arith,
+      header-len .ensures,
+      fit (a .version) (a .fields .now) (a .names .now) (a .info .now) (pre .0) .file,
+      area-length (a .names .now)
+          (a .info .now),
+    )
 
 put-ended-requires : tie.Need-put-ended-requires
-put-ended-requires c κs = omega (arith, c .before .before .before .before .before .before .before .before .before .before .before .before .before .before .header-len .ensures, c .before .before .before .before .before .before .before .before .before .before .before .before .before .before .before .before .before .before .before .before .before .pre .1, header-length (c .before .before .before .before .before .before .before .before .before .before .before .before .before .before .before .before .before .before .before .before .before .args .version) (c .before .before .before .before .before .before .before .before .before .before .before .before .before .before .before .before .before .before .before .before .before .args .time) (c .before .before .before .before .before .before .before .before .before .before .before .before .before .before .before .before .before .before .before .before .before .args .fields .now) (c .before .before .before .before .before .before .before .before .before .before .before .before .before .before .before .before .before .before .before .before .before .args .names .now) (c .before .before .before .before .before .before .before .before .before .before .before .before .before .before .before .before .before .before .before .before .before .args .info .now), area-length (c .before .before .before .before .before .before .before .before .before .before .before .before .before .before .before .before .before .before .before .before .before .args .names .now) (c .before .before .before .before .before .before .before .before .before .before .before .before .before .before .before .before .before .before .before .before .before .args .info .now))
+put-ended-requires c κs =
+    let pre = c .before .before .before .before .before .before .before .before .before .before .before .before .before .before .before .before .before .before .before .before .before .pre in
+    let a = c .before .before .before .before .before .before .before .before .before .before .before .before .before .before .before .before .before .before .before .before .before .args in
+    let header-len = c .before .before .before .before .before .before .before .before .before .before .before .before .before .before .header-len in
+    omega (
+      arith,
+      header-len .ensures,
+      pre .1,
+      header-length (a .version) (a .time) (a .fields .now) (a .names .now) (a .info .now),
+      area-length
+          (a .names .now) (a .info .now),
+    )
 
 same-length : tie.Need-same-length
 same-length c = search needs
 
 returns : tie.Need-returns
-returns c = header-put (c .before .before .before .before .before .before .before .before .before .before .before .before .before .before .before .before .before .before .before .before .before .before .before .before .args .version) (c .before .before .before .before .before .before .before .before .before .before .before .before .before .before .before .before .before .before .before .before .before .before .before .before .args .time) (c .before .before .before .before .before .before .before .before .before .before .before .before .before .before .before .before .before .before .before .before .before .before .before .before .args .fields .now) (c .before .before .before .before .before .before .before .before .before .before .before .before .before .before .before .before .before .before .before .before .before .before .before .before .args .names .now) (c .before .before .before .before .before .before .before .before .before .before .before .before .before .before .before .before .before .before .before .before .before .before .before .before .args .info .now) (c .before .before .before .before .before .before .before .before .before .before .before .before .before .before .before .before .before .before .before .before .before .before .before .before .args .out .now) _ _ (c .before .before .before .before .before .before .before .before .before .before .before .before .before .before .before .before .before .before .number-bytes .ensures ∙ ap numberBytes (c .before .before .before .before .before .before .before .before .before .before .before .before .before .before .before .before .before .before .before .header-for .ensures)) (c .before .before .before .before .before .before .before .before .before .before .before .before .before .before .before .before .before .header-len .ensures) (c .before .before .before .before .before .before .before .before .before .before .before .before .before .before .before .before .before .before .before .before .before .before .before .before .pre .1) (c .before .before .before .before .before .before .before .before .before .before .before .before .before .before .put .ensures) (c .before .before .before .before .before .before .before .before .before .before .put2 .ensures) (c .before .before .before .before .before .before .put3 .ensures) (c .before .before .put-ended .ensures)
+returns c =
+    let a = c .before .before .before .before .before .before .before .before .before .before .before .before .before .before .before .before .before .before .before .before .before .before .before .before .args in
+    let pre = c .before .before .before .before .before .before .before .before .before .before .before .before .before .before .before .before .before .before .before .before .before .before .before .before .pre in
+    let header-for = c .before .before .before .before .before .before .before .before .before .before .before .before .before .before .before .before .before .before .before .header-for in
+    let number-bytes = c .before .before .before .before .before .before .before .before .before .before .before .before .before .before .before .before .before .before .number-bytes in
+    let header-len = c .before .before .before .before .before .before .before .before .before .before .before .before .before .before .before .before .before .header-len in
+    let put = c .before .before .before .before .before .before .before .before .before .before .before .before .before .before .put in
+    let put2 = c .before .before .before .before .before .before .before .before .before .before .put2 in
+    let put3 = c .before .before .before .before .before .before .put3 in
+    header-put (a .version) (a .time) (a .fields .now) (a .names .now) (a .info .now) (a .out .now) _ _
+    (number-bytes .ensures ∙ ap numberBytes (header-for .ensures)) (header-len .ensures) (pre .1) (put .ensures) (put2 .ensures) (put3 .ensures)
+    (c .before .before .put-ended .ensures)
 
 pub put-header-spec : {M : Type 1} → statement M
 put-header-spec =

@@ -9,19 +9,55 @@ header-len-requires : tie.Need-header-len-requires
 header-len-requires c κs = search needs
 
 add-result : tie.Need-add-result
-add-result c = omega (arith, c .header-len .ensures, fit (c .before .before .before .before .args .version) (c .before .before .before .before .args .fields .now) (c .before .before .before .before .args .names .now) (c .before .before .before .before .args .info .now) (c .before .before .before .before .pre) .file, area-length (c .before .before .before .before .args .names .now) (c .before .before .before .before .args .info .now))
+add-result c =
+    let a = c .before .before .before .before .args in
+    let pre = c .before .before .before .before .pre in
+    omega (
+      arith,
+      c .header-len .ensures,
+      fit (a .version) (a .fields .now) (a .names .now) (a .info .now) pre .file,
+      area-length (a .names .now)
+          (a .info .now),
+    )
 
 add-result-2 : tie.Need-add-result-2
-add-result-2 c = omega (arith, c .header-len .ensures, fit (c .before .before .before .before .args .version) (c .before .before .before .before .args .fields .now) (c .before .before .before .before .args .names .now) (c .before .before .before .before .args .info .now) (c .before .before .before .before .pre) .file, area-length (c .before .before .before .before .args .names .now) (c .before .before .before .before .args .info .now))
+add-result-2 c =
+    let a = c .before .before .before .before .args in
+    let pre = c .before .before .before .before .pre in
+    omega (
+      arith,
+      c .header-len .ensures,
+      fit (a .version) (a .fields .now) (a .names .now) (a .info .now) pre .file,
+      area-length (a .names .now)
+          (a .info .now),
+    )
 
 ended-len-requires : tie.Need-ended-len-requires
 ended-len-requires c κs = search needs
 
 add-result-3 : tie.Need-add-result-3
-add-result-3 c = omega (arith, c .before .header-len .ensures, c .ended-len .ensures, fit (c .before .before .before .before .before .args .version) (c .before .before .before .before .before .args .fields .now) (c .before .before .before .before .before .args .names .now) (c .before .before .before .before .before .args .info .now) (c .before .before .before .before .before .pre) .file, area-length (c .before .before .before .before .before .args .names .now) (c .before .before .before .before .before .args .info .now))
+add-result-3 c =
+    let a = c .before .before .before .before .before .args in
+    let pre = c .before .before .before .before .before .pre in
+    omega (
+      arith,
+      c .before .header-len .ensures,
+      c .ended-len .ensures,
+      fit (a .version) (a .fields .now) (a .names .now) (a .info .now) pre .file,
+      area-length (a .names .now) (a .info .now),
+    )
 
 returns : tie.Need-returns
-returns c = omega (arith, c .before .header-len .ensures, c .ended-len .ensures, fit (c .before .before .before .before .before .args .version) (c .before .before .before .before .before .args .fields .now) (c .before .before .before .before .before .args .names .now) (c .before .before .before .before .before .args .info .now) (c .before .before .before .before .before .pre) .file, area-length (c .before .before .before .before .before .args .names .now) (c .before .before .before .before .before .args .info .now))
+returns c =
+    let a = c .before .before .before .before .before .args in
+    let pre = c .before .before .before .before .before .pre in
+    omega (
+      arith,
+      c .before .header-len .ensures,
+      c .ended-len .ensures,
+      fit (a .version) (a .fields .now) (a .names .now) (a .info .now) pre .file,
+      area-length (a .names .now) (a .info .now),
+    )
 
 pub total-len-spec : {M : Type 1} → statement M
 total-len-spec =

@@ -19,20 +19,34 @@ body-number-requires c κs = sym (c .before .lengths-number .ensures) ∙ c .if1
 
 returns-2 : tie.Need-returns-2
 unfolding writeHeaderNumber
-returns-2 c = else-none _ _ _ _ (c .before .before .before .lengths-number .ensures) (c .before .before .if1 .left) (else-some _ _ _ (c .before .body-number .ensures) (c .if2 .taken))
+returns-2 c =
+    let lengths-number = c .before .before .before .lengths-number in
+    else-none _ _ _ _ (lengths-number .ensures) (c .before .before .if1 .left) (else-some _ _ _ (c .before .body-number .ensures) (c .if2 .taken))
 
 total-len-requires : tie.Need-total-len-requires
 total-len-requires c κs = sym (c .before .before .before .lengths-number .ensures) ∙ c .before .before .if1 .left
 
 returns-3 : tie.Need-returns-3
 unfolding writeHeaderNumber
-returns-3 c = let l = c .before .total-len .ensures .0 ∙ sym (header-length (c .before .before .before .before .before .before .before .before .before .args .version) (c .before .before .before .before .before .before .before .before .before .args .time) (c .before .before .before .before .before .before .before .before .before .args .fields .now) (c .before .before .before .before .before .before .before .before .before .args .names .now) (c .before .before .before .before .before .before .before .before .before .args .info .now)) in
-    else-none _ _ _ _ (c .before .before .before .before .before .lengths-number .ensures) (c .before .before .before .before .if1 .left) (else-none _ _ _ _ (c .before .before .before .body-number .ensures) (c .before .before .if2 .left) (if-yes 27 _ 0 (lt-ltb _ _ (rw l at (c .if3 .taken)))))
+returns-3 c =
+    let a = c .before .before .before .before .before .before .before .before .before .args in
+    let lengths-number = c .before .before .before .before .before .lengths-number in
+    let if1 = c .before .before .before .before .if1 in
+    let body-number = c .before .before .before .body-number in
+    let l = c .before .total-len .ensures .0 ∙ sym (header-length (a .version) (a .time) (a .fields .now) (a .names .now) (a .info .now)) in
+    else-none _ _ _ _ (lengths-number .ensures) (if1 .left)
+    (else-none _ _ _ _ (body-number .ensures) (c .before .before .if2 .left) (if-yes 27 _ 0 (lt-ltb _ _ (rw l at (c .if3 .taken)))))
 
 returns-4 : tie.Need-returns-4
 unfolding writeHeaderNumber
-returns-4 c = let l = c .before .total-len .ensures .0 ∙ sym (header-length (c .before .before .before .before .before .before .before .before .before .args .version) (c .before .before .before .before .before .before .before .before .before .args .time) (c .before .before .before .before .before .before .before .before .before .args .fields .now) (c .before .before .before .before .before .before .before .before .before .args .names .now) (c .before .before .before .before .before .before .before .before .before .args .info .now)) in
-    else-none _ _ _ _ (c .before .before .before .before .before .lengths-number .ensures) (c .before .before .before .before .if1 .left) (else-none _ _ _ _ (c .before .before .before .body-number .ensures) (c .before .before .if2 .left) (if-no 27 _ 0 0 (le-ltb _ _ (rw l at (c .if3 .left))) refl))
+returns-4 c =
+    let a = c .before .before .before .before .before .before .before .before .before .args in
+    let lengths-number = c .before .before .before .before .before .lengths-number in
+    let if1 = c .before .before .before .before .if1 in
+    let body-number = c .before .before .before .body-number in
+    let l = c .before .total-len .ensures .0 ∙ sym (header-length (a .version) (a .time) (a .fields .now) (a .names .now) (a .info .now)) in
+    else-none _ _ _ _ (lengths-number .ensures) (if1 .left)
+    (else-none _ _ _ _ (body-number .ensures) (c .before .before .if2 .left) (if-no 27 _ 0 0 (le-ltb _ _ (rw l at (c .if3 .left))) refl))
 
 pub write-header-number-spec : {M : Type 1} → statement M
 write-header-number-spec =
