@@ -43,6 +43,11 @@ fit v fields names info z =
       text = ltb-false _ _ (g .0);
     }
 
+-- header, fields, names area, and info with its zero
+pub file-most : (v : ℕ) (fields names info : List ℕ) → lengthsNumber v fields names info ≡ 0
+    → headerLen v + length fields + (length names + length (ended info)) ≤ 4294967295
+file-most v fields names info z = omega (arith, fit v fields names info z .file, area-length names info)
+
 module _ (v time : ℕ) (fields names : List ℕ) where
   pub fields-end : (info : List ℕ) → length fields % fieldLen v ≡ 0 → fieldsEnd (headerFor v time fields names info) ≡ headerLen v + length fields
   unfolding fieldsEnd headerFor

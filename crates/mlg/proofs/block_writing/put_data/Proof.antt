@@ -32,14 +32,14 @@ same-length c = search needs
 
 returns : tie.Need-returns
 returns c =
-    let a = c .before .before .before .before .before .before .before .before .before .before .before .before .before .before .before .before .before .before .args in
-    let pre = c .before .before .before .before .before .before .before .before .before .before .before .before .before .before .before .before .before .before .pre in
-    let start-bytes = c .before .before .before .before .before .before .before .before .before .before .before .before .before .before .before .start-bytes in
-    let put = c .before .before .before .before .before .before .before .before .before .before .before .before .put in
-    let put2 = c .before .before .before .before .before .before .before .before .put2 in
-    let sum-of = c .before .before .before .before .before .sum-of in
-    data-put (a .counter) (a .time) (a .out .now) (a .bytes .now) _ _ (start-bytes .ensures) (sum-of .ensures) pre (put .ensures) (put2 .ensures)
-    (c .before .before .put3 .ensures)
+    let sum = c .before .before .before .before .before in
+    let put2 = sum .before .before .before in
+    let put1 = put2 .before .before .before .before in
+    let start = put1 .before .before .before in
+    let s = start .before .before .before in
+    let a = s .args in
+    data-put (a .counter) (a .time) (a .out .now) (a .bytes .now) _ _ (start .start-bytes .ensures) (sum .sum-of .ensures) (s .pre)
+    (put1 .put .ensures) (put2 .put2 .ensures) (c .before .before .put3 .ensures)
 
 pub put-data-spec : {M : Type 1} → statement M
 put-data-spec =

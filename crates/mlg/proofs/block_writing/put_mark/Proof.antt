@@ -27,13 +27,13 @@ same-length c = search needs
 
 returns : tie.Need-returns
 returns c =
-    let a = c .before .before .before .before .before .before .before .before .before .before .before .before .before .before .args in
-    let pre = c .before .before .before .before .before .before .before .before .before .before .before .before .before .before .pre in
-    let start-bytes = c .before .before .before .before .before .before .before .before .before .before .before .start-bytes in
-    let padded-text = c .before .before .before .before .before .before .before .before .before .before .padded-text in
-    let put = c .before .before .before .before .before .before .before .put in
-    mark-put (a .counter) (a .time) (a .out .now) (a .text .now) _ _ (start-bytes .ensures) (padded-text .ensures) (pre .0) (pre .1) (put .ensures)
-    (c .before .before .put2 .ensures)
+    let put1 = c .before .before .before .before .before .before .before in
+    let pad = put1 .before .before .before in
+    let start = pad .before in
+    let s = start .before .before .before in
+    let a = s .args in
+    mark-put (a .counter) (a .time) (a .out .now) (a .text .now) _ _ (start .start-bytes .ensures) (pad .padded-text .ensures) (s .pre .0) (s .pre .1)
+    (put1 .put .ensures) (c .before .before .put2 .ensures)
 
 pub put-mark-spec : {M : Type 1} → statement M
 put-mark-spec =

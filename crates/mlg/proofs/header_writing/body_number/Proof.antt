@@ -4,8 +4,7 @@ use Rattle.mlg.proofs.header_writing.body_number.Tie as tie
 use mathlib.Core.Path.{_∙_}
 use native.Mathlib.Omega.{arith}
 use Rattle.mlg_rules.proofs.Fits.{fit, body-is}
-use Rattle.mlg_rules.proofs.Layouts.{field-least}
-use Rattle.mlg_rules.proofs.Layouts.{fields-fit, header-most, header-some}
+use Rattle.mlg_rules.proofs.Layouts.{field-least, fields-fit, header-most, header-some}
 
 field-len-requires : tie.Need-field-len-requires
 field-len-requires c κs = search needs
@@ -14,10 +13,7 @@ div-count : tie.Need-div-count
 div-count c = omega (arith, c .field-len .ensures, field-least (c .before .before .before .before .args .version))
 
 cast-count : tie.Need-cast-count
-cast-count c =
-    let a = c .before .before .before .before .args in
-    let pre = c .before .before .before .before .pre in
-    rw (c .field-len .ensures) (omega (arith, fit (a .version) (a .fields .now) (a .names .now) (a .info .now) pre .few))
+cast-count c = rw (c .field-len .ensures) (omega (arith, fit _ _ _ _ (c .before .before .before .before .pre) .few))
 
 header-len-requires : tie.Need-header-len-requires
 header-len-requires c κs = search needs
@@ -30,11 +26,11 @@ check-fields-requires c κs = rw (c .before .field-len .ensures) (fields-fit (c 
 
 returns : tie.Need-returns
 returns c =
-    let a = c .before .before .before .before .before .before .args in
-    let pre = c .before .before .before .before .before .before .pre in
-    rw (c .before .before .field-len .ensures, c .before .header-len .ensures) at (c .check-fields .ensures .0) ∙ body-is (a .version) (a .time)
-    (a .fields .now) (a .names .now) (a .info .now) (header-some (a .version))
-    (fit (a .version) (a .fields .now) (a .names .now) (a .info .now) pre .whole)
+    let s = c .before .before .before .before .before .before in
+    let a = s .args in
+    let e = rw (c .before .before .field-len .ensures, c .before .header-len .ensures) at (c .check-fields .ensures .0) in
+    let f = fit _ _ _ _ (s .pre) in
+    e ∙ body-is (a .version) (a .time) (a .fields .now) (a .names .now) (a .info .now) (header-some (a .version)) (f .whole)
 
 pub body-number-spec : {M : Type 1} → statement M
 body-number-spec =

@@ -5,11 +5,9 @@ use Prim.Native.Nat.{_+_}
 use native.Mathlib.Omega.{arith}
 use lib.ListN.{length}
 use Rattle.mlg_rules.specs.Writing.{headerFor}
-use Rattle.mlg_rules.proofs.Areas.{area-length}
-use Rattle.mlg_rules.proofs.Fits.{fit}
+use Rattle.mlg_rules.proofs.Fits.{fit, file-most}
 use Rattle.mlg_rules.proofs.HeaderBytes.{start-most}
-use Rattle.mlg_rules.proofs.Layouts.{field-least}
-use Rattle.mlg_rules.proofs.Layouts.{fields-fit}
+use Rattle.mlg_rules.proofs.Layouts.{field-least, fields-fit}
 
 field-len-requires : tie.Need-field-len-requires
 field-len-requires c κs = search needs
@@ -18,47 +16,24 @@ div-count : tie.Need-div-count
 div-count c = omega (arith, c .field-len .ensures, field-least (c .before .before .before .before .args .version))
 
 cast-count : tie.Need-cast-count
-cast-count c =
-    let a = c .before .before .before .before .args in
-    let pre = c .before .before .before .before .pre in
-    rw (c .field-len .ensures) (omega (arith, fit (a .version) (a .fields .now) (a .names .now) (a .info .now) pre .few))
+cast-count c = rw (c .field-len .ensures) (omega (arith, fit _ _ _ _ (c .before .before .before .before .pre) .few))
 
 sizes-of-requires : tie.Need-sizes-of-requires
 sizes-of-requires c κs = rw (c .field-len .ensures) (fields-fit (c .before .before .before .before .args .version) _)
 
 cast-size : tie.Need-cast-size
 cast-size c =
-    let a = c .before .before .before .before .before .args in
-    let pre = c .before .before .before .before .before .pre in
     let s = rw (c .before .field-len .ensures) at (c .sizes-of .ensures) in
-    omega (arith, s, fit (a .version) (a .fields .now) (a .names .now) (a .info .now) pre .small)
+    omega (arith, s, fit _ _ _ _ (c .before .before .before .before .before .pre) .small)
 
 header-len-requires : tie.Need-header-len-requires
 header-len-requires c κs = search needs
 
 add-at : tie.Need-add-at
-add-at c =
-    let a = c .before .before .before .before .before .before .args in
-    let pre = c .before .before .before .before .before .before .pre in
-    omega (
-      arith,
-      c .header-len .ensures,
-      fit (a .version) (a .fields .now) (a .names .now) (a .info .now) pre .file,
-      area-length (a .names .now)
-          (a .info .now),
-    )
+add-at c = omega (arith, c .header-len .ensures, file-most _ _ _ _ (c .before .before .before .before .before .before .pre))
 
 add-at-2 : tie.Need-add-at-2
-add-at-2 c =
-    let a = c .before .before .before .before .before .before .args in
-    let pre = c .before .before .before .before .before .before .pre in
-    omega (
-      arith,
-      c .header-len .ensures,
-      fit (a .version) (a .fields .now) (a .names .now) (a .info .now) pre .file,
-      area-length (a .names .now)
-          (a .info .now),
-    )
+add-at-2 c = omega (arith, c .header-len .ensures, file-most _ _ _ _ (c .before .before .before .before .before .before .pre))
 
 total-len-requires : tie.Need-total-len-requires
 total-len-requires c κs = search needs
@@ -71,18 +46,10 @@ info-start-requires c κs = search needs
 
 cast-start : tie.Need-cast-start
 cast-start c =
-    let a = c .before .before .before .before .before .before .before .before .args in
-    let pre = c .before .before .before .before .before .before .before .before .pre in
-    let header-len = c .before .before .header-len in
-    omega (
-      arith,
-      header-len .ensures,
-      fit (a .version) (a .fields .now) (a .names .now) (a .info .now) pre .file,
-      area-length (a .names .now)
-          (a .info .now),
-      c .info-start .ensures,
-      start-most (header-len .result + length (a .fields .now) + length (a .names .now)) (a .info .now),
-    )
+    let s = c .before .before .before .before .before .before .before .before in
+    let n = c .before .before .header-len in
+    let at = n .result + length (s .args .fields .now) + length (s .args .names .now) in
+    omega (arith, n .ensures, file-most _ _ _ _ (s .pre), c .info-start .ensures, start-most at (s .args .info .now))
 
 returns : tie.Need-returns
 unfolding headerFor

@@ -6,8 +6,7 @@ use borrow.Author.Tests.{lt-ltb, le-ltb, eq-eqb}
 use Rattle.wire.proofs.Orders.{order, if-yes, if-no, not-no}
 use Rattle.mlg_rules.specs.Writing.{lengthsNumber}
 use Rattle.mlg_rules.proofs.Fits.{too-long, not-long, ended-most}
-use Rattle.mlg_rules.proofs.Layouts.{field-least}
-use Rattle.mlg_rules.proofs.Layouts.{fields-fit, fields-few, header-most}
+use Rattle.mlg_rules.proofs.Layouts.{field-least, fields-fit, fields-few, header-most}
 
 field-len-requires : tie.Need-field-len-requires
 field-len-requires c κs = search needs

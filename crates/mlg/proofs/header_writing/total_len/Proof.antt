@@ -3,61 +3,27 @@ use Rattle.mlg.proofs.header_writing.total_len.Statement.{statement}
 use Rattle.mlg.proofs.header_writing.total_len.Tie as tie
 use native.Mathlib.Omega.{arith}
 use Rattle.mlg_rules.proofs.Areas.{area-length}
-use Rattle.mlg_rules.proofs.Fits.{fit}
+use Rattle.mlg_rules.proofs.Fits.{file-most}
 
 header-len-requires : tie.Need-header-len-requires
 header-len-requires c κs = search needs
 
 add-result : tie.Need-add-result
-add-result c =
-    let a = c .before .before .before .before .args in
-    let pre = c .before .before .before .before .pre in
-    omega (
-      arith,
-      c .header-len .ensures,
-      fit (a .version) (a .fields .now) (a .names .now) (a .info .now) pre .file,
-      area-length (a .names .now)
-          (a .info .now),
-    )
+add-result c = omega (arith, c .header-len .ensures, file-most _ _ _ _ (c .before .before .before .before .pre))
 
 add-result-2 : tie.Need-add-result-2
-add-result-2 c =
-    let a = c .before .before .before .before .args in
-    let pre = c .before .before .before .before .pre in
-    omega (
-      arith,
-      c .header-len .ensures,
-      fit (a .version) (a .fields .now) (a .names .now) (a .info .now) pre .file,
-      area-length (a .names .now)
-          (a .info .now),
-    )
+add-result-2 c = omega (arith, c .header-len .ensures, file-most _ _ _ _ (c .before .before .before .before .pre))
 
 ended-len-requires : tie.Need-ended-len-requires
 ended-len-requires c κs = search needs
 
 add-result-3 : tie.Need-add-result-3
-add-result-3 c =
-    let a = c .before .before .before .before .before .args in
-    let pre = c .before .before .before .before .before .pre in
-    omega (
-      arith,
-      c .before .header-len .ensures,
-      c .ended-len .ensures,
-      fit (a .version) (a .fields .now) (a .names .now) (a .info .now) pre .file,
-      area-length (a .names .now) (a .info .now),
-    )
+add-result-3 c = omega (arith, c .before .header-len .ensures, c .ended-len .ensures, file-most _ _ _ _ (c .before .before .before .before .before .pre))
 
 returns : tie.Need-returns
 returns c =
-    let a = c .before .before .before .before .before .args in
-    let pre = c .before .before .before .before .before .pre in
-    omega (
-      arith,
-      c .before .header-len .ensures,
-      c .ended-len .ensures,
-      fit (a .version) (a .fields .now) (a .names .now) (a .info .now) pre .file,
-      area-length (a .names .now) (a .info .now),
-    )
+    let s = c .before .before .before .before .before in
+    omega (arith, c .before .header-len .ensures, c .ended-len .ensures, file-most _ _ _ _ (s .pre), area-length (s .args .names .now) (s .args .info .now))
 
 pub total-len-spec : {M : Type 1} → statement M
 total-len-spec =
