@@ -1,13 +1,16 @@
 use borrow.Author.Needs.{needs}
 use Rattle.mlg.proofs.info_span.Statement.{statement}
 use Rattle.mlg.proofs.info_span.Tie as tie
-use mathlib.Core.Path.{sym, _∙_, ap}
+use mathlib.Core.Path.{_≡_, sym, _∙_, ap}
 use Prim.Native.Nat.{_-_}
 use native.Mathlib.Omega.{arith}
+use lib.ListN.{length}
 use Rattle.wire.specs.Text.{textLen}
 use Rattle.wire.proofs.Parts.{tail-part}
 use Rattle.mlg_rules.specs.declared.Header.{Header}
+use Rattle.mlg_rules.specs.Header.{readHeaderNumber}
 use Rattle.mlg_rules.specs.Parts.{infoSpanOf, infoLength}
+use Rattle.mlg_rules.proofs.Places.{Placed}
 use Rattle.mlg_rules.proofs.Spans.{refused, given, placed-in, info-none, info-some, info-fits}
 
 read-header-number-requires : tie.Need-read-header-number-requires
@@ -25,6 +28,16 @@ returns c =
 numbers-requires : tie.Need-numbers-requires
 numbers-requires c κs = search needs
 
+-- the file, where its header's numbers are read; no number refuses it, and its places stand
+abbrev entry : tie.After-numbers → tie.Start
+entry n = n .before .before .before .before
+
+stands : (n : tie.After-numbers) → readHeaderNumber (entry n .args .file .now) ≡ 0
+stands n = sym (n .before .before .read-header-number .ensures) ∙ n .before .if1 .left
+
+in-file : (n : tie.After-numbers) → Placed (length (entry n .args .file .now)) (n .numbers .result)
+in-file n = rw (← n .numbers .ensures) at (placed-in (entry n .args .file .now) (stands n))
+
 cast-info : tie.Need-cast-info
 cast-info c = search needs
 
@@ -34,29 +47,16 @@ span-of-requires-2 c κs = search needs
 returns-2 : tie.Need-returns-2
 unfolding infoSpanOf
 returns-2 c =
-    let a = c .before .before .before .before .before .before .before .args in
-    let read-header-number = c .before .before .before .before .before .read-header-number in
-    let if1 = c .before .before .before .before .if1 in
-    let numbers = c .before .before .before .numbers in
-    let z = rw (numbers .ensures) at (c .before .if2 .taken) in
-    given _ _ _ 0 0 (a .file .now) (c .span-of2 .ensures) (sym (read-header-number .ensures) ∙ if1 .left) (sym z) (sym (info-none (a .file .now) _ z))
-    (omega arith)
+    let n = c .before .before .before in
+    let f = entry n .args .file .now in
+    let z = rw (n .numbers .ensures) at (c .before .if2 .taken) in
+    given _ _ _ 0 0 f (c .span-of2 .ensures) (stands n) (sym z) (sym (info-none f _ z)) (omega arith)
 
 sub-text-len : tie.Need-sub-text-len
-sub-text-len c =
-    let a = c .before .before .before .before .before .before .args in
-    let read-header-number = c .before .before .before .before .read-header-number in
-    let if1 = c .before .before .before .if1 in
-    let p = rw (← c .before .before .numbers .ensures) at (placed-in (a .file .now) (sym (read-header-number .ensures) ∙ if1 .left)) in
-    omega (arith, p .info-before (c .if2 .left), p .data-begins)
+sub-text-len c = let p = in-file (c .before .before) in omega (arith, p .info-before (c .if2 .left), p .data-begins)
 
 part-text-len-start : tie.Need-part-text-len-start
-part-text-len-start c =
-    let a = c .before .before .before .before .before .before .args in
-    let read-header-number = c .before .before .before .before .read-header-number in
-    let if1 = c .before .before .before .if1 in
-    let p = rw (← c .before .before .numbers .ensures) at (placed-in (a .file .now) (sym (read-header-number .ensures) ∙ if1 .left)) in
-    omega (arith, p .info-before (c .if2 .left), p .data-begins)
+part-text-len-start c = let p = in-file (c .before .before) in omega (arith, p .info-before (c .if2 .left), p .data-begins)
 
 part-text-len-end : tie.Need-part-text-len-end
 part-text-len-end c = search needs
@@ -70,18 +70,13 @@ span-of-requires-3 c κs = search needs
 returns-3 : tie.Need-returns-3
 unfolding infoSpanOf
 returns-3 c =
-    let h = c .before .before .before .before .before in
-    let f = h .before .before .before .before .args .file .now in
-    let ok = sym (h .before .before .read-header-number .ensures) ∙ h .before .if1 .left in
-    let p = rw (← h .numbers .ensures) at (placed-in f ok) in
-    let t = c .before .text-len .ensures ∙ ap textLen (tail-part f (h .numbers .result .info)) in
-    given _ _ _ _ _ f (c .span-of3 .ensures)
-    ok
-    (ap (λ (h : Header). h .info) (h .numbers .ensures))
-    (t
-    ∙ sym (info-some f (h .numbers .result) (c .before .before .before .if2 .left))
-    ∙ ap (infoLength f) (h .numbers .ensures))
-    (omega (arith, t, info-fits f (h .numbers .result) p (c .before .before .before .if2 .left)))
+    let n = c .before .before .before .before .before in
+    let f = entry n .args .file .now in
+    let h = n .numbers .result in
+    let some = c .before .before .before .if2 .left in
+    let t = c .before .text-len .ensures ∙ ap textLen (tail-part f (h .info)) in
+    given _ _ _ _ _ f (c .span-of3 .ensures) (stands n) (ap (λ (h : Header). h .info) (n .numbers .ensures))
+    (t ∙ sym (info-some f h some) ∙ ap (infoLength f) (n .numbers .ensures)) (omega (arith, t, info-fits f h (in-file n) some))
 
 pub info-span-spec : {M : Type 1} → statement M
 info-span-spec =
