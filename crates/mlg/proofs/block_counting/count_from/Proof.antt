@@ -30,10 +30,11 @@ returns : tie.Need-returns Inv-loop μ-loop
 returns c =
     let a = c .before .before .before .before .before .before .args in
     let loop = c .before .before .before .before .loop in
-    let loop-test = c .before .before .before .loop-test in
-    let read-block = c .before .before .read-block in
-    rw (c .stop-number .ensures (a .size)) (sym (tally-stop (loop .left) (a .size) (loop .n) (a .file .now) (loop .at) (read-block .result)
-    (loop-test .taken) (sym (read-block .ensures .0 .0)) (c .before .match .keys2)) ∙ loop .inv .2)
+    let some = c .before .before .before .loop-test .taken in
+    let b = c .before .before .read-block in
+    let e = sym (b .ensures .0 .0) in
+    let t = tally-stop (loop .left) (a .size) (loop .n) (a .file .now) (loop .at) (b .result) some e (c .before .match .keys2) in
+    rw (c .stop-number .ensures (a .size)) (sym t ∙ loop .inv .2)
 
 length-of-requires : tie.Need-length-of-requires Inv-loop μ-loop
 length-of-requires c κs = tt
@@ -42,13 +43,9 @@ add-at : tie.Need-add-at Inv-loop μ-loop
 add-at c =
     let a = c .before .before .before .before .before .before .args in
     let loop = c .before .before .before .before .loop in
-    let read-block = c .before .before .read-block in
-    omega (
-      arith,
-      c .length-of .ensures,
-      at-fits (a .size) (loop .n) (a .file .now) (loop .at) (read-block .result) (sym (read-block .ensures .0 .0))
-          (goes-by (read-block .result) (c .before .match .keys1)),
-    )
+    let b = c .before .before .read-block in
+    let goes = goes-by (b .result) (c .before .match .keys1) in
+    omega (arith, c .length-of .ensures, at-fits (a .size) (loop .n) (a .file .now) (loop .at) (b .result) (sym (b .ensures .0 .0)) goes)
 
 add-n : tie.Need-add-n Inv-loop μ-loop
 add-n c = omega arith
@@ -63,18 +60,14 @@ loop-again : tie.Need-loop-again Inv-loop μ-loop
 loop-again c =
     let a = c .before .before .before .before .before .before .args in
     let loop = c .before .before .before .before .loop in
-    let loop-test = c .before .before .before .loop-test in
-    let read-block = c .before .before .read-block in
-    let match = c .before .match in (
-      omega (
-        arith,
-        c .length-of .ensures,
-        at-fits (a .size) (loop .n) (a .file .now) (loop .at) (read-block .result) (sym (read-block .ensures .0 .0))
-            (goes-by (read-block .result) (match .keys1)),
-      ),
+    let some = c .before .before .before .loop-test .taken in
+    let b = c .before .before .read-block in
+    let e = sym (b .ensures .0 .0) in
+    let goes = goes-by (b .result) (c .before .match .keys1) in
+    let t = tally-next (loop .left) (a .size) (loop .n) (a .file .now) (loop .at) (b .result) some e goes in (
+      omega (arith, c .length-of .ensures, at-fits (a .size) (loop .n) (a .file .now) (loop .at) (b .result) e goes),
       omega arith,
-      rw (c .length-of .ensures) (sym (tally-next (loop .left) (a .size) (loop .n) (a .file .now) (loop .at) (read-block .result) (loop-test .taken)
-          (sym (read-block .ensures .0 .0)) (goes-by (read-block .result) (match .keys1))) ∙ loop .inv .2),
+      rw (c .length-of .ensures) (sym t ∙ loop .inv .2),
     )
 
 returns-2 : tie.Need-returns-2 Inv-loop μ-loop

@@ -8,9 +8,8 @@ use Rattle.mlg_rules.specs.Layout.{fieldLen}
 use Rattle.mlg_rules.specs.Area.{areaOf}
 use Rattle.mlg_rules.specs.Fields.{fieldsNumber, sizes}
 use Rattle.wire.proofs.Orders.{else-some}
-use Rattle.mlg_rules.proofs.Layouts.{field-least}
+use Rattle.mlg_rules.proofs.Layouts.{field-least, one-of}
 use Rattle.mlg_rules.proofs.Types.{size-most}
-use Rattle.mlg_rules.proofs.Layouts.{one-of}
 use Rattle.mlg_rules.proofs.EachField.{fields-at, fields-next, sizes-next, fields-done, sizes-done}
 
 abbrev Inv-loop : tie.InvT-loop
@@ -35,13 +34,11 @@ field-at-requires c κs =
 
 returns : tie.Need-returns Inv-loop μ-loop
 returns c =
-    let a′ = c .before .before .before .before .before .before .before .before .args in
+    let a = c .before .before .before .before .before .before .before .before .args in
     let loop = c .before .before .before .loop in
-    let a = a′ in (
-      else-some _ _ _ (c .before .field-at .ensures .0) (c .if1 .taken) ∙ sym (fields-at (a .version) (a .fields .now) (a .base)
-          (areaOf (a .names .now) (a .info .now)) (loop .left) (loop .at) (c .before .before .loop-test .taken)) ∙ loop .inv .3,
-      λ z. absurd (c .if1 .taken z),
-    )
+    let area = areaOf (a .names .now) (a .info .now) in
+    let f = fields-at (a .version) (a .fields .now) (a .base) area (loop .left) (loop .at) (c .before .before .loop-test .taken) in
+    (else-some _ _ _ (c .before .field-at .ensures .0) (c .if1 .taken) ∙ sym f ∙ loop .inv .3, λ z. absurd (c .if1 .taken z))
 
 add-total : tie.Need-add-total Inv-loop μ-loop
 add-total c =
@@ -64,36 +61,29 @@ loop-less c = omega arith
 
 loop-again : tie.Need-loop-again Inv-loop μ-loop
 loop-again c =
-    let a′ = c .before .before .before .before .before .before .before .before .before .args in
-    let field-len = c .before .before .before .before .before .field-len in
+    let a = c .before .before .before .before .before .before .before .before .before .args in
+    let len = c .before .before .before .before .before .field-len .ensures in
     let loop = c .before .before .before .before .loop in
-    let loop-test = c .before .before .before .loop-test in
-    let field-at = c .before .before .field-at in
-    let a = a′ in
-    let n = fields-next (a .version) (a .fields .now) (a .base) (areaOf (a .names .now) (a .info .now)) (loop .left) (loop .at) _ _ (loop-test .taken)
-    (field-len .ensures) (field-at .ensures .0) (c .before .if1 .left) in
-    let s = sizes-next (a .version) (a .fields .now) (a .base) (areaOf (a .names .now) (a .info .now)) (loop .left) (loop .at) _ _ (loop-test .taken)
-    (field-len .ensures) (field-at .ensures .1) in (
-      field-len .ensures,
-      omega (arith, one-of (fieldLen (a′ .version)) (loop .left) (loop-test .taken)),
-      omega (arith, field-at .ensures .1, size-most (getD (take (fieldLen (a′ .version)) (drop (loop .at) (a′ .fields .now))) 0 0)),
+    let some = c .before .before .before .loop-test .taken in
+    let field-at = c .before .before .field-at .ensures in
+    let area = areaOf (a .names .now) (a .info .now) in
+    let n = fields-next (a .version) (a .fields .now) (a .base) area (loop .left) (loop .at) _ _ some len (field-at .0) (c .before .if1 .left) in
+    let s = sizes-next (a .version) (a .fields .now) (a .base) area (loop .left) (loop .at) _ _ some len (field-at .1) in (
+      len,
+      omega (arith, one-of (fieldLen (a .version)) (loop .left) some),
+      omega (arith, field-at .1, size-most (getD (take (fieldLen (a .version)) (drop (loop .at) (a .fields .now))) 0 0)),
       n ∙ loop .inv .3,
       omega arith,
     )
 
 returns-2 : tie.Need-returns-2 Inv-loop μ-loop
 returns-2 c =
-    let a′ = c .before .before .before .before .before .before .args in
+    let a = c .before .before .before .before .before .before .args in
     let loop = c .before .loop in
-    let a = a′ in (
-      sym (fields-done (a .version) (a .fields .now) (a .base) (areaOf (a .names .now) (a .info .now)) (loop .left) (loop .at) (c .loop-test .left))
-          ∙ loop .inv .3,
-      λ z. omega (
-        arith,
-        sizes-done (a .version) (a .fields .now) (a .base) (areaOf (a .names .now) (a .info .now)) (loop .left) (loop .at)
-            (c .loop-test .left),
-      ),
-    )
+    let area = areaOf (a .names .now) (a .info .now) in
+    let f = fields-done (a .version) (a .fields .now) (a .base) area (loop .left) (loop .at) (c .loop-test .left) in
+    let s = sizes-done (a .version) (a .fields .now) (a .base) area (loop .left) (loop .at) (c .loop-test .left) in
+    (sym f ∙ loop .inv .3, λ z. omega (arith, s))
 
 pub check-fields-spec : {M : Type 1} → statement M
 check-fields-spec =

@@ -27,8 +27,7 @@ text-len-requires c κs = search needs
 returns : tie.Need-returns
 unfolding unended
 returns c =
-    let a′ = c .before .before .before .args in
-    let a = a′ in
+    let a = c .before .before .before .args in
     rw (c .text-len .ensures) (ap (λ (k : ℕ). leb (a .n) (textLen (take k (drop (a .at) (a .d .now))))) (add-sub-cancel-left (a .at) (a .n)))
 
 pub unended-spec : {M : Type 1} → statement M

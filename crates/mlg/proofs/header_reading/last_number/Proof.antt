@@ -2,7 +2,9 @@ use borrow.Author.Needs.{needs}
 use Rattle.mlg.proofs.header_reading.last_number.Statement.{statement}
 use Rattle.mlg.proofs.header_reading.last_number.Tie as tie
 use native.Mathlib.Omega.{arith}
-use mathlib.Core.Path.{ap, _∙_}
+use Prim.Native.Nat.{_-_}
+use mathlib.Core.Path.{_≡_, ap, _∙_}
+use lib.ListN.{drop}
 use Rattle.wire.specs.Text.{zeros}
 use Rattle.mlg_rules.specs.Header.{lastNumber, areaIn, fieldsEnd}
 use Rattle.mlg_rules.proofs.Areas.{area-part}
@@ -38,29 +40,23 @@ part-zero-count-end c = omega (arith, placed _ _ (c .before .before .before .bef
 zero-count-requires : tie.Need-zero-count-requires
 zero-count-requires c κs = search needs
 
+-- the zeros from info start to data begin
+counted : (z : tie.After-zero-count) → let a = z .before .before .before .before .before .before .before .before .args in
+    z .zero-count .result ≡ zeros (drop (a .h .info - fieldsEnd (a .h)) (areaIn (a .file .now) (a .h)))
+unfolding areaIn
+counted z =
+    let s = z .before .before .before .before .before .before .before .before in
+    let p = placed _ _ (s .pre .1) in
+    let h = s .args .h in
+    z .zero-count .ensures ∙ ap zeros (area-part (s .args .file .now) (fieldsEnd h) (h .begin) (h .info) (p .info-after (z .before .before .before .if2 .left)))
+
 returns-3 : tie.Need-returns-3
-unfolding lastNumber areaIn
-returns-3 c =
-    let pre = c .before .before .before .before .before .before .before .before .before .pre in
-    let a = c .before .before .before .before .before .before .before .before .before .args in
-    let if2 = c .before .before .before .before .if2 in
-    rw (
-      ← pre .0,
-      ← (c .before .zero-count .ensures ∙ ap zeros
-          (area-part (a .file .now) (fieldsEnd (a .h)) (a .h .begin) (a .h .info) (placed _ _ (pre .1) .info-after (if2 .left)))),
-    ) (search order depth 12)
+unfolding lastNumber
+returns-3 c = rw (← c .before .before .before .before .before .before .before .before .before .pre .0, ← counted (c .before)) (search order depth 12)
 
 returns-4 : tie.Need-returns-4
-unfolding lastNumber areaIn
-returns-4 c =
-    let pre = c .before .before .before .before .before .before .before .before .before .pre in
-    let a = c .before .before .before .before .before .before .before .before .before .args in
-    let if2 = c .before .before .before .before .if2 in
-    rw (
-      ← pre .0,
-      ← (c .before .zero-count .ensures ∙ ap zeros
-          (area-part (a .file .now) (fieldsEnd (a .h)) (a .h .begin) (a .h .info) (placed _ _ (pre .1) .info-after (if2 .left)))),
-    ) (search order depth 12)
+unfolding lastNumber
+returns-4 c = rw (← c .before .before .before .before .before .before .before .before .before .pre .0, ← counted (c .before)) (search order depth 12)
 
 pub last-number-spec : {M : Type 1} → statement M
 last-number-spec =
