@@ -76,7 +76,9 @@ pub(crate) fn lengths_number(version: u16, fields: &[u8], names: &[u8], info: &[
 // "Then as the reader".
 pub(crate) fn body_number(version: u16, time: u32, fields: &[u8], names: &[u8], info: &[u8]) -> u8
     requires { ⌜ lengthsNumber version (now fields) (now names) (now info) ≡ 0 ⌝ }
-    ensures { λ r. ⌜ r ≡ bodyNumber (headerFor version time (now (fields .entry)) (now (names .entry)) (now (info .entry))) (now (fields .entry)) (areaOf (now (names .entry)) (now (info .entry))) ⌝ }
+    ensures { λ r. ⌜ r ≡ bodyNumber
+        (headerFor version time (now (fields .entry)) (now (names .entry)) (now (info .entry)))
+        (now (fields .entry)) (areaOf (now (names .entry)) (now (info .entry))) ⌝ }
 {
     let len = fields.len();
     let count = (len / field_len(version)) as u16;

@@ -46,7 +46,8 @@ pub use wire::Tally;
 
 // What a file's header says, or the number that refuses it.
 pub fn read_header(file: &[u8]) -> Head
-    ensures { λ r. ⌜ (r ≡ readHeaderOf (now (file .entry))) × (headAnswer r ≡ result noHeader (readHeaderNumber (now (file .entry))) (numbersOf (now (file .entry)))) ⌝ }
+    ensures { λ r. ⌜ (r ≡ readHeaderOf (now (file .entry)))
+        × (headAnswer r ≡ result noHeader (readHeaderNumber (now (file .entry))) (numbersOf (now (file .entry)))) ⌝ }
 {
     let number = read_header_number(file);
     if number != 0 {
@@ -159,8 +160,12 @@ pub fn info_span(file: &[u8]) -> Span
 
 // Writes a data block of the given record length after the given number of earlier blocks.
 pub fn write_data(out: &mut [u8], size: u16, earlier: u64, time: u16, bytes: &[u8]) -> wire::Written
-    ensures { λ r. ⌜ (r ≡ wrote (writeDataNumber size (now (bytes .entry)) (length (now (out .entry)))) (dataBytes (counterAfter earlier) time (now (bytes .entry))))
-        × (now (out .exit) ≡ leaves (writeDataNumber size (now (bytes .entry)) (length (now (out .entry)))) (dataBytes (counterAfter earlier) time (now (bytes .entry))) (now (out .entry))) ⌝ }
+    ensures { λ r. ⌜ (r ≡ wrote
+        (writeDataNumber size (now (bytes .entry)) (length (now (out .entry))))
+        (dataBytes (counterAfter earlier) time (now (bytes .entry))))
+        × (now (out .exit) ≡ leaves
+        (writeDataNumber size (now (bytes .entry)) (length (now (out .entry))))
+        (dataBytes (counterAfter earlier) time (now (bytes .entry))) (now (out .entry))) ⌝ }
     ensures back { λ _. ⌜ DataBack ⌝ }
 {
     let number = write_data_number(size, bytes, out.len());
@@ -176,8 +181,12 @@ pub fn write_data(out: &mut [u8], size: u16, earlier: u64, time: u16, bytes: &[u
 
 // Writes a mark after the given number of earlier blocks.
 pub fn write_mark(out: &mut [u8], earlier: u64, time: u16, text: &[u8]) -> wire::Written
-    ensures { λ r. ⌜ (r ≡ wrote (writeMarkNumber (now (text .entry)) (length (now (out .entry)))) (markBytes (counterAfter earlier) time (now (text .entry))))
-        × (now (out .exit) ≡ leaves (writeMarkNumber (now (text .entry)) (length (now (out .entry)))) (markBytes (counterAfter earlier) time (now (text .entry))) (now (out .entry))) ⌝ }
+    ensures { λ r. ⌜ (r ≡ wrote
+        (writeMarkNumber (now (text .entry)) (length (now (out .entry))))
+        (markBytes (counterAfter earlier) time (now (text .entry))))
+        × (now (out .exit) ≡ leaves
+        (writeMarkNumber (now (text .entry)) (length (now (out .entry))))
+        (markBytes (counterAfter earlier) time (now (text .entry))) (now (out .entry))) ⌝ }
     ensures back { λ _. ⌜ MarkBack ⌝ }
     ensures same { λ _. ⌜ BlockSame ⌝ }
 {
@@ -197,8 +206,12 @@ pub fn write_header(
     names: &[u8],
     info: &[u8],
 ) -> wire::Written
-    ensures { λ r. ⌜ (r ≡ wrote (writeHeaderNumber 2 time (now (fields .entry)) (now (names .entry)) (now (info .entry)) (length (now (out .entry)))) (headerBytes 2 time (now (fields .entry)) (now (names .entry)) (now (info .entry))))
-        × (now (out .exit) ≡ leaves (writeHeaderNumber 2 time (now (fields .entry)) (now (names .entry)) (now (info .entry)) (length (now (out .entry)))) (headerBytes 2 time (now (fields .entry)) (now (names .entry)) (now (info .entry))) (now (out .entry))) ⌝ }
+    ensures { λ r. ⌜ (r ≡ wrote
+        (writeHeaderNumber 2 time (now (fields .entry)) (now (names .entry)) (now (info .entry)) (length (now (out .entry))))
+        (headerBytes 2 time (now (fields .entry)) (now (names .entry)) (now (info .entry))))
+        × (now (out .exit) ≡ leaves
+        (writeHeaderNumber 2 time (now (fields .entry)) (now (names .entry)) (now (info .entry)) (length (now (out .entry))))
+        (headerBytes 2 time (now (fields .entry)) (now (names .entry)) (now (info .entry))) (now (out .entry))) ⌝ }
     ensures back { λ _. ⌜ HeaderBack ⌝ }
     ensures log { λ _. ⌜ LogBack ⌝ }
     ensures same { λ _. ⌜ LogSame ⌝ }
