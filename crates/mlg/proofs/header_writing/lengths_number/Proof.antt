@@ -84,7 +84,8 @@ returns-4 c =
     let a = entry n .args in
     let sizes-of = n .before .before .before in
     let t =
-    too-long (a .version) (a .fields .now) (a .names .now) (a .info .now) _ _ (n .before .ended-len .ensures) (n .header-len .ensures) (few n) (c .if4 .taken) in
+    too-long (a .version) (a .fields .now) (a .names .now) (a .info .now) _ _ (n .before .ended-len .ensures) (n .header-len .ensures) (few n)
+    (c .if4 .taken) in
     rw (← sizes-of .before .before .before .field-len .ensures, ← sizes-of .sizes-of .ensures)
     (if-no 23 _ _ _ (not-no _ (eq-eqb _ _ (sizes-of .before .before .if1 .left)))
     (if-no 23 _ _ _ (le-ltb _ _ (sizes-of .before .if2 .left))
