@@ -1,7 +1,7 @@
 use borrow.Author.Needs.{needs}
 use Rattle.mlg.proofs.read_block.Statement.{statement}
 use Rattle.mlg.proofs.read_block.Tie as tie
-use Rattle.mlg_rules.proofs.Alone.{block-alone}
+use Rattle.mlg_rules.proofs.BlockAlone.{block-alone}
 use Prim.Native.Nat.{ℕ, _-_}
 use lib.ListN.{length, take, drop}
 use mathlib.Core.Path.{sym, _∙_, ap}

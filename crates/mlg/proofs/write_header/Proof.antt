@@ -4,7 +4,7 @@ use Rattle.mlg.proofs.write_header.Tie as tie
 use mathlib.Core.Path.{refl, sym, _∙_}
 use Rattle.mlg_rules.proofs.HeaderBack.{header-back}
 use Rattle.mlg_rules.proofs.LogBack.{log-back}
-use Rattle.mlg_rules.proofs.HeaderSame.{log-same}
+use Rattle.mlg_rules.proofs.LogSame.{log-same}
 use lib.ListN.{length}
 use Rattle.wire.proofs.Writes.{refuses, writes, left}
 use Rattle.mlg_rules.proofs.HeaderBytes.{header-fits, header-length}

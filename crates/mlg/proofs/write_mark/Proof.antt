@@ -3,7 +3,7 @@ use Rattle.mlg.proofs.write_mark.Statement.{statement}
 use Rattle.mlg.proofs.write_mark.Tie as tie
 use mathlib.Core.Path.{refl, sym, _∙_, ap}
 use Rattle.mlg_rules.proofs.BlockBack.{mark-back}
-use Rattle.mlg_rules.proofs.Rewrite.{block-same}
+use Rattle.mlg_rules.proofs.BlockSame.{block-same}
 use Prim.Native.Nat.{ℕ}
 use native.Mathlib.Omega.{arith}
 use lib.ListN.{length}
