@@ -12,7 +12,7 @@ use Rattle.mlg_rules.specs.Block.{blockLen, kindIn, counterIn, sumIn}
 use Rattle.mlg_rules.specs.Writing.{startBytes, dataBytes, paddedText, markBytes}
 use Rattle.mlg_rules.specs.Entries.{rewritten, PaddedHere}
 use Rattle.mlg_rules.specs.RoundTrip.{BlockSame}
-use Rattle.mlg_rules.proofs.Cases.{whole, least, data-whole, len-none, sum-right}
+use Rattle.mlg_rules.proofs.Cases.{whole, least, data-whole, len-none, sum-stands}
 
 -- two bytes read as a number, and written again
 pub two-back : (x y : ℕ) → x < 256 → y < 256 → beBytes 2 ((0 * 256 + x) * 256 + y) ≡ x ∷ y ∷ []
@@ -72,7 +72,7 @@ block-same l c (a ∷ b ∷ []) bytes z = absurd (omega (arith, least l (a ∷ b
 block-same l c (a ∷ b ∷ x ∷ []) bytes z = absurd (omega (arith, least l (a ∷ b ∷ x ∷ []) _ refl z))
 block-same l c (zero ∷ b ∷ x ∷ y ∷ u) bytes z =
     let h = data-whole l (0 ∷ b ∷ x ∷ y ∷ u) z refl in
-    let s = sum-right 0 l (0 ∷ b ∷ x ∷ y ∷ u) refl (whole l (0 ∷ b ∷ x ∷ y ∷ u) z .2) ∙ sum-at l 0 b x y u in
+    let s = sum-stands 0 l (0 ∷ b ∷ x ∷ y ∷ u) refl (whole l (0 ∷ b ∷ x ∷ y ∷ u) z .2) ∙ sum-at l 0 b x y u in
     data-same l c b x y u (bytes 2) (bytes 3) (omega arith) s
 block-same l c (suc zero ∷ b ∷ x ∷ y ∷ u) bytes z = mark-same l c b x y u (bytes 2) (bytes 3)
 block-same l c (suc (suc k) ∷ b ∷ x ∷ y ∷ u) bytes z =

@@ -34,7 +34,8 @@ text-part at f =
 entry-bytes : (k l n at : ℕ) (f : List ℕ) (es : List Entry)
     → entriesBytes n (entryIn l f (partsOf k (counterAfter n) at (drop at f)) ++ es) ≡ rewritten k l (counterAfter n) (drop at f) ++ entriesBytes (n + 1) es
 unfolding partsOf rewritten
-entry-bytes zero l n at f es = ap (λ (x : List ℕ). dataBytes (counterAfter n) (timeIn (drop at f)) (take l x) ++ entriesBytes (n + 1) es) (sym (drop-drop 4 at f))
+entry-bytes zero l n at f es =
+    ap (λ (x : List ℕ). dataBytes (counterAfter n) (timeIn (drop at f)) (take l x) ++ entriesBytes (n + 1) es) (sym (drop-drop 4 at f))
 entry-bytes (suc k) l n at f es = ap (λ (x : List ℕ). markBytes (counterAfter n) (timeIn (drop at f)) x ++ entriesBytes (n + 1) es) (sym (text-part at f))
 
 as-expected-here : (k c at : ℕ) (t : List ℕ) → AsExpected (partsOf k c at t) → counterIn t ≡ c
