@@ -10,7 +10,7 @@ ghost use Rattle.mlg_rules.specs.Area.{ended, areaOf};
 ghost use Rattle.mlg_rules.specs.Fields.{unended, textsNumber, namesNumber, fieldNumber, fieldsNumber, sizes};
 use crate::layout::field_len;
 
-pub(crate) fn open_text(d: &[u8], at: usize, n: usize) -> bool
+pub(crate) fn unended(d: &[u8], at: usize, n: usize) -> bool
     requires { ⌜ (at + n ≤ length (now d)) × (at + n < 2 ^ 64) ⌝ }
     ensures { λ r. ⌜ r ≡ unended (now (d .entry)) at n ⌝ }
 {
@@ -21,13 +21,13 @@ pub(crate) fn texts_number(d: &[u8], version: u16) -> u8
     requires { ⌜ length (now d) ≡ fieldLen version ⌝ }
     ensures { λ r. ⌜ r ≡ textsNumber (now (d .entry)) ⌝ }
 {
-    if open_text(d, 1, 34) {
+    if unended(d, 1, 34) {
         return 28;
     }
-    if open_text(d, 35, 10) {
+    if unended(d, 35, 10) {
         return 28;
     }
-    if open_text(d, 55, 34) {
+    if unended(d, 55, 34) {
         return 28;
     }
     0

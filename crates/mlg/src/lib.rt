@@ -1,32 +1,32 @@
 // MLG files: reading and writing headers and blocks.
-mod blocks;
+mod block_counting;
+mod block_reading;
+mod block_writing;
 mod fields;
+mod header_reading;
+mod header_writing;
 mod layout;
-mod marks;
-mod parts;
-mod reading;
-mod whole;
-mod writing;
+mod spans;
 
-use blocks::block_len;
-use blocks::block_of;
-use blocks::counter_of;
+use block_counting::count_from;
+use block_counting::refusal;
+use block_reading::block_len;
+use block_reading::block_of;
+use block_reading::counter_of;
+use block_writing::put_data;
+use block_writing::put_mark;
+use block_writing::write_data_number;
+use block_writing::write_mark_number;
+use header_reading::fields_end;
+use header_reading::numbers;
+use header_reading::read_header_number;
+use header_writing::put_header;
+use header_writing::total_len;
+use header_writing::write_header_number;
 use layout::field_len;
 use layout::header_len;
-use marks::data_number;
-use marks::mark_number;
-use marks::put_data;
-use marks::put_mark;
-use parts::names_end;
-use parts::part;
-use reading::fields_end;
-use reading::head_number;
-use reading::numbers;
-use whole::count_from;
-use whole::refusal;
-use writing::header_number;
-use writing::put_header;
-use writing::total_len;
+use spans::names_end;
+use spans::span_of;
 ghost use mathlib.Core.Path.{_≡_};
 ghost use Prim.Native.Nat.{_+_, _≤_};
 ghost use lib.ListN.{length};
@@ -46,9 +46,10 @@ pub use wire::Tally;
 
 // What a file's header says, or the number that refuses it.
 pub fn read_header(file: &[u8]) -> Head
-    ensures { λ r. ⌜ (r ≡ readHeaderOf (now (file .entry))) × (headAnswer r ≡ result noHeader (readHeaderNumber (now (file .entry))) (numbersOf (now (file .entry)))) ⌝ }
+    ensures { λ r. ⌜ (r ≡ readHeaderOf (now (file .entry)))
+        × (headAnswer r ≡ result noHeader (readHeaderNumber (now (file .entry))) (numbersOf (now (file .entry)))) ⌝ }
 {
-    let number = head_number(file);
+    let number = read_header_number(file);
     if number != 0 {
         return Head::Refused(number);
     }
@@ -115,16 +116,16 @@ pub fn count_blocks(file: &[u8]) -> Tally
 pub fn field_span(file: &[u8], index: u16) -> Span
     ensures { λ r. ⌜ (r ≡ fieldSpanOf (now (file .entry)) index) × (r .start + r .len ≤ length (now (file .entry))) ⌝ }
 {
-    let number = head_number(file);
+    let number = read_header_number(file);
     if number != 0 {
-        return part(number, 0, 0);
+        return span_of(number, 0, 0);
     }
     let h = numbers(file);
     if h.count <= index {
-        return part(23, 0, 0);
+        return span_of(23, 0, 0);
     }
     let len = field_len(h.version);
-    part(0, header_len(h.version) + len * (index as usize), len)
+    span_of(0, header_len(h.version) + len * (index as usize), len)
 }
 
 // Where the names area stands: from the fields' end to info start, or to data begin where there is no info. In a file that is not in the
@@ -132,38 +133,42 @@ pub fn field_span(file: &[u8], index: u16) -> Span
 pub fn names_span(file: &[u8]) -> Span
     ensures { λ r. ⌜ (r ≡ namesSpanOf (now (file .entry))) × (r .start + r .len ≤ length (now (file .entry))) ⌝ }
 {
-    let number = head_number(file);
+    let number = read_header_number(file);
     if number != 0 {
-        return part(number, 0, 0);
+        return span_of(number, 0, 0);
     }
     let h = numbers(file);
     let end = fields_end(h);
-    part(0, end, names_end(h) - end)
+    span_of(0, end, names_end(h) - end)
 }
 
 // Where the info text stands, without its zero.
 pub fn info_span(file: &[u8]) -> Span
     ensures { λ r. ⌜ (r ≡ infoSpanOf (now (file .entry))) × (r .start + r .len ≤ length (now (file .entry))) ⌝ }
 {
-    let number = head_number(file);
+    let number = read_header_number(file);
     if number != 0 {
-        return part(number, 0, 0);
+        return span_of(number, 0, 0);
     }
     let h = numbers(file);
     let info = h.info as usize;
     if info == 0 {
-        return part(0, 0, 0);
+        return span_of(0, 0, 0);
     }
-    part(0, info, wire::text_len(&file[info..]))
+    span_of(0, info, wire::text_len(&file[info..]))
 }
 
 // Writes a data block of the given record length after the given number of earlier blocks.
 pub fn write_data(out: &mut [u8], size: u16, earlier: u64, time: u16, bytes: &[u8]) -> wire::Written
-    ensures { λ r. ⌜ (r ≡ wrote (writeDataNumber size (now (bytes .entry)) (length (now (out .entry)))) (dataBytes (counterAfter earlier) time (now (bytes .entry))))
-        × (now (out .exit) ≡ leaves (writeDataNumber size (now (bytes .entry)) (length (now (out .entry)))) (dataBytes (counterAfter earlier) time (now (bytes .entry))) (now (out .entry))) ⌝ }
+    ensures { λ r. ⌜ (r ≡ wrote
+        (writeDataNumber size (now (bytes .entry)) (length (now (out .entry))))
+        (dataBytes (counterAfter earlier) time (now (bytes .entry))))
+        × (now (out .exit) ≡ leaves
+        (writeDataNumber size (now (bytes .entry)) (length (now (out .entry))))
+        (dataBytes (counterAfter earlier) time (now (bytes .entry))) (now (out .entry))) ⌝ }
     ensures back { λ _. ⌜ DataBack ⌝ }
 {
-    let number = data_number(size, bytes, out.len());
+    let number = write_data_number(size, bytes, out.len());
     if number != 0 {
         return wire::Written { number, len: 0 };
     }
@@ -176,12 +181,16 @@ pub fn write_data(out: &mut [u8], size: u16, earlier: u64, time: u16, bytes: &[u
 
 // Writes a mark after the given number of earlier blocks.
 pub fn write_mark(out: &mut [u8], earlier: u64, time: u16, text: &[u8]) -> wire::Written
-    ensures { λ r. ⌜ (r ≡ wrote (writeMarkNumber (now (text .entry)) (length (now (out .entry)))) (markBytes (counterAfter earlier) time (now (text .entry))))
-        × (now (out .exit) ≡ leaves (writeMarkNumber (now (text .entry)) (length (now (out .entry)))) (markBytes (counterAfter earlier) time (now (text .entry))) (now (out .entry))) ⌝ }
+    ensures { λ r. ⌜ (r ≡ wrote
+        (writeMarkNumber (now (text .entry)) (length (now (out .entry))))
+        (markBytes (counterAfter earlier) time (now (text .entry))))
+        × (now (out .exit) ≡ leaves
+        (writeMarkNumber (now (text .entry)) (length (now (out .entry))))
+        (markBytes (counterAfter earlier) time (now (text .entry))) (now (out .entry))) ⌝ }
     ensures back { λ _. ⌜ MarkBack ⌝ }
     ensures same { λ _. ⌜ BlockSame ⌝ }
 {
-    let number = mark_number(text, out.len());
+    let number = write_mark_number(text, out.len());
     if number != 0 {
         return wire::Written { number, len: 0 };
     }
@@ -197,13 +206,17 @@ pub fn write_header(
     names: &[u8],
     info: &[u8],
 ) -> wire::Written
-    ensures { λ r. ⌜ (r ≡ wrote (writeHeaderNumber 2 time (now (fields .entry)) (now (names .entry)) (now (info .entry)) (length (now (out .entry)))) (headerBytes 2 time (now (fields .entry)) (now (names .entry)) (now (info .entry))))
-        × (now (out .exit) ≡ leaves (writeHeaderNumber 2 time (now (fields .entry)) (now (names .entry)) (now (info .entry)) (length (now (out .entry)))) (headerBytes 2 time (now (fields .entry)) (now (names .entry)) (now (info .entry))) (now (out .entry))) ⌝ }
+    ensures { λ r. ⌜ (r ≡ wrote
+        (writeHeaderNumber 2 time (now (fields .entry)) (now (names .entry)) (now (info .entry)) (length (now (out .entry))))
+        (headerBytes 2 time (now (fields .entry)) (now (names .entry)) (now (info .entry))))
+        × (now (out .exit) ≡ leaves
+        (writeHeaderNumber 2 time (now (fields .entry)) (now (names .entry)) (now (info .entry)) (length (now (out .entry))))
+        (headerBytes 2 time (now (fields .entry)) (now (names .entry)) (now (info .entry))) (now (out .entry))) ⌝ }
     ensures back { λ _. ⌜ HeaderBack ⌝ }
     ensures log { λ _. ⌜ LogBack ⌝ }
     ensures same { λ _. ⌜ LogSame ⌝ }
 {
-    let number = header_number(2, time, fields, names, info, out.len());
+    let number = write_header_number(2, time, fields, names, info, out.len());
     if number != 0 {
         return wire::Written { number, len: 0 };
     }

@@ -21,7 +21,8 @@ use Rattle.mlg_rules.proofs.Cases.{at-within, here-stands, data-stands,
 abbrev file : List ℕ → List ℕ → List ℕ → List ℕ
 file before block rest = before ++ (block ++ rest)
 
-at-rest : (l n : ℕ) (before block rest : List ℕ) → readBlockOf l n (file before block rest) (length before) ≡ blockOf l (counterAfter n) (length before) (block ++ rest)
+at-rest : (l n : ℕ) (before block rest : List ℕ)
+    → readBlockOf l n (file before block rest) (length before) ≡ blockOf l (counterAfter n) (length before) (block ++ rest)
 at-rest l n before block rest =
     at-within l n (file before block rest) (length before) (omega (arith, length-append before (block ++ rest)))
     ∙ ap (blockOf l (counterAfter n) (length before)) (drop-at before (block ++ rest) (length before) refl)
@@ -74,7 +75,8 @@ blank = replicate 50 0
 pub padded-text : (t : List ℕ) → length t < 50 → textLen t ≡ length t → textLen (paddedText t) ≡ length t
 unfolding paddedText
 padded-text t h e =
-    let k : drop (length t) blank ≡ 0 ∷ drop (suc (length t)) blank = drop-cons blank (length t) 0 h ∙ ap (λ (b : ℕ). b ∷ drop (suc (length t)) blank) (getD-replicate 50 (length t) 0 0 h) in
+    let k : drop (length t) blank ≡ 0 ∷ drop (suc (length t)) blank
+    = drop-cons blank (length t) 0 h ∙ ap (λ (b : ℕ). b ∷ drop (suc (length t)) blank) (getD-replicate 50 (length t) 0 0 h) in
     ap (λ (l : List ℕ). textLen (t ++ l)) k ∙ text-back t (drop (suc (length t)) blank) e
 
 pub padded-start : (t rest : List ℕ) → take (length t) (paddedText t ++ rest) ≡ t

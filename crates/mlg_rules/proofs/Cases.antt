@@ -11,7 +11,9 @@ use Rattle.wire.specs.Sum.{sumOf}
 use Rattle.wire.specs.Text.{textLen}
 use Rattle.wire.proofs.Orders.{if-yes, if-no, if-zero, not-no, not-false}
 use Rattle.wire.specs.Log.{judged}
-use Rattle.mlg_rules.specs.Block.{counterAfter, blockLen, kindIn, counterIn, timeIn, recordIn, sumIn, textIn, lastOf, restNumber, partsOf, blockOf, placeNumber, readBlockOf, BlockAnswer, refusedKind, noBlock, blockAnswer, partValues, restResult, blockResult}
+use Rattle.mlg_rules.specs.Block.{counterAfter, blockLen, kindIn, counterIn, timeIn, recordIn, sumIn, textIn, lastOf}
+use Rattle.mlg_rules.specs.Block.{restNumber, partsOf, blockOf, placeNumber, readBlockOf}
+use Rattle.mlg_rules.specs.Block.{BlockAnswer, refusedKind, noBlock, blockAnswer, partValues, restResult, blockResult}
 use Rattle.mlg_rules.specs.declared.Block.{Block}
 use Rattle.mlg_rules.specs.declared.Block.the-variants.{Data, Mark, End, Refused}
 
@@ -137,22 +139,24 @@ pub data-stands : (l : ℕ) (t : List ℕ) → kindIn t ≡ 0 → l + 5 ≤ leng
 unfolding restNumber
 data-stands l t k h s =
     let e = len-data l (kindIn t) k in
-    sym (if-no 25 _ _ 0 (ne-eqb _ _ (λ (z : blockLen l (kindIn t) ≡ 0). omega arith)) (if-no 20 _ _ 0 (le-ltb (length t) (blockLen l (kindIn t)) (rw e h)) (last-data (kindIn t) l t k s)))
+    sym (if-no 25 _ _ 0 (ne-eqb _ _ (λ (z : blockLen l (kindIn t) ≡ 0). omega arith))
+    (if-no 20 _ _ 0 (le-ltb (length t) (blockLen l (kindIn t)) (rw e h)) (last-data (kindIn t) l t k s)))
 
 pub mark-stands : (l : ℕ) (t : List ℕ) → kindIn t ≡ 1 → 54 ≤ length t → textLen (textIn t) < 50 → restNumber l t ≡ 0
 unfolding restNumber
 mark-stands l t k h s =
     let e = len-mark l (kindIn t) k in
-    sym (if-no 25 _ _ 0 (ne-eqb _ _ (λ (z : blockLen l (kindIn t) ≡ 0). omega arith)) (if-no 20 _ _ 0 (le-ltb (length t) (blockLen l (kindIn t)) (rw e h)) (last-mark (kindIn t) l t k s)))
+    sym (if-no 25 _ _ 0 (ne-eqb _ _ (λ (z : blockLen l (kindIn t) ≡ 0). omega arith))
+    (if-no 20 _ _ 0 (le-ltb (length t) (blockLen l (kindIn t)) (rw e h)) (last-mark (kindIn t) l t k s)))
 
 pub here-stands : (l c at : ℕ) (t : List ℕ) → (length t ≡ 0 → ⊥) → restNumber l t ≡ 0 → blockOf l c at t ≡ partsOf (kindIn t) c at t
 here-stands l c at t h z = block-here l c at t h ∙ judged-yes _ at _ z
 
 -- and what then holds of it
-pub sum-right : (k l : ℕ) (t : List ℕ) → k ≡ 0 → lastOf k l t ≡ 0 → sumOf (recordIn l t) ≡ sumIn l t
+pub sum-stands : (k l : ℕ) (t : List ℕ) → k ≡ 0 → lastOf k l t ≡ 0 → sumOf (recordIn l t) ≡ sumIn l t
 unfolding lastOf
-sum-right zero l t e z = eqb-true _ _ (not-false _ (if-zero 25 _ _ z .0))
-sum-right (suc k) l t e z = absurd (omega arith)
+sum-stands zero l t e z = eqb-true _ _ (not-false _ (if-zero 25 _ _ z .0))
+sum-stands (suc k) l t e z = absurd (omega arith)
 
 pub text-ends : (k l : ℕ) (t : List ℕ) → (k ≡ 0 → ⊥) → lastOf k l t ≡ 0 → textLen (textIn t) < 50
 unfolding lastOf

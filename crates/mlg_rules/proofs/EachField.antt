@@ -74,7 +74,8 @@ sizes-alone v (suc n) t r h =
 pub sizes-first : (v : ℕ) (f : List ℕ) (left at s len : ℕ) → (left ≡ 0 → ⊥) → len ≡ fieldLen v → s ≡ sizeOf (getD f at 0)
     → s + sizes v (left - 1) (drop (at + len) f) ≡ sizes v left (drop at f)
 sizes-first v f left at s len h l p =
-    sizes-next v f 0 f left at s len h l (p ∙ ap sizeOf (sym (getD-take (fieldLen v) (drop at f) 0 0 (omega (arith, field-least v)) ∙ getD-drop at f 0 0 ∙ first)))
+    let d = getD-take (fieldLen v) (drop at f) 0 0 (omega (arith, field-least v)) ∙ getD-drop at f 0 0 ∙ first in
+    sizes-next v f 0 f left at s len h l (p ∙ ap sizeOf (sym d))
   where
     first : getD f (at + 0) 0 ≡ getD f at 0
     first = let e : at + 0 ≡ at = omega arith in rw e

@@ -31,7 +31,8 @@ log =
     ++ (field ++ (0 ∷ 0 ∷ 0 ∷ 10 ∷ 7 ∷ 7 ∷ []))
 
 header : readHeaderOf log ≡ Is (record { version = 2; time = 0; info = 0; begin = 113; size = 1; count = 1 })
-unfolding answer _if_else_ _orElse_ served layoutOf sizeOf typeNumber unended textsNumber namesNumber fieldNumber numbersOf fieldsEnd nameNumber placesNumber lastNumber bodyNumber areaIn readHeaderNumber readHeaderOf
+unfolding answer _if_else_ _orElse_ served layoutOf sizeOf typeNumber unended textsNumber namesNumber fieldNumber
+    numbersOf fieldsEnd nameNumber placesNumber lastNumber bodyNumber areaIn readHeaderNumber readHeaderOf
 header = refl
 
 first : readBlockOf 1 0 log 113 ≡ Data 0 10 117 true
@@ -43,7 +44,8 @@ unfolding _if_else_ counterOf counterModulus blockLen lastOf restNumber partsOf 
 last = refl
 
 counted : tallyOf 1 (logOf 1 log 113) ≡ record { blocks = 1; ending = 0; place = 119 }
-unfolding _if_else_ counterOf counterModulus blockLen lastOf restNumber partsOf judged blockOf placeNumber readBlockOf blockAnswer lengthOf followedBy logOf tallyOf
+unfolding _if_else_ counterOf counterModulus blockLen lastOf restNumber partsOf judged blockOf placeNumber readBlockOf
+    blockAnswer lengthOf followedBy logOf tallyOf
 counted = refl
 
 written : logBytes 0 field [] [] (aRecord 10 (7 ∷ []) ∷ []) ≡ log

@@ -43,6 +43,11 @@ fit v fields names info z =
       text = ltb-false _ _ (g .0);
     }
 
+-- header, fields, names area, and info with its zero
+pub file-most : (v : ℕ) (fields names info : List ℕ) → lengthsNumber v fields names info ≡ 0
+    → headerLen v + length fields + (length names + length (ended info)) ≤ 4294967295
+file-most v fields names info z = omega (arith, fit v fields names info z .file, area-length names info)
+
 module _ (v time : ℕ) (fields names : List ℕ) where
   pub fields-end : (info : List ℕ) → length fields % fieldLen v ≡ 0 → fieldsEnd (headerFor v time fields names info) ≡ headerLen v + length fields
   unfolding fieldsEnd headerFor
@@ -56,18 +61,21 @@ module _ (v time : ℕ) (fields names : List ℕ) where
       → drop (headerLen v + length fields + length names - fieldsEnd (headerFor v time fields names (b ∷ bs))) (areaOf names (b ∷ bs)) ≡ ended (b ∷ bs)
   unfolding areaOf
   start b bs h =
-      let e : headerLen v + length fields + length names - fieldsEnd (headerFor v time fields names (b ∷ bs)) ≡ length names = omega (arith, fields-end (b ∷ bs) h) in
+      let e : headerLen v + length fields + length names - fieldsEnd (headerFor v time fields names (b ∷ bs)) ≡ length names
+      = omega (arith, fields-end (b ∷ bs) h) in
       rw e (drop-append-seam names (ended (b ∷ bs)))
 
-  right-size : (n : ℕ) → not (eqb n n) ≡ false
-  right-size n = not-no _ (eq-eqb n n refl)
+  same-size : (n : ℕ) → not (eqb n n) ≡ false
+  same-size n = not-no _ (eq-eqb n n refl)
 
-  last-none : (info : List ℕ) → 0 < headerLen v → length fields % fieldLen v ≡ 0 → 0 ≡ lastNumber (headerFor v time fields names info) fields (areaOf names info)
+  last-none : (info : List ℕ) → 0 < headerLen v → length fields % fieldLen v ≡ 0
+      → 0 ≡ lastNumber (headerFor v time fields names info) fields (areaOf names info)
   unfolding lastNumber headerFor
-  last-none [] p h = if-no 23 _ _ 0 (right-size (sizes v (length fields / fieldLen v) fields)) (if-yes 0 _ _ (eq-eqb 0 0 refl))
+  last-none [] p h = if-no 23 _ _ 0 (same-size (sizes v (length fields / fieldLen v) fields)) (if-yes 0 _ _ (eq-eqb 0 0 refl))
   last-none (b ∷ bs) p h =
-      let k : eqb (zeros (drop (headerLen v + length fields + length names - fieldsEnd (headerFor v time fields names (b ∷ bs))) (areaOf names (b ∷ bs)))) 0 ≡ false = rw (start b bs h) (ne-eqb _ _ (some-zero b bs)) in
-      if-no 23 _ _ 0 (right-size (sizes v (length fields / fieldLen v) fields))
+      let at = headerLen v + length fields + length names - fieldsEnd (headerFor v time fields names (b ∷ bs)) in
+      let k : eqb (zeros (drop at (areaOf names (b ∷ bs)))) 0 ≡ false = rw (start b bs h) (ne-eqb _ _ (some-zero b bs)) in
+      if-no 23 _ _ 0 (same-size (sizes v (length fields / fieldLen v) fields))
       (if-no 0 _ _ 0 (ne-eqb _ _ (λ (z : headerLen v + length fields + length names ≡ 0). omega arith))
       (if-no 28 _ _ 0 k refl))
 
@@ -77,14 +85,16 @@ module _ (v time : ℕ) (fields names : List ℕ) where
   else-same (suc a) b e = refl
 
   fields-same : (info : List ℕ) → 0 < headerLen v → length fields % fieldLen v ≡ 0
-      → fieldsNumber v (fieldsEnd (headerFor v time fields names info)) (areaOf names info) (length fields / fieldLen v) fields
-      ≡ (fieldsNumber (headerFor v time fields names info .version) (fieldsEnd (headerFor v time fields names info)) (areaOf names info) (headerFor v time fields names info .count) fields orElse lastNumber (headerFor v time fields names info) fields (areaOf names info))
+      → let h = headerFor v time fields names info in
+      fieldsNumber v (fieldsEnd h) (areaOf names info) (length fields / fieldLen v) fields
+      ≡ (fieldsNumber (h .version) (fieldsEnd h) (areaOf names info) (h .count) fields orElse lastNumber h fields (areaOf names info))
   unfolding headerFor
   fields-same info p h = else-same _ _ (last-none info p h)
 
   -- the body's number is the fields'
   pub body-is : (info : List ℕ) → 0 < headerLen v → length fields % fieldLen v ≡ 0
-      → fieldsNumber v (headerLen v + length fields) (areaOf names info) (length fields / fieldLen v) fields ≡ bodyNumber (headerFor v time fields names info) fields (areaOf names info)
+      → fieldsNumber v (headerLen v + length fields) (areaOf names info) (length fields / fieldLen v) fields
+      ≡ bodyNumber (headerFor v time fields names info) fields (areaOf names info)
   unfolding bodyNumber
   body-is info p h =
       ap (λ (e : ℕ). fieldsNumber v e (areaOf names info) (length fields / fieldLen v) fields) (sym (fields-end info h))

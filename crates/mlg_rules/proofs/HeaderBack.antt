@@ -74,12 +74,13 @@ module _ (v time : ℕ) (fields names : List ℕ) (n : ℕ) (h : length fields %
   places-in (b ∷ bs) k =
       let e = fields-end v time fields names (b ∷ bs) h in
       let a = area-length names (b ∷ bs) in
-      if-no 20 _ _ 0 (le-ltb n (fieldsEnd (headerFor v time fields names (b ∷ bs))) (omega arith))
-      (if-no 23 _ _ 0 (le-ltb (headerLen v + length fields + length (areaOf names (b ∷ bs))) (fieldsEnd (headerFor v time fields names (b ∷ bs))) (omega arith))
-      (if-no 23 _ _ 0 (le-ltb n (headerLen v + length fields + length (areaOf names (b ∷ bs))) k)
-      (zero-or (eqb (headerLen v + length fields + length names) 0) _
-      (if-no 23 _ _ 0 (le-ltb (headerLen v + length fields + length names) (fieldsEnd (headerFor v time fields names (b ∷ bs))) (omega arith))
-      (if-no 23 _ _ 0 (lt-leb (headerLen v + length fields + length (areaOf names (b ∷ bs))) (headerLen v + length fields + length names) (omega arith)) refl)))))
+      let end = fieldsEnd (headerFor v time fields names (b ∷ bs)) in
+      let info = headerLen v + length fields + length names in
+      let begin = headerLen v + length fields + length (areaOf names (b ∷ bs)) in
+      if-no 20 _ _ 0 (le-ltb n end (omega arith))
+      (if-no 23 _ _ 0 (le-ltb begin end (omega arith))
+      (if-no 23 _ _ 0 (le-ltb n begin k)
+      (zero-or (eqb info 0) _ (if-no 23 _ _ 0 (le-ltb info end (omega arith)) (if-no 23 _ _ 0 (lt-leb begin info (omega arith)) refl)))))
 
 -- the names stop where info starts, or at data begin
 stop-at : (time : ℕ) (fields names info : List ℕ)
@@ -87,7 +88,8 @@ stop-at : (time : ℕ) (fields names info : List ℕ)
 unfolding headerFor namesEnd
 stop-at time fields names [] = omega (arith, area-length names [])
 stop-at time fields names (b ∷ bs) =
-    let z : eqb (headerLen 2 + length fields + length names) 0 ≡ false = ne-eqb (headerLen 2 + length fields + length names) 0 (λ w. omega (arith, header-two)) in
+    let start = headerLen 2 + length fields + length names in
+    let z : eqb start 0 ≡ false = ne-eqb start 0 (λ w. omega (arith, header-two)) in
     rw z
 
 module _ (time : ℕ) (fields names info rest : List ℕ) where
@@ -123,15 +125,18 @@ module _ (time : ℕ) (fields names info rest : List ℕ) where
   numbers-of : time < 256 ^ 4 → Fit 2 fields names info → numbersOf log ≡ head
   unfolding headerFor
   numbers-of t f =
+      let start = headerLen 2 + length fields + length names in
       rw after-numbers
-      (numbers-in time (infoStart (headerLen 2 + length fields + length names) info) (headerLen 2 + length fields + length (areaOf names info)) (sizes 2 (length fields / fieldLen 2) fields) (length fields / fieldLen 2) (fields ++ (areaOf names info ++ rest)) t
-      (omega (arith, start-most (headerLen 2 + length fields + length names) info, area-length names info, f .file)) (omega (arith, f .file)) (omega (arith, f .small)) (omega (arith, f .few)))
+      (numbers-in time (infoStart start info) (headerLen 2 + length fields + length (areaOf names info)) (sizes 2 (length fields / fieldLen 2) fields)
+      (length fields / fieldLen 2) (fields ++ (areaOf names info ++ rest)) t (omega (arith, start-most start info, area-length names info, f .file))
+      (omega (arith, f .file)) (omega (arith, f .small)) (omega (arith, f .few)))
 
   name-of : 0 ≡ nameNumber log
   unfolding headerFor
   name-of =
       rw after-numbers
-      (name-in time (infoStart (headerLen 2 + length fields + length names) info) (headerLen 2 + length fields + length (areaOf names info)) (sizes 2 (length fields / fieldLen 2) fields) (length fields / fieldLen 2) (fields ++ (areaOf names info ++ rest)))
+      (name-in time (infoStart (headerLen 2 + length fields + length names) info) (headerLen 2 + length fields + length (areaOf names info))
+      (sizes 2 (length fields / fieldLen 2) fields) (length fields / fieldLen 2) (fields ++ (areaOf names info ++ rest)))
 
   count-fits : fieldLen (head .version) * head .count ≤ length fields
   unfolding headerFor
@@ -147,22 +152,22 @@ module _ (time : ℕ) (fields names info rest : List ℕ) where
   number-of : time < 256 ^ 4 → Fit 2 fields names info → bodyNumber head fields (areaOf names info) ≡ 0 → 0 ≡ readHeaderNumber log
   unfolding readHeaderNumber
   number-of t f z =
-      rw (numbers-of t f)
-      (else-none _ _ 0 0 name-of refl
-      (else-none _ _ 0 0 (places-in 2 time fields names (length log) (f .whole) info (omega (arith, length-append (headerBytes 2 time fields names info) rest, header-length 2 time fields names info))) refl
-      (sym (drop-head ∙ body-in f ∙ z))))
+      let long = length-append (headerBytes 2 time fields names info) rest in
+      let places = places-in 2 time fields names (length log) (f .whole) info (omega (arith, long, header-length 2 time fields names info)) in
+      rw (numbers-of t f) (else-none _ _ 0 0 name-of refl (else-none _ _ 0 0 places refl (sym (drop-head ∙ body-in f ∙ z))))
 
   -- the reader answers exactly the numbers written
-  header-back′ : time < 256 ^ 4 → Fit 2 fields names info → bodyNumber head fields (areaOf names info) ≡ 0 → readHeaderOf log ≡ Is head
+  header-read : time < 256 ^ 4 → Fit 2 fields names info → bodyNumber head fields (areaOf names info) ≡ 0 → readHeaderOf log ≡ Is head
   unfolding readHeaderOf
-  header-back′ t f z = sym (stands Is Refused (readHeaderNumber log) (numbersOf log) head (sym (number-of t f z)) (sym (numbers-of t f)))
+  header-read t f z = sym (stands Is Refused (readHeaderNumber log) (numbersOf log) head (sym (number-of t f z)) (sym (numbers-of t f)))
 
   -- and the parts are as given
   fields-back : Fit 2 fields names info → fieldsIn log head ≡ fields
   unfolding fieldsIn headerFor
   fields-back f =
       let l : length fields ≡ headerLen 2 + length fields - headerLen 2 = omega arith in
-      rw (fields-end 2 time fields names info (f .whole), drop-numbers) (take-at fields (areaOf names info ++ rest) (headerLen 2 + length fields - headerLen 2) l)
+      rw (fields-end 2 time fields names info (f .whole), drop-numbers)
+      (take-at fields (areaOf names info ++ rest) (headerLen 2 + length fields - headerLen 2) l)
 
   names-part : take (length names) (areaOf names info ++ rest) ≡ names
   unfolding areaOf
@@ -186,13 +191,16 @@ text-at l info rest p h t =
     let e : l ≡ info ++ (0 ∷ rest) = p ∙ ap (λ (k : List ℕ). k ++ rest) (ended-some info h) ∙ append-assoc info (0 ∷ []) rest in
     rw (e, text-back info rest t) (take-at info (0 ∷ rest) (length info) refl)
 
-info-back : (time : ℕ) (fields names info rest : List ℕ) → Fit 2 fields names info → infoIn (log time fields names info rest) (headerFor 2 time fields names info) ≡ info
+info-back : (time : ℕ) (fields names info rest : List ℕ) → Fit 2 fields names info
+    → infoIn (log time fields names info rest) (headerFor 2 time fields names info) ≡ info
 unfolding infoIn infoLength headerFor
 info-back time fields names [] rest f = refl
 info-back time fields names (b ∷ bs) rest f =
-    let z : eqb (headerLen 2 + length fields + length names) 0 ≡ false = ne-eqb (headerLen 2 + length fields + length names) 0 (λ w. omega (arith, header-two)) in
+    let start = headerLen 2 + length fields + length names in
+    let z : eqb start 0 ≡ false = ne-eqb start 0 (λ w. omega (arith, header-two)) in
     let t : textLen (b ∷ bs) ≡ length (b ∷ bs) = omega (arith, text-most (b ∷ bs), f .text) in
-    rw z (text-at (drop (headerLen 2 + length fields + length names) (log time fields names (b ∷ bs) rest)) (b ∷ bs) rest (info-part time fields names (b ∷ bs) rest) (λ w. omega arith) t)
+    let part = info-part time fields names (b ∷ bs) rest in
+    rw z (text-at (drop start (log time fields names (b ∷ bs) rest)) (b ∷ bs) rest part (λ w. omega arith) t)
 
 pub header-back : HeaderBack
 unfolding HeaderBack
@@ -200,7 +208,7 @@ header-back time fields names info rest room t z =
     let a = header-fits 2 time fields names info room z in
     let f = fit 2 fields names info (a .0) in
     record {
-      numbers = header-back′ time fields names info rest (omega arith) f (a .1);
+      numbers = header-read time fields names info rest (omega arith) f (a .1);
       same-fields = fields-back time fields names info rest f;
       same-names = names-back time fields names info rest f;
       same-info = info-back time fields names info rest f;

@@ -46,11 +46,13 @@ pub put-zero : {x y : List ℕ} (out : List ℕ) (at : ℕ) (l : List ℕ) → (
 unfolding putAt
 put-zero {x} {y} out at l h k p q =
     let el = ended-length l h in
-    let n : at + length l ≡ length (take at out ++ l) = sym (length-append (take at out) l ∙ ap (λ (m : ℕ). m + length l) (length-take-le at out (omega arith))) in
+    let k′ = length-take-le at out (omega arith) in
+    let n : at + length l ≡ length (take at out ++ l) = sym (length-append (take at out) l ∙ ap (λ (m : ℕ). m + length l) k′) in
     let p' = p ∙ put-fits out at l (omega arith) in
     let r : x ≡ over (take at out ++ l) out = rw (← n) p' in
     let s = put-more out (take at out ++ l) (0 ∷ []) (at + length l) n (omega arith) r q in
-    let m : length ((take at out ++ l) ++ (0 ∷ [])) ≡ at + length (l ++ (0 ∷ [])) = length-append (take at out ++ l) (0 ∷ []) ∙ rw (← n, length-append l (0 ∷ [])) (omega arith) in
+    let m : length ((take at out ++ l) ++ (0 ∷ [])) ≡ at + length (l ++ (0 ∷ []))
+    = length-append (take at out ++ l) (0 ∷ []) ∙ rw (← n, length-append l (0 ∷ [])) (omega arith) in
     let t : over ((take at out ++ l) ++ (0 ∷ [])) out ≡ putAt out at (ended l) = rw (ended-some l h, m, append-assoc (take at out) l (0 ∷ [])) in
     s ∙ t ∙ sym (put-fits out at (ended l) k)
 

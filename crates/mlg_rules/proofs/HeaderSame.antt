@@ -1,4 +1,4 @@
--- A file in the writer's layout, rewritten from what was read.
+-- The header of a file in the writer's layout, rewritten from what was read.
 use Prim.Native.Nat.{ℕ, zero, suc, _+_, _*_, _-_, _/_, _%_, _≤_, _<_}
 use mathlib.Core.Path.{_≡_, refl, sym, ap, _∙_}
 use mathlib.Core.Logic.{_⊎_, inl, inr}
@@ -18,11 +18,11 @@ use Rattle.wire.proofs.Texts.{text-zero}
 use Rattle.mlg_rules.specs.Layout.{served, layoutOf, headerLen, infoLen, fieldLen}
 use Rattle.mlg_rules.specs.Area.{ended, areaOf, infoStart}
 use Rattle.mlg_rules.specs.Fields.{sizes}
-use Rattle.mlg_rules.specs.Header.{logName, versionIn, numbersOf, fieldsEnd, fieldsFrom, areaIn, nameNumber, lastNumber, bodyNumber, readHeaderNumber, readHeaderOf}
+use Rattle.mlg_rules.specs.Header.{logName, versionIn, numbersOf, fieldsEnd, fieldsFrom, areaIn}
+use Rattle.mlg_rules.specs.Header.{nameNumber, lastNumber, bodyNumber, readHeaderNumber, readHeaderOf}
 use Rattle.mlg_rules.specs.Writing.{numberBytes, headerFor, headerBytes, lengthsNumber, writeHeaderNumber}
 use Rattle.mlg_rules.specs.Parts.{fieldsIn, namesEnd, namesIn, infoLength, infoIn}
-use Rattle.mlg_rules.specs.Log.{logOf}
-use Rattle.mlg_rules.specs.RoundTrip.{InLayout, LogSame, logBytes}
+use Rattle.mlg_rules.specs.RoundTrip.{InLayout}
 use Rattle.mlg_rules.specs.declared.Header.{Header}
 use Rattle.mlg_rules.specs.declared.Head.the-variants.{Is, Refused}
 use Rattle.mlg_rules.proofs.Accepted.{two-below, four-below, text-whole}
@@ -30,7 +30,6 @@ use Rattle.mlg_rules.proofs.Areas.{ended-some}
 use Rattle.mlg_rules.proofs.EachField.{sizes-alone}
 use Rattle.mlg_rules.proofs.HeaderBack.{body-alone}
 use Rattle.mlg_rules.proofs.HeaderBytes.{start-some}
-use Rattle.mlg_rules.proofs.LogSame.{same-from}
 use Rattle.mlg_rules.proofs.Places.{Placed, placed}
 
 -- what is known of a header that was read
@@ -38,14 +37,14 @@ taken : (f : List ℕ) (h : Header) → readHeaderOf f ≡ Is h → (readHeaderN
 unfolding readHeaderOf
 taken f h e = answered Is Refused (λ n y q. let v : _≡_ {A = ℕ} 0 1 = cc in omega arith) (λ x y q. cc) (readHeaderNumber f) (numbersOf f) h e
 
-record Sound (f : List ℕ) (h : Header) : Type 0 where
-  long : 24 ≤ length f
-  name : beAt 6 f 0 ≡ beOf logName
-  numbers : numbersOf f ≡ h
-  version : h .version ≡ 2
-  places : Placed (length f) h
-  size : sizes (h .version) (h .count) (fieldsFrom f h) ≡ h .size
-  body : bodyNumber h (fieldsFrom f h) (areaIn f h) ≡ 0
+pub record Accepted (f : List ℕ) (h : Header) : Type 0 where
+  pub long : 24 ≤ length f
+  pub name : beAt 6 f 0 ≡ beOf logName
+  pub numbers : numbersOf f ≡ h
+  pub version : h .version ≡ 2
+  pub places : Placed (length f) h
+  pub size : sizes (h .version) (h .count) (fieldsFrom f h) ≡ h .size
+  pub body : bodyNumber h (fieldsFrom f h) (areaIn f h) ≡ 0
 
 version-is : (f : List ℕ) → numbersOf f .version ≡ versionIn f
 unfolding numbersOf
@@ -63,9 +62,9 @@ sized : (h : Header) (fields area : List ℕ) → bodyNumber h fields area ≡ 0
 unfolding bodyNumber lastNumber
 sized h fields area e = eqb-true _ _ (not-false _ (if-zero 22 _ _ (else-zero _ _ e .1) .0))
 
-sound : (f : List ℕ) (h : Header) → readHeaderOf f ≡ Is h → Sound f h
+pub accepted : (f : List ℕ) (h : Header) → readHeaderOf f ≡ Is h → Accepted f h
 unfolding readHeaderNumber
-sound f h e =
+accepted f h e =
     let j = taken f h e in
     let a = else-zero _ _ (j .0) in
     let b = else-zero _ _ (a .1) in
@@ -80,8 +79,8 @@ sound f h e =
       body = rw (j .1) at (b .1);
     }
 
-glue : {a b r s : List ℕ} → a ≡ b → r ≡ s → a ++ r ≡ b ++ s
-glue p q = cc
+pub join : {a b r s : List ℕ} → a ≡ b → r ≡ s → a ++ r ≡ b ++ s
+join p q = cc
 
 -- the header's numbers, as they stood
 numbers-same : (f : List ℕ) → Bytes f → 24 ≤ length f → beAt 6 f 0 ≡ beOf logName → numberBytes (numbersOf f) ≡ take 24 f
@@ -89,8 +88,8 @@ unfolding numberBytes numbersOf layoutOf
 numbers-same f b h e =
     let p = part-back 6 f 0 (omega arith) b in
     let n : logName ≡ take 6 f = ap (beBytes 6) (sym e) ∙ p in
-    glue n (glue (part-back 2 f 6 (omega arith) b) (glue (part-back 4 f 8 (omega arith) b) (glue (part-back 4 f 12 (omega arith) b)
-    (glue (part-back 4 f 16 (omega arith) b) (glue (part-back 2 f 20 (omega arith) b) (part-back 2 f 22 (omega arith) b))))))
+    join n (join (part-back 2 f 6 (omega arith) b) (join (part-back 4 f 8 (omega arith) b) (join (part-back 4 f 12 (omega arith) b)
+    (join (part-back 4 f 16 (omega arith) b) (join (part-back 2 f 20 (omega arith) b) (part-back 2 f 22 (omega arith) b))))))
     ∙ (sym (part-in-two 0 6 18 f
     ∙ ap (λ (r : List ℕ). take 6 f ++ r) (part-in-two 6 2 16 f
     ∙ ap (λ (r : List ℕ). take 2 (drop 6 f) ++ r) (part-in-two 8 4 12 f
@@ -109,7 +108,7 @@ numbers-below f b =
     )
 
 -- the parts, back to back
-module _ (f : List ℕ) (h : Header) (ok : Sound f h) where
+module _ (f : List ℕ) (h : Header) (ok : Accepted f h) where
   abbrev end : ℕ
   end = fieldsEnd h
 
@@ -176,7 +175,10 @@ module _ (f : List ℕ) (h : Header) (ok : Sound f h) where
         rw (some-names z, some-info z, ended-is) (sym (rw (b, a) at (part-in-two end (h .info - end) (h .begin - h .info) f)))
 
     names-length : length (namesIn f h) ≡ h .info - end
-    names-length = ap length (some-names z) ∙ length-take-le (h .info - end) (drop end f) (rw (length-drop end f) (omega (arith, ok .places .data-begins, ok .places .info-before z)))
+    names-length =
+        let p = ok .places in
+        ap length (some-names z)
+        ∙ length-take-le (h .info - end) (drop end f) (rw (length-drop end f) (omega (arith, p .data-begins, p .info-before z)))
 
     start-is : h .info ≡ infoStart (24 + length fields + length (namesIn f h)) (infoIn f h)
     start-is =
@@ -191,7 +193,8 @@ module _ (f : List ℕ) (h : Header) (ok : Sound f h) where
   start-bare z = rw (no-info z) z
 
   area-by : (h .info ≡ 0) ⊎ ((0 < m) × (h .info + m + 1 ≡ h .begin)) → (x : ℕ) → h .info ≡ x
-      → (areaOf (namesIn f h) (infoIn f h) ≡ take (h .begin - end) (drop end f)) × (h .info ≡ infoStart (24 + length fields + length (namesIn f h)) (infoIn f h))
+      → (areaOf (namesIn f h) (infoIn f h) ≡ take (h .begin - end) (drop end f))
+      × (h .info ≡ infoStart (24 + length fields + length (namesIn f h)) (infoIn f h))
   area-by (inl z) x e = (area-bare z, start-bare z)
   area-by (inr s) zero e = (area-bare e, start-bare e)
   area-by (inr s) (suc x) e =
@@ -209,7 +212,8 @@ module _ (f : List ℕ) (h : Header) (ok : Sound f h) where
 
     begin-is : 24 + length fields + length (areaOf (namesIn f h) (infoIn f h)) ≡ h .begin
     begin-is =
-        let l : length (take (h .begin - end) (drop end f)) ≡ h .begin - end = length-take-le (h .begin - end) (drop end f) (rw (length-drop end f) (omega (arith, ok .places .data-begins))) in
+        let l : length (take (h .begin - end) (drop end f)) ≡ h .begin - end
+        = length-take-le (h .begin - end) (drop end f) (rw (length-drop end f) (omega (arith, ok .places .data-begins))) in
         omega (arith, ap length area-is, fields-length, end-is, ok .places .after-fields)
 
     count-is : length fields / 89 ≡ h .count
@@ -232,19 +236,19 @@ same-header : (h : Header) (v i b s n : ℕ) → v ≡ h .version → i ≡ h .i
     → _≡_ {A = Header} (record { version = v; time = h .time; info = i; begin = b; size = s; count = n }) h
 same-header h v i b s n p q r t u = rw (p, q, r, t, u)
 
-module _ (f : List ℕ) (h : Header) (bytes : Bytes f) (ok : Sound f h) (lay : InLayout f h) where
+module _ (f : List ℕ) (h : Header) (bytes : Bytes f) (ok : Accepted f h) (lay : InLayout f h) where
   header-is : headerFor 2 (h .time) (fields f h ok) (namesIn f h) (infoIn f h) ≡ h
   unfolding headerFor layoutOf
   header-is =
       same-header h 2 _ _ _ _ (sym (ok .version)) (sym (info-is f h ok lay)) (begin-is f h ok lay) (size-is f h ok lay) (count-is f h ok lay)
 
-  header-same : headerBytes 2 (h .time) (fieldsIn f h) (namesIn f h) (infoIn f h) ≡ take (h .begin) f
+  pub header-same : headerBytes 2 (h .time) (fieldsIn f h) (namesIn f h) (infoIn f h) ≡ take (h .begin) f
   unfolding headerBytes
   header-same =
       let a : 24 + (h .begin - 24) ≡ h .begin = omega (arith, end-is f h ok, ok .places .after-fields) in
       let n = numbers-same f bytes (ok .long) (ok .name) in
       rw (fields-are f h ok)
-      (glue (ap numberBytes (header-is ∙ sym (ok .numbers)) ∙ n) (rest-is f h ok lay)
+      (join (ap numberBytes (header-is ∙ sym (ok .numbers)) ∙ n) (rest-is f h ok lay)
       ∙ sym (rw a at (part-in-two 0 24 (h .begin - 24) f)))
 
   -- no writer refuses it
@@ -258,7 +262,10 @@ module _ (f : List ℕ) (h : Header) (bytes : Bytes f) (ok : Sound f h) (lay : I
       let start : 24 ≡ headerLen (h .version) = sym (ap headerLen (ok .version)) in
       let k : fieldLen (h .version) * h .count ≤ length (fields f h ok) = rw each (omega (arith, fields-length f h ok)) in
       rw (area-is f h ok lay)
-      (sym (body-alone h (fields f h ok) rest area k) ∙ ap (λ (t : List ℕ). bodyNumber h t area) split ∙ ap (λ (n : ℕ). bodyNumber h (drop n f) area) start ∙ ok .body)
+      (sym (body-alone h (fields f h ok) rest area k)
+      ∙ ap (λ (t : List ℕ). bodyNumber h t area) split
+      ∙ ap (λ (n : ℕ). bodyNumber h (drop n f) area) start
+      ∙ ok .body)
 
   info-whole : length (infoIn f h) ≤ textLen (infoIn f h)
   unfolding infoIn infoLength
@@ -278,18 +285,16 @@ module _ (f : List ℕ) (h : Header) (bytes : Bytes f) (ok : Sound f h) (lay : I
       (if-no 23 _ _ 0 (le-ltb 4294967295 (24 + length (fields f h ok) + length (areaOf (namesIn f h) (infoIn f h))) (omega (arith, n .2)))
       (if-no 28 _ _ 0 (le-ltb (textLen (infoIn f h)) (length (infoIn f h)) info-whole) refl)))))
 
-  header-accepted : writeHeaderNumber 2 (h .time) (fieldsIn f h) (namesIn f h) (infoIn f h) (length f) ≡ 0
+  pub header-accepted : writeHeaderNumber 2 (h .time) (fieldsIn f h) (namesIn f h) (infoIn f h) (length f) ≡ 0
   unfolding writeHeaderNumber
   header-accepted =
-      let room : length (headerBytes 2 (h .time) (fieldsIn f h) (namesIn f h) (infoIn f h)) ≤ length f = rw header-same (rw (length-take-le (h .begin) f (ok .places .data-begins)) (ok .places .data-begins)) in
-      let body = ap (λ (g : Header). bodyNumber g (fields f h ok) (areaOf (namesIn f h) (infoIn f h))) header-is ∙ body-accepted in
-      let a : lengthsNumber 2 (fieldsIn f h) (namesIn f h) (infoIn f h) ≡ 0 = rw (fields-are f h ok) lengths-accepted in
-      let b : bodyNumber (headerFor 2 (h .time) (fieldsIn f h) (namesIn f h) (infoIn f h)) (fieldsIn f h) (areaOf (namesIn f h) (infoIn f h)) ≡ 0 = rw (fields-are f h ok) body in
-      sym (else-none _ _ 0 0 (sym a) refl (else-none _ _ 0 0 (sym b) refl (if-no 27 _ _ 0 (le-ltb (length f) (length (headerBytes 2 (h .time) (fieldsIn f h) (namesIn f h) (infoIn f h))) room) refl)))
-
-pub log-same : LogSame
-unfolding LogSame logBytes logOf
-log-same f h bytes e lay z r p =
-    let ok = sound f h e in
-    let s = same-from (h .size) f bytes (suc (length f)) 0 (h .begin) (ok .places .data-begins) (omega arith) z r p in
-    (header-accepted f h bytes ok lay, s .0, glue (header-same f h bytes ok lay) (s .1) ∙ take-append-drop (h .begin) f)
+      let names = namesIn f h in
+      let info = infoIn f h in
+      let begins = ok .places .data-begins in
+      let written = headerBytes 2 (h .time) (fieldsIn f h) names info in
+      let room : length written ≤ length f = rw header-same (rw (length-take-le (h .begin) f begins) begins) in
+      let body = ap (λ (g : Header). bodyNumber g (fields f h ok) (areaOf names info)) header-is ∙ body-accepted in
+      let a : lengthsNumber 2 (fieldsIn f h) names info ≡ 0 = rw (fields-are f h ok) lengths-accepted in
+      let b : bodyNumber (headerFor 2 (h .time) (fieldsIn f h) names info) (fieldsIn f h) (areaOf names info) ≡ 0 = rw (fields-are f h ok) body in
+      let last = if-no 27 _ _ 0 (le-ltb (length f) (length written) room) refl in
+      sym (else-none _ _ 0 0 (sym a) refl (else-none _ _ 0 0 (sym b) refl last))

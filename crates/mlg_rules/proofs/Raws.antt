@@ -50,7 +50,8 @@ pub sized : (v : ℕ) (d b : List ℕ) → valueNumber v d b ≡ 0 → length b 
 unfolding valueNumber
 sized v d b e = eqb-true _ _ (not-false _ (if-zero 22 _ _ (else-zero _ _ e .1) .0))
 
-pub raw-means : (v : ℕ) (d b : List ℕ) (r : RawValue) → r ≡ rawValueOf v d b → (r ≡ rawValueOf v d b) × (rawAnswer r ≡ result (pos 0) (valueNumber v d b) (rawOf (typeOf d) b))
+pub raw-means : (v : ℕ) (d b : List ℕ) (r : RawValue) → r ≡ rawValueOf v d b
+    → (r ≡ rawValueOf v d b) × (rawAnswer r ≡ result (pos 0) (valueNumber v d b) (rawOf (typeOf d) b))
 unfolding rawValueOf rawAnswer
 raw-means v d b r = means R.Is R.Refused (pos 0) rawAnswer (λ z. refl) (λ n. refl) r _ _
 

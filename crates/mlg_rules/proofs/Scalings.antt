@@ -14,7 +14,8 @@ use Rattle.mlg_rules.specs.Types.{F32}
 use Rattle.mlg_rules.specs.Field.{typeOf}
 use Rattle.mlg_rules.specs.Raw.{valueNumber, rawOf}
 use Rattle.wire.specs.Answer.{answer, result}
-use Rattle.mlg_rules.specs.Shown.{shows, finite, scalingIn, partsNumber, scalingNumber, rawFloat, shownNumber, shifted, scaled, scaledNumber, applyOf, shownOf, shownValueOf, shownAnswer, scalingOf, scalingAnswer, zeroFloat, zeroScaling}
+use Rattle.mlg_rules.specs.Shown.{shows, finite, rawFloat, shifted, scaled, scaledNumber, applyOf, shownNumber, shownOf, shownValueOf}
+use Rattle.mlg_rules.specs.Shown.{scalingIn, partsNumber, scalingNumber, scalingOf, zeroFloat, zeroScaling, shownAnswer, scalingAnswer}
 use Rattle.wire.proofs.Answers.{means}
 use Rattle.mlg_rules.proofs.Finite.{sum-finite, product-finite}
 use Rattle.mlg_rules.specs.declared.Scaling.{Scaling}
@@ -65,16 +66,19 @@ module _ (s : Scaling) (x : Float) where
   unfolding applyOf shownAnswer
   apply-means r = means S.Is S.Refused zeroFloat shownAnswer (λ y. refl) (λ n. refl) r _ _
 
-pub shown-means : (v : ℕ) (d b : List ℕ) (r : ShownValue) → r ≡ shownValueOf v d b → (r ≡ shownValueOf v d b) × (shownAnswer r ≡ result zeroFloat (shownNumber v d b) (shownOf d b))
+pub shown-means : (v : ℕ) (d b : List ℕ) (r : ShownValue) → r ≡ shownValueOf v d b
+    → (r ≡ shownValueOf v d b) × (shownAnswer r ≡ result zeroFloat (shownNumber v d b) (shownOf d b))
 unfolding shownValueOf shownAnswer
 shown-means v d b r = means S.Is S.Refused zeroFloat shownAnswer (λ y. refl) (λ n. refl) r _ _
 
-pub scaling-means : (v : ℕ) (d : List ℕ) (r : FieldScaling) → r ≡ scalingOf v d → (r ≡ scalingOf v d) × (scalingAnswer r ≡ result zeroScaling (scalingNumber v d) (scalingIn d))
+pub scaling-means : (v : ℕ) (d : List ℕ) (r : FieldScaling) → r ≡ scalingOf v d
+    → (r ≡ scalingOf v d) × (scalingAnswer r ≡ result zeroScaling (scalingNumber v d) (scalingIn d))
 unfolding scalingOf scalingAnswer
 scaling-means v d r = means F.Is F.Refused zeroScaling scalingAnswer (λ s. refl) (λ n. refl) r _ _
 
 -- what holds where no number refuses
-pub parts-stand : (d : List ℕ) → partsNumber d ≡ 0 → (shows (typeOf d) ≡ true) × ((finite (scalingIn d .transform) ≡ true) × (finite (scalingIn d .scale) ≡ true))
+pub parts-stand : (d : List ℕ) → partsNumber d ≡ 0
+    → (shows (typeOf d) ≡ true) × ((finite (scalingIn d .transform) ≡ true) × (finite (scalingIn d .scale) ≡ true))
 unfolding partsNumber
 parts-stand d e =
     let p = if-zero 29 _ _ e in
@@ -87,7 +91,8 @@ scaling-stands v d e = else-zero _ _ e .1
 
 module _ (v : ℕ) (d b : List ℕ) (ok : valueNumber v d b ≡ 0) where
   -- a field that is refused alone has no shown value
-  by-parts : (t u w : Bool) → shows (typeOf d) ≡ t → finite (scalingIn d .transform) ≡ u → finite (scalingIn d .scale) ≡ w → (partsNumber d ≡ 0 → ⊥) → 30 ≡ shownNumber v d b
+  by-parts : (t u w : Bool) → shows (typeOf d) ≡ t → finite (scalingIn d .transform) ≡ u → finite (scalingIn d .scale) ≡ w
+      → (partsNumber d ≡ 0 → ⊥) → 30 ≡ shownNumber v d b
   unfolding shownNumber partsNumber
   by-parts false u w p q r h = else-none _ _ _ _ refl ok (if-yes 30 _ _ (not-yes _ p))
   by-parts true false w p q r h = else-none _ _ _ _ refl ok (if-no 30 _ _ _ (not-no _ p) (by-transform _ _ q))
@@ -120,7 +125,8 @@ unfolding shows
 shown-by t h k true e = ltb-true t 4 e
 shown-by t h k false e =
     let l = ltb-false t 4 e in
-    let n : shows t ≡ false = rw (ne-eqb t 0 (λ e. omega arith), ne-eqb t 1 (λ e. omega arith), ne-eqb t 2 (λ e. omega arith), ne-eqb t 3 (λ e. omega arith), ne-eqb t 7 k) in
+    let n : shows t ≡ false
+    = rw (ne-eqb t 0 (λ e. omega arith), ne-eqb t 1 (λ e. omega arith), ne-eqb t 2 (λ e. omega arith), ne-eqb t 3 (λ e. omega arith), ne-eqb t 7 k) in
     let z : _≡_ {A = ℕ} 0 1 = cc in
     absurd (omega arith)
 

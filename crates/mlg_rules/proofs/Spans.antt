@@ -33,7 +33,8 @@ refused n s k x t m f e p h =
     let q = e ∙ sym (span-no x t m x refl h) in
     (q ∙ span-no n s k x p h, omega (arith, ap (λ (z : Span). z .start) q, ap (λ (z : Span). z .len) q))
 
-pub given : {r : Span} (n s k t m : ℕ) (f : List ℕ) → r ≡ spanOf 0 t m → n ≡ 0 → t ≡ s → m ≡ k → t + m ≤ length f → (r ≡ spanOf n s k) × (r .start + r .len ≤ length f)
+pub given : {r : Span} (n s k t m : ℕ) (f : List ℕ) → r ≡ spanOf 0 t m → n ≡ 0 → t ≡ s → m ≡ k → t + m ≤ length f
+    → (r ≡ spanOf n s k) × (r .start + r .len ≤ length f)
 given n s k t m f e z p q h =
     let w = e ∙ sym (span-yes 0 t m refl) in
     (w ∙ rw (p, q) (span-yes n s k z), omega (arith, ap (λ (z : Span). z .start) w, ap (λ (z : Span). z .len) w))

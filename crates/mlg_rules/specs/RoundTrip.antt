@@ -28,7 +28,8 @@ DataBack =
 unfoldable pub MarkBack : Type 0
 MarkBack =
     (l n time : ℕ) (text before rest : List ℕ) (room : ℕ) → writeMarkNumber text room ≡ 0 → time < 2 ^ 16
-    → (readBlockOf l n (before ++ (markBytes (counterAfter n) time text ++ rest)) (length before) ≡ Mark (counterAfter n) time (length before + 4) (length text) true)
+    → (readBlockOf l n (before ++ (markBytes (counterAfter n) time text ++ rest)) (length before)
+    ≡ Mark (counterAfter n) time (length before + 4) (length text) true)
     × (take (length text) (drop (length before + 4) (before ++ (markBytes (counterAfter n) time text ++ rest))) ≡ text)
 
 -- A whole block does not depend on what follows it.

@@ -72,7 +72,7 @@ pub fn type_number(kind: u8, bits: u8) -> u8
 }
 
 // 23 for a field of another length than the version's, then its type's number.
-fn field_number(version: u16, field: &[u8]) -> u8
+fn value_field_number(version: u16, field: &[u8]) -> u8
     ensures { λ r. ⌜ r ≡ valueFieldNumber version (now (field .entry)) ⌝ }
 {
     let layout = layout_of(version);
@@ -86,7 +86,7 @@ fn field_number(version: u16, field: &[u8]) -> u8
 fn value_number(version: u16, field: &[u8], raw: &[u8]) -> u8
     ensures { λ r. ⌜ r ≡ valueNumber version (now (field .entry)) (now (raw .entry)) ⌝ }
 {
-    let number = field_number(version, field);
+    let number = value_field_number(version, field);
     if number != 0 {
         return number;
     }
@@ -185,7 +185,7 @@ fn scaling_in(field: &[u8]) -> Scaling
 fn scaling_number(version: u16, field: &[u8]) -> u8
     ensures { λ r. ⌜ r ≡ scalingNumber version (now (field .entry)) ⌝ }
 {
-    let number = field_number(version, field);
+    let number = value_field_number(version, field);
     if number != 0 {
         return number;
     }

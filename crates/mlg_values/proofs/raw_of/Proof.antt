@@ -19,7 +19,12 @@ s08-requires c κs = search needs
 
 returns : tie.Need-returns
 unfolding sizeOf signedType
-returns c = toZ-ofZ w64 _ (record { sfits = c .s08 .ok }) ∙ c .s08 .ensures ∙ raw-signed _ 1 _ _ (c .before .before .if1 .taken) refl (c .before .byte-at .ensures ∙ single (c .before .before .before .before .args .raw .now) (c .before .before .before .before .pre ∙ size-at (c .before .before .before .before .args .kind) 1 1 (c .before .before .if1 .taken) refl))
+returns c =
+    let a = c .before .before .before .before .args in
+    let pre = c .before .before .before .before .pre in
+    let if1 = c .before .before .if1 in
+    toZ-ofZ w64 _ (record { sfits = c .s08 .ok }) ∙ c .s08 .ensures ∙ raw-signed _ 1 _ _ (if1 .taken) refl
+    (c .before .byte-at .ensures ∙ single (a .raw .now) (pre ∙ size-at (a .kind) 1 1 (if1 .taken) refl))
 
 be16-requires : tie.Need-be16-requires
 be16-requires c κs = search needs
@@ -29,7 +34,12 @@ s16-requires c κs = search needs
 
 returns-2 : tie.Need-returns-2
 unfolding sizeOf signedType
-returns-2 c = toZ-ofZ w64 _ (record { sfits = c .s16 .ok }) ∙ c .s16 .ensures ∙ raw-signed _ 3 _ _ (c .before .before .if2 .taken) refl (c .before .be16 .ensures ∙ whole 2 (c .before .before .before .before .before .args .raw .now) (omega (arith, c .before .before .before .before .before .pre, size-at (c .before .before .before .before .before .args .kind) 3 2 (c .before .before .if2 .taken) refl)))
+returns-2 c =
+    let a = c .before .before .before .before .before .args in
+    let pre = c .before .before .before .before .before .pre in
+    let if2 = c .before .before .if2 in
+    toZ-ofZ w64 _ (record { sfits = c .s16 .ok }) ∙ c .s16 .ensures ∙ raw-signed _ 3 _ _ (if2 .taken) refl
+    (c .before .be16 .ensures ∙ whole 2 (a .raw .now) (omega (arith, pre, size-at (a .kind) 3 2 (if2 .taken) refl)))
 
 be32-requires : tie.Need-be32-requires
 be32-requires c κs = search needs
@@ -39,7 +49,12 @@ s32-requires c κs = search needs
 
 returns-3 : tie.Need-returns-3
 unfolding sizeOf signedType
-returns-3 c = toZ-ofZ w64 _ (record { sfits = c .s32 .ok }) ∙ c .s32 .ensures ∙ raw-signed _ 5 _ _ (c .before .before .if3 .taken) refl (c .before .be32 .ensures ∙ whole 4 (c .before .before .before .before .before .before .args .raw .now) (omega (arith, c .before .before .before .before .before .before .pre, size-at (c .before .before .before .before .before .before .args .kind) 5 4 (c .before .before .if3 .taken) refl)))
+returns-3 c =
+    let a = c .before .before .before .before .before .before .args in
+    let pre = c .before .before .before .before .before .before .pre in
+    let if3 = c .before .before .if3 in
+    toZ-ofZ w64 _ (record { sfits = c .s32 .ok }) ∙ c .s32 .ensures ∙ raw-signed _ 5 _ _ (if3 .taken) refl
+    (c .before .be32 .ensures ∙ whole 4 (a .raw .now) (omega (arith, pre, size-at (a .kind) 5 4 (if3 .taken) refl)))
 
 number-requires : tie.Need-number-requires
 number-requires c κs = search needs
@@ -49,7 +64,12 @@ s64-requires c κs = search needs
 
 returns-4 : tie.Need-returns-4
 unfolding sizeOf signedType
-returns-4 c = toZ-ofZ w64 _ (record { sfits = c .s64 .ok }) ∙ c .s64 .ensures ∙ raw-signed _ 6 _ _ (c .before .before .if4 .taken) refl (c .before .number .ensures ∙ whole 8 (c .before .before .before .before .before .before .before .args .raw .now) (omega (arith, c .before .before .before .before .before .before .before .pre, size-at (c .before .before .before .before .before .before .before .args .kind) 6 8 (c .before .before .if4 .taken) refl)))
+returns-4 c =
+    let a = c .before .before .before .before .before .before .before .args in
+    let pre = c .before .before .before .before .before .before .before .pre in
+    let if4 = c .before .before .if4 in
+    toZ-ofZ w64 _ (record { sfits = c .s64 .ok }) ∙ c .s64 .ensures ∙ raw-signed _ 6 _ _ (if4 .taken) refl
+    (c .before .number .ensures ∙ whole 8 (a .raw .now) (omega (arith, pre, size-at (a .kind) 6 8 (if4 .taken) refl)))
 
 be32-requires-2 : tie.Need-be32-requires-2
 be32-requires-2 c κs = search needs
@@ -58,7 +78,15 @@ cast-result : tie.Need-cast-result
 cast-result c = search needs
 
 returns-5 : tie.Need-returns-5
-returns-5 c = toZ-pos w64 (c .be322 .result) (omega arith) ∙ ap pos (c .be322 .ensures ∙ whole 4 (c .before .before .before .before .before .before .args .raw .now) (omega (arith, c .before .before .before .before .before .before .pre, size-plain (c .before .before .before .before .before .before .args .kind) (c .before .if4 .left)))) ∙ sym (raw-plain _ _ (c .before .before .before .before .if1 .left) (c .before .before .before .if2 .left) (c .before .before .if3 .left) (c .before .if4 .left))
+returns-5 c =
+    let a = c .before .before .before .before .before .before .args in
+    let pre = c .before .before .before .before .before .before .pre in
+    let if1 = c .before .before .before .before .if1 in
+    let if2 = c .before .before .before .if2 in
+    let if4 = c .before .if4 in
+    toZ-pos w64 (c .be322 .result) (omega arith) ∙ ap pos
+    (c .be322 .ensures ∙ whole 4 (a .raw .now) (omega (arith, pre, size-plain (a .kind) (if4 .left)))) ∙ sym
+    (raw-plain _ _ (if1 .left) (if2 .left) (c .before .before .if3 .left) (if4 .left))
 
 pub raw-of-spec : {M : Type 1} → statement M
 raw-of-spec =

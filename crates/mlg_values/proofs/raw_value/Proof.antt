@@ -15,7 +15,9 @@ value-number-requires c κs = search needs
 
 returns : tie.Need-returns
 unfolding rawValueOf
-returns c = raw-means 2 (c .before .before .before .before .args .field .now) (c .before .before .before .before .args .raw .now) _ (refuses R.Is R.Refused _ _ _ (c .before .value-number .ensures) (c .if1 .taken))
+returns c =
+    let a = c .before .before .before .before .args in
+    raw-means 2 (a .field .now) (a .raw .now) _ (refuses R.Is R.Refused _ _ _ (c .before .value-number .ensures) (c .if1 .taken))
 
 byte-at-requires : tie.Need-byte-at-requires
 byte-at-requires c κs = search needs
@@ -25,7 +27,11 @@ raw-of-requires c κs = rw (c .byte-at .ensures) (sized 2 _ _ (sym (c .before .b
 
 returns-2 : tie.Need-returns-2
 unfolding rawValueOf
-returns-2 c = raw-means 2 (c .before .before .before .before .before .before .args .field .now) (c .before .before .before .before .before .before .args .raw .now) _ (stands R.Is R.Refused _ _ _ (sym (c .before .before .before .value-number .ensures) ∙ c .before .before .if1 .left) (toZ-ofZ w64 _ (record { sfits = c .raw-of .ok }) ∙ c .raw-of .ensures ∙ ap (λ (t : ℕ). rawOf t (c .before .before .before .before .before .before .args .raw .now)) (c .before .byte-at .ensures)))
+returns-2 c =
+    let a = c .before .before .before .before .before .before .args in
+    let value-number = c .before .before .before .value-number in
+    raw-means 2 (a .field .now) (a .raw .now) _ (stands R.Is R.Refused _ _ _ (sym (value-number .ensures) ∙ c .before .before .if1 .left)
+    (toZ-ofZ w64 _ (record { sfits = c .raw-of .ok }) ∙ c .raw-of .ensures ∙ ap (λ (t : ℕ). rawOf t (a .raw .now)) (c .before .byte-at .ensures)))
 
 pub raw-value-spec : {M : Type 1} → statement M
 raw-value-spec =

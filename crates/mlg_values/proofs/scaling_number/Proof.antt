@@ -4,8 +4,8 @@ use Rattle.mlg_values.proofs.scaling_number.Tie as tie
 use Rattle.wire.proofs.Orders.{order}
 use Rattle.mlg_rules.specs.Shown.{scalingNumber}
 
-field-number-requires : tie.Need-field-number-requires
-field-number-requires c κs = search needs
+value-field-number-requires : tie.Need-value-field-number-requires
+value-field-number-requires c κs = search needs
 
 returns : tie.Need-returns
 unfolding scalingNumber
@@ -20,4 +20,4 @@ returns-2 c = search order depth 12
 
 pub scaling-number-spec : {M : Type 1} → statement M
 scaling-number-spec =
-    tie.close (tie.spec field-number-requires returns parts-number-requires returns-2)
+    tie.close (tie.spec value-field-number-requires returns parts-number-requires returns-2)

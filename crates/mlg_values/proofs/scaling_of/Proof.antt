@@ -19,7 +19,10 @@ scaling-in-requires c κs = scaling-stands 2 _ (sym (c .before .scaling-number .
 
 returns-2 : tie.Need-returns-2
 unfolding scalingOf
-returns-2 c = scaling-means 2 (c .before .before .before .before .args .field .now) _ (stands F.Is F.Refused _ _ _ (sym (c .before .before .scaling-number .ensures) ∙ c .before .if1 .left) (c .scaling-in .ensures))
+returns-2 c =
+    let a = c .before .before .before .before .args in
+    scaling-means 2 (a .field .now) _
+    (stands F.Is F.Refused _ _ _ (sym (c .before .before .scaling-number .ensures) ∙ c .before .if1 .left) (c .scaling-in .ensures))
 
 pub scaling-of-spec : {M : Type 1} → statement M
 scaling-of-spec =

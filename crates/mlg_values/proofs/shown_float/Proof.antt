@@ -31,7 +31,11 @@ apply-requires : tie.Need-apply-requires
 apply-requires c κs = search needs
 
 returns-2 : tie.Need-returns-2
-returns-2 c = c .apply .ensures .0 ∙ ap (λ (n : ℕ). applyOf (c .before .before .before .before .before .args .scaling) (ofBits binary32 n)) (c .before .before .before .be32 .ensures ∙ whole 4 (c .before .before .before .before .before .args .raw .now) (c .before .before .before .before .before .pre))
+returns-2 c =
+    let a = c .before .before .before .before .before .args in
+    let pre = c .before .before .before .before .before .pre in
+    let be32 = c .before .before .before .be32 in
+    c .apply .ensures .0 ∙ ap (λ (n : ℕ). applyOf (a .scaling) (ofBits binary32 n)) (be32 .ensures ∙ whole 4 (a .raw .now) pre)
 
 pub shown-float-spec : {M : Type 1} → statement M
 shown-float-spec =

@@ -13,13 +13,20 @@ raw-of-requires : tie.Need-raw-of-requires
 raw-of-requires c κs = search needs
 
 as-float-requires : tie.Need-as-float-requires
-as-float-requires c κs = rw (toZ-ofZ w64 _ (record { sfits = c .raw-of .ok }), c .raw-of .ensures) (raw-small _ _ (c .before .before .pre .1) (c .before .before .pre .0) (λ i. omega (arith, c .before .shared-slice-known .given i)))
+as-float-requires c κs =
+    let pre = c .before .before .pre in
+    rw (toZ-ofZ w64 _ (record { sfits = c .raw-of .ok }), c .raw-of .ensures)
+    (raw-small _ _ (pre .1) (pre .0) (λ i. omega (arith, c .before .shared-slice-known .given i)))
 
 apply-requires : tie.Need-apply-requires
 apply-requires c κs = search needs
 
 returns : tie.Need-returns
-returns c = c .apply .ensures .0 ∙ ap (applyOf (c .before .before .before .before .args .scaling)) (c .before .as-float .ensures ∙ ap (ofInt binary32) (toZ-ofZ w64 _ (record { sfits = c .before .before .raw-of .ok }) ∙ c .before .before .raw-of .ensures))
+returns c =
+    let a = c .before .before .before .before .args in
+    let raw-of = c .before .before .raw-of in
+    c .apply .ensures .0 ∙ ap (applyOf (a .scaling))
+    (c .before .as-float .ensures ∙ ap (ofInt binary32) (toZ-ofZ w64 _ (record { sfits = raw-of .ok }) ∙ raw-of .ensures))
 
 pub shown-whole-spec : {M : Type 1} → statement M
 shown-whole-spec = tie.close (tie.spec raw-of-requires as-float-requires apply-requires returns)

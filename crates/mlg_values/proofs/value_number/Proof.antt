@@ -4,8 +4,8 @@ use Rattle.mlg_values.proofs.value_number.Tie as tie
 use Rattle.wire.proofs.Orders.{order}
 use Rattle.mlg_rules.specs.Raw.{valueNumber}
 
-field-number-requires : tie.Need-field-number-requires
-field-number-requires c κs = search needs
+value-field-number-requires : tie.Need-value-field-number-requires
+value-field-number-requires c κs = search needs
 
 returns : tie.Need-returns
 unfolding valueNumber
@@ -32,7 +32,7 @@ pub value-number-spec : {M : Type 1} → statement M
 value-number-spec =
     tie.close
     (tie.spec
-    field-number-requires
+    value-field-number-requires
     returns
     byte-at-requires
     size-of-requires
