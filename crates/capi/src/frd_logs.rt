@@ -11,9 +11,8 @@ use frd::Head;
 ghost use mathlib.Core.Path.{_≡_};
 ghost use lib.ListN.{length, take, drop};
 ghost use Rattle.wire.specs.Writer.{wrote, leaves};
-ghost use Rattle.wire.specs.Log.{counterOf};
 ghost use Rattle.frd_rules.specs.Header.{readHeaderOf, signatureIn, readSignatureOf};
-ghost use Rattle.frd_rules.specs.Block.{counterModulus, readBlockOf};
+ghost use Rattle.frd_rules.specs.Block.{counterAfter, readBlockOf};
 ghost use Rattle.frd_rules.specs.Log.{countBlocksOf};
 ghost use Rattle.frd_rules.specs.Writing.{headerBytes, writeHeaderNumber, dataBytes, writeDataNumber, timeBytes, writeTimeNumber};
 ghost use Rattle.capi.specs.Answers.{frdHeader, noFrdBlock, foundFrdBlock, frdBlock};
@@ -138,16 +137,16 @@ pub extern "C" fn hg_frd_write_data(
     earlier: u64,
     bytes: &[u8],
 ) -> wire::Written
-    ensures { λ r. ⌜ (r ≡ wrote (writeDataNumber size (counterOf counterModulus earlier) (now (bytes .entry)) (length (now (out .entry)))) (dataBytes (counterOf counterModulus earlier) (now (bytes .entry))))
-        × (now (out .exit) ≡ leaves (writeDataNumber size (counterOf counterModulus earlier) (now (bytes .entry)) (length (now (out .entry)))) (dataBytes (counterOf counterModulus earlier) (now (bytes .entry))) (now (out .entry))) ⌝ }
+    ensures { λ r. ⌜ (r ≡ wrote (writeDataNumber size (counterAfter earlier) (now (bytes .entry)) (length (now (out .entry)))) (dataBytes (counterAfter earlier) (now (bytes .entry))))
+        × (now (out .exit) ≡ leaves (writeDataNumber size (counterAfter earlier) (now (bytes .entry)) (length (now (out .entry)))) (dataBytes (counterAfter earlier) (now (bytes .entry))) (now (out .entry))) ⌝ }
 {
     frd::write_data(out, size, earlier, bytes)
 }
 
 #[no_mangle]
 pub extern "C" fn hg_frd_write_time(out: &mut [u8], earlier: u64, time: u32) -> wire::Written
-    ensures { λ r. ⌜ (r ≡ wrote (writeTimeNumber (counterOf counterModulus earlier) time (length (now (out .entry)))) (timeBytes (counterOf counterModulus earlier) time))
-        × (now (out .exit) ≡ leaves (writeTimeNumber (counterOf counterModulus earlier) time (length (now (out .entry)))) (timeBytes (counterOf counterModulus earlier) time) (now (out .entry))) ⌝ }
+    ensures { λ r. ⌜ (r ≡ wrote (writeTimeNumber (counterAfter earlier) time (length (now (out .entry)))) (timeBytes (counterAfter earlier) time))
+        × (now (out .exit) ≡ leaves (writeTimeNumber (counterAfter earlier) time (length (now (out .entry)))) (timeBytes (counterAfter earlier) time) (now (out .entry))) ⌝ }
 {
     frd::write_time(out, earlier, time)
 }

@@ -1,17 +1,17 @@
 // FRD 1: reader and writer of a log's header and of its two kinds of blocks.
-mod blocks;
-mod counting;
-mod headers;
+mod block_counting;
+mod block_reading;
+mod header_reading;
 mod writing;
 
-pub use blocks::length_of;
-pub use blocks::read_block;
-pub use counting::count_blocks;
+pub use block_counting::count_blocks;
+pub use block_reading::length_of;
+pub use block_reading::read_block;
 pub use frd_rules::Block;
 pub use frd_rules::Head;
 pub use frd_rules::Header;
-pub use headers::read_header;
-pub use headers::read_signature;
+pub use header_reading::read_header;
+pub use header_reading::read_signature;
 pub use wire::Span;
 pub use wire::Tally;
 pub use writing::write_data;

@@ -1,17 +1,18 @@
 // Writing a header and blocks.
-use crate::blocks::counter_of;
+use crate::block_reading::counter_of;
 ghost use mathlib.Core.Path.{_≡_};
 ghost use lib.ListN.{length};
-ghost use Rattle.wire.specs.Log.{counterOf};
 ghost use Rattle.wire.specs.Writer.{wrote, leaves};
-ghost use Rattle.frd_rules.specs.Block.{counterModulus};
+ghost use Rattle.frd_rules.specs.Block.{counterAfter};
 ghost use Rattle.frd_rules.specs.Writing.{headerBytes, writeHeaderNumber, dataBytes, writeDataNumber, timeBytes, writeTimeNumber};
 ghost use Rattle.frd_rules.specs.RoundTrip.{HeaderBack, DataBack, TimeBack, LogBack, LogSame};
 
 // Writes a header with a time, a signature and an output length.
 pub fn write_header(out: &mut [u8], time: u32, signature: &[u8], size: u16) -> wire::Written
-    ensures { λ r. ⌜ (r ≡ wrote (writeHeaderNumber time (now (signature .entry)) size (length (now (out .entry)))) (headerBytes time (now (signature .entry)) size))
-        × (now (out .exit) ≡ leaves (writeHeaderNumber time (now (signature .entry)) size (length (now (out .entry)))) (headerBytes time (now (signature .entry)) size) (now (out .entry))) ⌝ }
+    ensures { λ r. ⌜ (r ≡ wrote (writeHeaderNumber time (now (signature .entry)) size (length (now (out .entry))))
+        (headerBytes time (now (signature .entry)) size))
+        × (now (out .exit) ≡ leaves (writeHeaderNumber time (now (signature .entry)) size (length (now (out .entry))))
+        (headerBytes time (now (signature .entry)) size) (now (out .entry))) ⌝ }
     ensures back { λ r. ⌜ HeaderBack time (now (signature .entry)) size ⌝ }
     ensures logs { λ r. ⌜ LogBack × LogSame ⌝ }
 {
@@ -33,8 +34,10 @@ pub fn write_header(out: &mut [u8], time: u32, signature: &[u8], size: u16) -> w
 
 // Writes a data block after the given number of blocks.
 pub fn write_data(out: &mut [u8], size: u16, earlier: u64, bytes: &[u8]) -> wire::Written
-    ensures { λ r. ⌜ (r ≡ wrote (writeDataNumber size (counterOf counterModulus earlier) (now (bytes .entry)) (length (now (out .entry)))) (dataBytes (counterOf counterModulus earlier) (now (bytes .entry))))
-        × (now (out .exit) ≡ leaves (writeDataNumber size (counterOf counterModulus earlier) (now (bytes .entry)) (length (now (out .entry)))) (dataBytes (counterOf counterModulus earlier) (now (bytes .entry))) (now (out .entry))) ⌝ }
+    ensures { λ r. ⌜ (r ≡ wrote (writeDataNumber size (counterAfter earlier) (now (bytes .entry)) (length (now (out .entry))))
+        (dataBytes (counterAfter earlier) (now (bytes .entry))))
+        × (now (out .exit) ≡ leaves (writeDataNumber size (counterAfter earlier) (now (bytes .entry)) (length (now (out .entry))))
+        (dataBytes (counterAfter earlier) (now (bytes .entry))) (now (out .entry))) ⌝ }
     ensures back { λ r. ⌜ DataBack size earlier (now (bytes .entry)) ⌝ }
 {
     let len = bytes.len();
@@ -55,8 +58,10 @@ pub fn write_data(out: &mut [u8], size: u16, earlier: u64, bytes: &[u8]) -> wire
 
 // Writes a time block after the given number of blocks.
 pub fn write_time(out: &mut [u8], earlier: u64, time: u32) -> wire::Written
-    ensures { λ r. ⌜ (r ≡ wrote (writeTimeNumber (counterOf counterModulus earlier) time (length (now (out .entry)))) (timeBytes (counterOf counterModulus earlier) time))
-        × (now (out .exit) ≡ leaves (writeTimeNumber (counterOf counterModulus earlier) time (length (now (out .entry)))) (timeBytes (counterOf counterModulus earlier) time) (now (out .entry))) ⌝ }
+    ensures { λ r. ⌜ (r ≡ wrote (writeTimeNumber (counterAfter earlier) time (length (now (out .entry))))
+        (timeBytes (counterAfter earlier) time))
+        × (now (out .exit) ≡ leaves (writeTimeNumber (counterAfter earlier) time (length (now (out .entry))))
+        (timeBytes (counterAfter earlier) time) (now (out .entry))) ⌝ }
     ensures back { λ r. ⌜ TimeBack earlier time ⌝ }
 {
     if out.len() < 6 {

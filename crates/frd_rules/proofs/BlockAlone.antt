@@ -8,7 +8,8 @@ use Rattle.wire.proofs.Parts.{part-append}
 use Rattle.frd_rules.specs.Block.{blockLen, kindIn, foundOf, blockOf}
 use Rattle.frd_rules.specs.RoundTrip.{BlockAlone}
 use Rattle.frd_rules.specs.declared.Block.the-variants.{Refused}
-use Rattle.frd_rules.proofs.BlockLaws.{Kind, is-data, is-time, is-none, kind-of, data-len, time-len, no-len, block-stands, block-refused, rest-unknown, rest-whole, found-data, found-time}
+use Rattle.frd_rules.proofs.BlockLaws.{Kind, is-data, is-time, is-none, kind-of, data-len, time-len, no-len}
+use Rattle.frd_rules.proofs.BlockLaws.{block-stands, block-refused, rest-unknown, rest-whole, found-data, found-time}
 
 module _ (l c at : ℕ) (t rest : List ℕ) (some : 0 < length t) (whole : blockLen l (kindIn t) ≤ length t) where
   kind-same : kindIn (t ++ rest) ≡ kindIn t

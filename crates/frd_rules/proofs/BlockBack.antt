@@ -8,10 +8,9 @@ use borrow.Author.Tests.{eq-eqb}
 use lib.ListN.{length, take, drop, length-append}
 use lib.Seq.{take-at, drop-at, drop-append-add}
 use Rattle.wire.specs.BigEndian.{beBytes}
-use Rattle.wire.specs.Log.{counterOf}
 use Rattle.wire.proofs.Numbers.{be-back}
 use Rattle.wire.proofs.Orders.{if-no, not-no}
-use Rattle.frd_rules.specs.Block.{counterModulus, blockLen, kindIn, timeIn, recordPlace, foundOf, blockOf, readBlockOf}
+use Rattle.frd_rules.specs.Block.{counterAfter, blockLen, kindIn, timeIn, recordPlace, foundOf, blockOf, readBlockOf}
 use Rattle.frd_rules.specs.Writing.{dataBytes, writeDataNumber, timeBytes, writeTimeNumber}
 use Rattle.frd_rules.specs.RoundTrip.{DataBack, TimeBack}
 use Rattle.frd_rules.specs.declared.Block.{Block}
@@ -50,11 +49,11 @@ time-stands l c at time rest h =
     (found-time c at t (λ z. omega arith) (λ z. omega arith) ∙ rw (eq-eqb c c refl, q))
 
 -- at any place of a file
-at-place : (l n : ℕ) (before t : List ℕ) (b : Block) → blockOf l (counterOf counterModulus n) (length before) t ≡ b
+at-place : (l n : ℕ) (before t : List ℕ) (b : Block) → blockOf l (counterAfter n) (length before) t ≡ b
     → readBlockOf l n (before ++ t) (length before) ≡ b
 at-place l n before t b e =
     at-within l n (before ++ t) (length before) (omega (arith, length-append before t))
-    ∙ ap (blockOf l (counterOf counterModulus n) (length before)) (drop-at before t (length before) refl) ∙ e
+    ∙ ap (blockOf l (counterAfter n) (length before)) (drop-at before t (length before) refl) ∙ e
 
 -- what is writable is written where there is room
 data-written : (l c : ℕ) (rec : List ℕ) → length rec ≡ l → (room : ℕ) → length (dataBytes c rec) ≤ room → writeDataNumber l c rec room ≡ 0
@@ -68,7 +67,7 @@ time-written c time room h = sym (room-left (timeBytes c time) room h)
 pub data-back : (l n : ℕ) (rec : List ℕ) → DataBack l n rec
 unfolding DataBack
 data-back l n rec e =
-    let c = counterOf counterModulus n in (
+    let c = counterAfter n in (
       data-written l c rec e,
       λ before rest. (at-place l n before _ _ (data-stands l c (length before) rec rest e), record-back l c before rec rest e),
     )
@@ -76,5 +75,5 @@ data-back l n rec e =
 pub time-back : (n time : ℕ) → time < 2 ^ 32 → TimeBack n time
 unfolding TimeBack
 time-back n time h =
-    let c = counterOf counterModulus n in
+    let c = counterAfter n in
     (time-written c time, λ l before rest. at-place l n before _ _ (time-stands l c (length before) time rest h))

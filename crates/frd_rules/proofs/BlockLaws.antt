@@ -7,9 +7,11 @@ use native.Mathlib.Omega.{arith}
 use borrow.Author.Tests.{eq-eqb, ne-eqb, eqb-true, eqb-false, lt-ltb, le-ltb, ltb-true, ltb-false}
 use lib.Dec.{eqb, ltb}
 use lib.ListN.{length, drop, length-drop}
-use Rattle.wire.specs.Log.{counterOf, judged}
-use Rattle.wire.proofs.Orders.{if-yes, if-no, if-zero, if-skip}
-use Rattle.frd_rules.specs.Block.{counterModulus, blockLen, kindIn, counterIn, timeIn, recordPlace, restNumber, foundOf, blockOf, readBlockNumber, readBlockOf, BlockAnswer, noBlock, blockAnswer, dataValues, timeValues, foundValues, blockResult}
+use Rattle.wire.specs.Log.{judged}
+use Rattle.wire.proofs.Orders.{order, if-yes, if-no, if-zero, if-skip}
+use Rattle.frd_rules.specs.Block.{counterAfter, blockLen, kindIn, counterIn, timeIn, recordPlace}
+use Rattle.frd_rules.specs.Block.{restNumber, foundOf, blockOf, readBlockNumber, readBlockOf}
+use Rattle.frd_rules.specs.Block.{BlockAnswer, noBlock, blockAnswer, dataValues, timeValues, foundValues, blockResult}
 use Rattle.frd_rules.specs.declared.Block.{Block}
 use Rattle.frd_rules.specs.declared.Block.the-variants.{Data, Time, End, Refused}
 
@@ -69,15 +71,15 @@ module _ (c at : ℕ) (t : List ℕ) where
 module _ (l : ℕ) (t : List ℕ) where
   rest-none : length t ≡ 0 → 0 ≡ restNumber l t
   unfolding restNumber
-  rest-none h = if-yes 0 _ _ (eq-eqb _ _ h)
+  rest-none h = search order depth 9
 
   pub rest-unknown : (length t ≡ 0 → ⊥) → blockLen l (kindIn t) ≡ 0 → 25 ≡ restNumber l t
   unfolding restNumber
-  rest-unknown h e = if-no 0 _ _ 25 (ne-eqb _ _ h) (if-yes 25 _ _ (eq-eqb _ _ e))
+  rest-unknown h e = search order depth 9
 
   pub rest-whole : (length t ≡ 0 → ⊥) → (blockLen l (kindIn t) ≡ 0 → ⊥) → blockLen l (kindIn t) ≤ length t → 0 ≡ restNumber l t
   unfolding restNumber
-  rest-whole h a b = if-no 0 _ _ 0 (ne-eqb _ _ h) (if-no 25 _ _ 0 (ne-eqb _ _ a) (if-no 20 _ _ 0 (le-ltb _ _ b) refl))
+  rest-whole h a b = search order depth 12
 
   rest-known : (length t ≡ 0 → ⊥) → restNumber l t ≡ 0 → (blockLen l (kindIn t) ≡ 0 → ⊥) × (blockLen l (kindIn t) ≤ length t)
   unfolding restNumber
@@ -110,10 +112,10 @@ module _ (l n : ℕ) (f : List ℕ) (at : ℕ) where
   unfolding readBlockOf readBlockNumber
   at-past h = block-refused _ at _ 23 (if-yes 23 _ _ (lt-ltb _ _ h)) (λ z. omega arith)
 
-  pub at-within : at ≤ length f → readBlockOf l n f at ≡ blockOf l (counterOf counterModulus n) at (drop at f)
+  pub at-within : at ≤ length f → readBlockOf l n f at ≡ blockOf l (counterAfter n) at (drop at f)
   unfolding readBlockOf blockOf readBlockNumber
   at-within h =
-      ap (λ (m : ℕ). judged Refused m at (foundOf (counterOf counterModulus n) at (drop at f)))
+      ap (λ (m : ℕ). judged Refused m at (foundOf (counterAfter n) at (drop at f)))
       (sym (if-no 23 _ _ (restNumber l (drop at f)) (le-ltb _ _ h) refl))
 
   -- the end of the file
@@ -141,15 +143,15 @@ pub block-means : (l n : ℕ) (f : List ℕ) (at : ℕ) (r : Block) → r ≡ re
     → (r ≡ readBlockOf l n f at) × (blockAnswer r ≡ blockResult l n f at)
 unfolding readBlockOf blockResult
 block-means l n f at r e =
-    (e, ap blockAnswer e ∙ judged-values (readBlockNumber l f at) at _ _ (found-values (counterOf counterModulus n) at (drop at f)))
+    (e, ap blockAnswer e ∙ judged-values (readBlockNumber l f at) at _ _ (found-values (counterAfter n) at (drop at f)))
 
 -- what stands at a place of a file after n blocks, and the facts of each case; t is the rest of the file from there on
 pub data View (l n : ℕ) (f : List ℕ) (at : ℕ) (t : List ℕ) : Type 0 where
   at-end : at ≡ length f → readBlockOf l n f at ≡ End → View l n f at t
   of-data : kindIn t ≡ 1 → at + (l + 2) ≤ length f
-      → readBlockOf l n f at ≡ Data (counterIn t) (recordPlace at) (eqb (counterIn t) (counterOf counterModulus n)) → View l n f at t
+      → readBlockOf l n f at ≡ Data (counterIn t) (recordPlace at) (eqb (counterIn t) (counterAfter n)) → View l n f at t
   of-time : kindIn t ≡ 2 → at + 6 ≤ length f
-      → readBlockOf l n f at ≡ Time (counterIn t) (timeIn t) (eqb (counterIn t) (counterOf counterModulus n)) → View l n f at t
+      → readBlockOf l n f at ≡ Time (counterIn t) (timeIn t) (eqb (counterIn t) (counterAfter n)) → View l n f at t
   of-refusal : (m : ℕ) → (m ≡ 0 → ⊥) → readBlockOf l n f at ≡ Refused m at → View l n f at t
 
 module _ (l n : ℕ) (f : List ℕ) (at : ℕ) where
@@ -157,7 +159,7 @@ module _ (l n : ℕ) (f : List ℕ) (at : ℕ) where
   t = drop at f
 
   abbrev c : ℕ
-  c = counterOf counterModulus n
+  c = counterAfter n
 
   -- at a place within the file
   module _ (within : at ≤ length f) where

@@ -11,7 +11,8 @@ use Rattle.wire.specs.Log.{spanOf}
 use Rattle.wire.specs.declared.Span.{Span}
 use Rattle.wire.proofs.Answers.{means, answered, stands}
 use Rattle.wire.proofs.Orders.{if-zero}
-use Rattle.frd_rules.specs.Header.{headerLen, signaturePlace, signatureLen, name, version, numbersOf, readHeaderNumber, readHeaderOf, noHeader, headAnswer, readSignatureOf}
+use Rattle.frd_rules.specs.Header.{headerLen, signaturePlace, signatureLen, name, version, numbersOf}
+use Rattle.frd_rules.specs.Header.{readHeaderNumber, readHeaderOf, noHeader, headAnswer, readSignatureOf}
 use Rattle.frd_rules.specs.declared.Header.{Header}
 use Rattle.frd_rules.specs.declared.Head.{Head}
 use Rattle.frd_rules.specs.declared.Head.the-variants.{Is, Refused}

@@ -2,7 +2,7 @@ pub mod HeaderLaws
 pub mod BlockLaws
 pub mod WritingLaws
 pub mod LogLaws
-pub mod Counting
+pub mod TallyLaws
 pub mod BlockAlone
 pub mod HeaderBack
 pub mod BlockBack

@@ -5,12 +5,12 @@ use mathlib.Core.Bool.{true}
 use mathlib.Core.List.{List, [], _∷_, _++_, append-assoc}
 use native.Mathlib.Omega.{arith}
 use lib.ListN.{length, length-append}
-use Rattle.wire.specs.Log.{counterOf}
 use Rattle.frd_rules.specs.Header.{headerLen}
-use Rattle.frd_rules.specs.Block.{counterModulus, recordPlace, readBlockOf, blockAnswer, lengthOf}
+use Rattle.frd_rules.specs.Block.{counterAfter, recordPlace, readBlockOf, blockAnswer, lengthOf}
 use Rattle.frd_rules.specs.Log.{Log, more, logFrom}
 use Rattle.frd_rules.specs.Writing.{headerBytes, dataBytes, timeBytes}
-use Rattle.frd_rules.specs.RoundTrip.{headerFor, HeaderBack, DataBack, TimeBack, Entry, aRecord, aTime, Writable, entriesBytes, logBytes, entryIn, entriesIn, AsExpected, AllAsExpected, LogBack}
+use Rattle.frd_rules.specs.RoundTrip.{HeaderBack, DataBack, TimeBack, LogBack}
+use Rattle.frd_rules.specs.RoundTrip.{Entry, aRecord, aTime, Writable, entriesBytes, logBytes, entryIn, entriesIn, AsExpected, AllAsExpected}
 use Rattle.frd_rules.specs.declared.Block.{Block}
 use Rattle.frd_rules.specs.declared.Block.the-variants.{Data, Time}
 use Rattle.frd_rules.proofs.BlockLaws.{data-len, time-len, at-end-of}
@@ -19,17 +19,14 @@ use Rattle.frd_rules.proofs.WritingLaws.{data-length, time-length, head
 use Rattle.frd_rules.proofs.HeaderBack.{header-back}
 use Rattle.frd_rules.proofs.BlockBack.{data-back, time-back}
 
-abbrev c : ℕ → ℕ
-c n = counterOf counterModulus n
-
 -- an entry's bytes after n blocks, and its block
 abbrev entryBytes : ℕ → Entry → List ℕ
-entryBytes n (aRecord rec) = dataBytes (c n) rec
-entryBytes n (aTime time) = timeBytes (c n) time
+entryBytes n (aRecord rec) = dataBytes (counterAfter n) rec
+entryBytes n (aTime time) = timeBytes (counterAfter n) time
 
 abbrev blockFor : (n at : ℕ) → Entry → Block
-blockFor n at (aRecord rec) = Data (c n) (recordPlace at) true
-blockFor n at (aTime time) = Time (c n) time true
+blockFor n at (aRecord rec) = Data (counterAfter n) (recordPlace at) true
+blockFor n at (aTime time) = Time (counterAfter n) time true
 
 module _ (l n : ℕ) where
   entry-is-block : (at : ℕ) (e : Entry) → IsBlock (blockFor n at e)
@@ -42,8 +39,8 @@ module _ (l n : ℕ) where
 
   entry-length : (at : ℕ) (e : Entry) (es : List Entry) → Writable l (e ∷ es) → length (entryBytes n e) ≡ lengthOf l (blockFor n at e)
   unfolding Writable lengthOf
-  entry-length at (aRecord rec) es h = data-length (c n) rec ∙ omega (arith, data-len l 1 refl, h .0)
-  entry-length at (aTime time) es h = time-length (c n) time ∙ sym (time-len l 2 refl)
+  entry-length at (aRecord rec) es h = data-length (counterAfter n) rec ∙ omega (arith, data-len l 1 refl, h .0)
+  entry-length at (aTime time) es h = time-length (counterAfter n) time ∙ sym (time-len l 2 refl)
 
   -- it reads back
   entry-block : (before : List ℕ) (e : Entry) (es : List Entry) (rest : List ℕ) → Writable l (e ∷ es)
@@ -58,15 +55,9 @@ module _ (l n : ℕ) where
   entry-back before (aRecord rec) es rest h = ap (λ (r : List ℕ). aRecord r ∷ []) (data-back l n rec (h .0) .1 before rest .1)
   entry-back before (aTime time) es rest h = refl
 
--- the entries' bytes, one entry by one
-bytes-more : (n : ℕ) (e : Entry) (es : List Entry) → entriesBytes n (e ∷ es) ≡ entryBytes n e ++ entriesBytes (n + 1) es
-unfolding entriesBytes
-bytes-more n (aRecord rec) es = refl
-bytes-more n (aTime time) es = refl
-
 entry-some : (n : ℕ) (e : Entry) → 0 < length (entryBytes n e)
-entry-some n (aRecord rec) = omega (arith, data-length (c n) rec)
-entry-some n (aTime time) = omega (arith, time-length (c n) time)
+entry-some n (aRecord rec) = omega (arith, data-length (counterAfter n) rec)
+entry-some n (aTime time) = omega (arith, time-length (counterAfter n) time)
 
 writable-rest : (l : ℕ) (e : Entry) (es : List Entry) → Writable l (e ∷ es) → Writable l es
 unfolding Writable
@@ -80,42 +71,43 @@ record Whole (l : ℕ) (f : List ℕ) (es : List Entry) (g : Log) : Type 0 where
   ending : g .ending ≡ 0
   place : g .place ≡ length f
 
-module _ (l : ℕ) where
-  -- one entry more, before what is read after n + 1 blocks
-  whole-more : (n k : ℕ) (before : List ℕ) (e : Entry) (es : List Entry) (rest f : List ℕ) → before ++ (entryBytes n e ++ rest) ≡ f → Writable l (e ∷ es)
-      → Whole l f es (logFrom k l (n + 1) f (length (before ++ entryBytes n e))) → Whole l f (e ∷ es) (logFrom (suc k) l n f (length before))
+module _ (l : ℕ) (f : List ℕ) where
+  -- what follows these bytes reads back, with this fuel, after n blocks
+  abbrev RestBack : (k n : ℕ) → List Entry → List ℕ → Type 0
+  RestBack k n es rest = (before : List ℕ) → before ++ rest ≡ f → Writable l es → length rest < k → Whole l f es (logFrom k l n f (length before))
+
+  -- one entry more
+  entry-more : (k n : ℕ) (e : Entry) (es : List Entry) (rest : List ℕ) → RestBack k (n + 1) es rest
+      → RestBack (suc k) n (e ∷ es) (entryBytes n e ++ rest)
   unfolding entriesIn AllAsExpected
-  whole-more n k before e es rest f q h w =
+  entry-more k n e es rest next before q h i =
       let at = length before in
       let b = blockFor n at e in
+      let g = logFrom k l (n + 1) f (at + lengthOf l b) in
       let stands : readBlockOf l n f at ≡ b = subst (λ (x : List ℕ). readBlockOf l n x at ≡ b) q (entry-block l n before e es rest h) in
       let back : entryIn l f b ≡ e ∷ [] = subst (λ (x : List ℕ). entryIn l x b ≡ e ∷ []) q (entry-back l n before e es rest h) in
       let to : length (before ++ entryBytes n e) ≡ at + lengthOf l b = omega (arith, length-append before (entryBytes n e), entry-length l n at e es h) in
-      let r : Whole l f es (logFrom k l (n + 1) f (at + lengthOf l b)) = rw to at w in
+      let less : length rest < k = omega (arith, length-append (entryBytes n e) rest, entry-some n e) in
+      let r : Whole l f es g =
+      rw to at (next (before ++ entryBytes n e) (append-assoc before (entryBytes n e) rest ∙ q) (writable-rest l e es h) less) in
       subst (Whole l f (e ∷ es)) (sym (log-more k l n f at b stands (entry-is-block l n at e)))
       (record {
-        entries = ap (λ (x : List Entry). x ++ entriesIn l f (logFrom k l (n + 1) f (at + lengthOf l b) .blocks)) back ∙ ap (λ (x : List Entry). e ∷ x) (r .entries);
+        entries = ap (λ (x : List Entry). x ++ entriesIn l f (g .blocks)) back ∙ ap (λ (x : List Entry). e ∷ x) (r .entries);
         asExpected = (entry-expected l n at e, r .asExpected);
         ending = r .ending;
         place = r .place;
       })
 
   -- what was written, with fuel for each of its bytes
-  whole-back : (es : List Entry) (n k : ℕ) (before f : List ℕ) → before ++ entriesBytes n es ≡ f → Writable l es → length (entriesBytes n es) < k
-      → Whole l f es (logFrom k l n f (length before))
+  entries-back : (es : List Entry) (k n : ℕ) → RestBack k n es (entriesBytes n es)
   unfolding blockAnswer entriesBytes entriesIn AllAsExpected
-  whole-back es n zero before f q h i = absurd (omega arith)
-  whole-back [] n (suc k) before f q h i =
+  entries-back es zero n before q h i = absurd (omega arith)
+  entries-back [] (suc k) n before q h i =
       let z : length before ≡ length f = omega (arith, length-append before [], ap length q) in
       rw (log-ends k l n f (length before) _ (at-end-of l n f (length before) z) (λ g. g))
       (record { entries = refl; asExpected = tt; ending = refl; place = z })
-  whole-back (e ∷ es) n (suc k) before f q h i =
-      let b = bytes-more n e es in
-      let rest = entriesBytes (n + 1) es in
-      let p : before ++ (entryBytes n e ++ rest) ≡ f = ap (λ (x : List ℕ). before ++ x) (sym b) ∙ q in
-      whole-more n k before e es rest f p h
-      (whole-back es (n + 1) k (before ++ entryBytes n e) f (append-assoc before (entryBytes n e) rest ∙ p) (writable-rest l e es h)
-      (omega (arith, ap length b, length-append (entryBytes n e) rest, entry-some n e)))
+  entries-back (aRecord rec ∷ es) (suc k) n before q h i = entry-more k n (aRecord rec) es _ (entries-back es k (n + 1)) before q h i
+  entries-back (aTime time ∷ es) (suc k) n before q h i = entry-more k n (aTime time) es _ (entries-back es k (n + 1)) before q h i
 
 pub log-back : LogBack
 unfolding logBytes LogBack HeaderBack
@@ -124,7 +116,7 @@ log-back time signature l es t s z h =
     let f = head ++ entriesBytes 0 es in
     let r = header-back time signature l t z s .1 (entriesBytes 0 es) in
     let n = header-length time signature l s in
-    let w = whole-back l es 0 (suc (length f)) head f refl h (omega (arith, length-append head (entriesBytes 0 es))) in
+    let w = entries-back l f es (suc (length f)) 0 head refl h (omega (arith, length-append head (entriesBytes 0 es))) in
     let y = subst (Whole l f es) (sym (log-all l f headerLen)) (rw n at w) in
     record {
       header = r .0;

@@ -7,10 +7,9 @@ use borrow.Author.Tests.{eqb-true}
 use lib.ListN.{length, take, drop, length-drop, take-append-drop, drop-of-length-le}
 use lib.Seq.{drop-drop, length-take-le}
 use Rattle.wire.specs.BigEndian.{beOf, beAt, beBytes}
-use Rattle.wire.specs.Log.{counterOf}
 use Rattle.wire.proofs.Numbers.{Bytes, bytes-take, bytes-drop, be-below, below-part, part-back}
 use Rattle.frd_rules.specs.Header.{headerLen, signaturePlace, signatureLen, name, version, numbersOf, signatureIn}
-use Rattle.frd_rules.specs.Block.{counterModulus, kindIn, counterIn, timeIn, recordPlace, readBlockOf, blockAnswer, lengthOf}
+use Rattle.frd_rules.specs.Block.{counterAfter, kindIn, counterIn, timeIn, recordPlace, readBlockOf, blockAnswer, lengthOf}
 use Rattle.frd_rules.specs.Log.{Log, logFrom}
 use Rattle.frd_rules.specs.Writing.{headerBytes, dataBytes, timeBytes}
 use Rattle.frd_rules.specs.RoundTrip.{Entry, Writable, entriesBytes, logBytes, entryIn, entriesIn, AsExpected, AllAsExpected, logIn, LogSame}
@@ -68,7 +67,11 @@ module _ (l : ℕ) (f : List ℕ) (small : Bytes f) where
   abbrev LogRewrites : (n at : ℕ) → Log → Type 0
   LogRewrites n at g = g .ending ≡ 0 → AllAsExpected (g .blocks) → Rewrites n (drop at f) (entriesIn l f (g .blocks))
 
-  module _ (k n at : ℕ) (rest-same : (m to : ℕ) → to ≤ length f → length f < to + k → LogRewrites m to (logFrom k l m f to)) (fuel : length f < at + suc k) where
+  -- every log with this fuel
+  abbrev AllRewrite : ℕ → Type 0
+  AllRewrite k = (n at : ℕ) → at ≤ length f → length f < at + k → LogRewrites n at (logFrom k l n f at)
+
+  module _ (k n at : ℕ) (rest-same : AllRewrite k) (fuel : length f < at + suc k) where
     abbrev t : List ℕ
     t = drop at f
 
@@ -102,17 +105,17 @@ module _ (l : ℕ) (f : List ℕ) (small : Bytes f) where
         (λ es x r.
         let d = length-drop at f in
         rw (r .1, data-len l 1 refl, ← drop-drop 2 at f, ← drop-drop (l + 2) at f)
-        ((length-take-le l (drop 2 t) (omega (arith, length-drop 2 t)), r .0), data-same l (counterOf counterModulus n) t z (omega arith) (eqb-true _ _ x)))
+        ((length-take-le l (drop 2 t) (omega (arith, length-drop 2 t)), r .0), data-same l (counterAfter n) t z (omega arith) (eqb-true _ _ x)))
     view-same (of-time z s e) =
         block-same _ e tt
         (λ es x r.
         let d = length-drop at f in
         rw (r .1, time-len l 2 refl, ← drop-drop 6 at f)
-        ((time-small, r .0), time-same (counterOf counterModulus n) t z (omega arith) (eqb-true _ _ x) (bytes-drop at f small)))
+        ((time-small, r .0), time-same (counterAfter n) t z (omega arith) (eqb-true _ _ x) (bytes-drop at f small)))
 
-  log-rewrites : (k n at : ℕ) → at ≤ length f → length f < at + k → LogRewrites n at (logFrom k l n f at)
+  log-rewrites : (k : ℕ) → AllRewrite k
   log-rewrites zero n at h i = absurd (omega arith)
-  log-rewrites (suc k) n at h i = view-same k n at (λ m to. log-rewrites k m to) i (view l n f at)
+  log-rewrites (suc k) n at h i = view-same k n at (log-rewrites k) i (view l n f at)
 
 pub log-same : LogSame
 unfolding logBytes LogSame signatureIn

@@ -16,6 +16,10 @@ use Rattle.frd_rules.specs.declared.Block.the-variants.{Data, Time, End,
 abbrev pub counterModulus : ℕ
 counterModulus = 256
 
+-- the counter of a block after n blocks
+abbrev pub counterAfter : ℕ → ℕ
+counterAfter n = counterOf counterModulus n
+
 -- the length of a block by its type, 0 for an unknown type
 unfoldable pub blockLen : (l kind : ℕ) → ℕ
 blockLen l kind = (l + 2) if eqb kind 1 else 6 if eqb kind 2 else 0
@@ -62,7 +66,7 @@ readBlockNumber l f at =
 
 -- what stands at a place of a file, after n blocks
 unfoldable pub readBlockOf : (l n : ℕ) → List ℕ → ℕ → Block
-readBlockOf l n f at = judged Refused (readBlockNumber l f at) at (foundOf (counterOf counterModulus n) at (drop at f))
+readBlockOf l n f at = judged Refused (readBlockNumber l f at) at (foundOf (counterAfter n) at (drop at f))
 
 -- the paper's number and values of each case; `kind` is the block's type, and 0 where there is no block
 pub record BlockAnswer : Type 0 where
@@ -100,7 +104,7 @@ foundValues c at t =
     (cond (eqb (kindIn t) 1) (dataValues c at t) (timeValues c t))
 
 unfoldable pub blockResult : (l n : ℕ) → List ℕ → ℕ → BlockAnswer
-blockResult l n f at = judged noBlock (readBlockNumber l f at) at (foundValues (counterOf counterModulus n) at (drop at f))
+blockResult l n f at = judged noBlock (readBlockNumber l f at) at (foundValues (counterAfter n) at (drop at f))
 
 -- how many bytes a block takes
 unfoldable pub lengthOf : ℕ → Block → ℕ

@@ -5,9 +5,9 @@ use mathlib.Core.Path.{_≡_}
 use mathlib.Core.Bool.{true}
 use mathlib.Core.List.{List, [], _∷_, _++_}
 use lib.ListN.{length, getD, take, drop}
-use Rattle.wire.specs.Log.{counterOf, judged}
+use Rattle.wire.specs.Log.{judged}
 use Rattle.frd_rules.specs.Header.{headerLen, signatureLen, version, numbersOf, signatureIn, readHeaderNumber, readHeaderOf}
-use Rattle.frd_rules.specs.Block.{counterModulus, blockLen, kindIn, recordPlace, blockOf, readBlockOf, lengthOf}
+use Rattle.frd_rules.specs.Block.{counterAfter, blockLen, kindIn, recordPlace, blockOf, readBlockOf, lengthOf}
 use Rattle.frd_rules.specs.Log.{Placed, Log, logOf}
 use Rattle.frd_rules.specs.Writing.{headerBytes, writeHeaderNumber, dataBytes, writeDataNumber, timeBytes, writeTimeNumber}
 use Rattle.frd_rules.specs.declared.Header.{Header}
@@ -34,7 +34,7 @@ HeaderBack time signature l =
 -- bytes are where it says
 unfoldable pub DataBack : ℕ → ℕ → List ℕ → Type 0
 DataBack l n rec =
-    let c = counterOf counterModulus n in
+    let c = counterAfter n in
     length rec ≡ l
     → ((room : ℕ) → length (dataBytes c rec) ≤ room → writeDataNumber l c rec room ≡ 0)
     × ((before rest : List ℕ)
@@ -44,7 +44,7 @@ DataBack l n rec =
 -- a time block
 unfoldable pub TimeBack : (n time : ℕ) → Type 0
 TimeBack n time =
-    let c = counterOf counterModulus n in
+    let c = counterAfter n in
     ((room : ℕ) → length (timeBytes c time) ≤ room → writeTimeNumber c time room ≡ 0)
     × ((l : ℕ) (before rest : List ℕ) → readBlockOf l n (before ++ (timeBytes c time ++ rest)) (length before) ≡ Time c time true)
 
@@ -70,8 +70,8 @@ Writable l (aTime time ∷ es) = (time < 2 ^ 32) × Writable l es
 -- the blocks' bytes, after n blocks: each is counted
 unfoldable pub entriesBytes : ℕ → List Entry → List ℕ
 entriesBytes n [] = []
-entriesBytes n (aRecord rec ∷ es) = dataBytes (counterOf counterModulus n) rec ++ entriesBytes (n + 1) es
-entriesBytes n (aTime time ∷ es) = timeBytes (counterOf counterModulus n) time ++ entriesBytes (n + 1) es
+entriesBytes n (aRecord rec ∷ es) = dataBytes (counterAfter n) rec ++ entriesBytes (n + 1) es
+entriesBytes n (aTime time ∷ es) = timeBytes (counterAfter n) time ++ entriesBytes (n + 1) es
 
 -- a log's bytes
 unfoldable pub logBytes : ℕ → List ℕ → ℕ → List Entry → List ℕ

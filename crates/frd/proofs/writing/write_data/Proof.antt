@@ -6,8 +6,7 @@ use native.Mathlib.Omega.{arith}
 use lib.ListN.{length}
 use Rattle.wire.proofs.Writes.{refuses, writes}
 use Rattle.wire.proofs.Orders.{order}
-use Rattle.wire.specs.Log.{counterOf}
-use Rattle.frd_rules.specs.Block.{counterModulus}
+use Rattle.frd_rules.specs.Block.{counterAfter}
 use Rattle.frd_rules.specs.Writing.{dataBytes, writeDataNumber}
 use Rattle.frd_rules.proofs.BlockBack.{data-back}
 use Rattle.frd_rules.proofs.WritingLaws.{data-length, room-short, room-left, data-put}
@@ -23,8 +22,8 @@ returns-2 : tie.Need-returns-2
 unfolding writeDataNumber
 returns-2 c =
     let a = c .before .before .before .before .args in
-    let b = dataBytes (counterOf counterModulus (a .earlier)) (a .bytes .now) in
-    let k = data-length (counterOf counterModulus (a .earlier)) (a .bytes .now) in
+    let b = dataBytes (counterAfter (a .earlier)) (a .bytes .now) in
+    let k = data-length (counterAfter (a .earlier)) (a .bytes .now) in
     let s = room-short b (length (a .out .now)) (omega arith) in
     (refuses 27 _ _ _ (search (order, s) depth 9) (λ z. omega arith), data-back _ _ _)
 
@@ -53,7 +52,7 @@ returns-3 c =
     let first = last .before .before .before .before in
     let counter = first .before .before .before in
     let a = counter .before .before .before .before .before .args in
-    let n = counterOf counterModulus (a .earlier) in
+    let n = counterAfter (a .earlier) in
     let k = data-length n (a .bytes .now) in
     let s = room-left (dataBytes n (a .bytes .now)) (length (a .out .now)) (omega arith) in
     let p = data-put n (a .out .now) (a .bytes .now) _ (rw (counter .counter-of .ensures)) (omega arith) (first .put .ensures) (last .put2 .ensures) in

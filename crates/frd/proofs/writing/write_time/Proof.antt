@@ -4,8 +4,7 @@ use Rattle.frd.proofs.writing.write_time.Tie as tie
 use mathlib.Core.Path.{refl, _∙_}
 use native.Mathlib.Omega.{arith}
 use Rattle.wire.proofs.Writes.{refuses, writes, put-first}
-use Rattle.wire.specs.Log.{counterOf}
-use Rattle.frd_rules.specs.Block.{counterModulus}
+use Rattle.frd_rules.specs.Block.{counterAfter}
 use Rattle.frd_rules.specs.Writing.{timeBytes, writeTimeNumber}
 use Rattle.frd_rules.proofs.BlockBack.{time-back}
 use Rattle.frd_rules.proofs.WritingLaws.{time-length, room-short, room-left}
@@ -14,7 +13,7 @@ returns : tie.Need-returns
 unfolding writeTimeNumber
 returns c =
     let a = c .before .before .args in
-    let k = time-length (counterOf counterModulus (a .earlier)) (a .time) in
+    let k = time-length (counterAfter (a .earlier)) (a .time) in
     (refuses 27 _ _ _ (room-short _ _ (omega arith)) (λ z. omega arith), time-back _ _ (search needs))
 
 four-bytes-requires : tie.Need-four-bytes-requires
@@ -50,7 +49,7 @@ returns-2 c =
     let put = c .before .before in
     let counter = put .before .before .before in
     let a = counter .before .before .before .before .args in
-    let b = timeBytes (counterOf counterModulus (a .earlier)) (a .time) in
+    let b = timeBytes (counterAfter (a .earlier)) (a .time) in
     let p = put-first (a .out .now) b (omega arith) (put .put .ensures ∙ (rw (counter .counter-of .ensures, counter .before .four-bytes .ensures))) in
     (writes _ _ _ _ _ (room-left b _ (omega arith)) refl p, time-back _ _ (search needs))
 
