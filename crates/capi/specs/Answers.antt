@@ -15,10 +15,10 @@ use Rattle.mlg_rules.specs.declared.Head.{Head as MlgHead}
 use Rattle.mlg_rules.specs.declared.Head.the-variants as MH
 use Rattle.mlg_rules.specs.declared.Block.{Block as MlgEnum}
 use Rattle.mlg_rules.specs.declared.Block.the-variants as MB
-use Rattle.frd.specs.declared.Head.{Head as FrdHead}
-use Rattle.frd.specs.declared.Head.the-variants as FH
-use Rattle.frd.specs.declared.Block.{Block as FrdEnum}
-use Rattle.frd.specs.declared.Block.the-variants as FB
+use Rattle.frd_rules.specs.declared.Head.{Head as FrdHead}
+use Rattle.frd_rules.specs.declared.Head.the-variants as FH
+use Rattle.frd_rules.specs.declared.Block.{Block as FrdEnum}
+use Rattle.frd_rules.specs.declared.Block.the-variants as FB
 use Rattle.mlg_rules.specs.Shown.{zeroFloat}
 use Rattle.mlg_rules.specs.declared.RawValue.{RawValue}
 use Rattle.mlg_rules.specs.declared.RawValue.the-variants as R
