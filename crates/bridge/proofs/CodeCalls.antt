@@ -22,7 +22,7 @@ use Rattle.bridge_rules.specs.declared.Changed.{Changed}
 use Rattle.bridge_rules.specs.declared.Opened.{Opened}
 use Rattle.bridge.proofs.CodeSlots.{free-from, holder-from, holder-small, orZero-four}
 use Rattle.bridge_rules.proofs.Sound.{SlotOk, okFree, okReady, okWaiting, okDone, okGaveUp, true-sound}
-use Rattle.bridge_rules.proofs.Refusals.{open-facts, lent-ok}
+use Rattle.bridge_rules.proofs.NumberLaws.{open-facts, lent-ok}
 
 -- ── Opening ────────────────────────────────────────────────────────────────────────────────────────────────────────
 

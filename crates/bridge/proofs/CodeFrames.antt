@@ -36,9 +36,9 @@ use Rattle.bridge_rules.specs.Incoming.{awaits, awaiting, contentNumber, replyN
 use Rattle.bridge_rules.specs.declared.Stepped.{Stepped}
 use Rattle.bridge_rules.proofs.Search.{search-some, lowest-some, lowest-none, option-cases}
 use Rattle.bridge_rules.proofs.Sound.{ReadyOk, ready-ok, true-sound, sound-true}
-use Rattle.bridge_rules.proofs.CallKinds.{aged-sound, AwaitsOk, awaits-ok, wait-ok}
+use Rattle.bridge_rules.proofs.CallCases.{aged-sound, AwaitsOk, awaits-ok, wait-ok}
 use Rattle.bridge_rules.proofs.FrameLaws.{len-inside}
-use Rattle.bridge_rules.proofs.Refusals.{lent-ok}
+use Rattle.bridge_rules.proofs.NumberLaws.{lent-ok}
 use Rattle.bridge.proofs.CodeSlots.{awaiting-from}
 
 -- ── What a ready slot sends ────────────────────────────────────────────────────────────────────────────────────────

@@ -25,9 +25,9 @@ use Rattle.bridge_rules.specs.Device.{Device, Timeline, Arrives, Own, range, No
 use Rattle.bridge_examples.specs.Examples.{directory, memory, holding, after, run, reply, before, DoneRead, alone, unchanging, AloneShows}
 use Rattle.bridge_examples.specs.Examples.{together, written, TogetherShows, restarted, writtenOnce, RestartedShows, torn, overwritten, TornShows}
 use Rattle.bridge_examples.specs.Examples.{forged, ForgedShows, late, slow, LateShows, silence, sendsOf, Reckonings, Examples}
-use Rattle.bridge_rules.proofs.Openers.{everything}
+use Rattle.bridge_rules.proofs.Computing.{everything}
 use Rattle.bridge_rules.proofs.Search.{and-true, some-eq}
-use Rattle.bridge_rules.proofs.CallKinds.{isFrame}
+use Rattle.bridge_rules.proofs.CallCases.{isFrame}
 
 -- ── tests of every call of a list ──────────────────────────────────────────────────────────────────────────────────
 

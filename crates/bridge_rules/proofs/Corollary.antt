@@ -12,10 +12,10 @@ use Rattle.bridge_rules.specs.Replies.{Replied, Failed, ThreeFailed, All
 use Rattle.bridge_rules.specs.Demand3.{Claims}
 use Rattle.bridge_rules.specs.Corollaries.{Corollaries}
 use Rattle.bridge_rules.proofs.Search.{cases}
-use Rattle.bridge_rules.proofs.Storages.{turns-mono}
-use Rattle.bridge_rules.proofs.Past.{past-read}
+use Rattle.bridge_rules.proofs.LedgerAgrees.{turns-mono}
+use Rattle.bridge_rules.proofs.AskedSoFar.{read-so-far}
 use Rattle.bridge_rules.proofs.TableBytes.{table-since, taken-answers}
-use Rattle.bridge_rules.proofs.Theorem.{claims}
+use Rattle.bridge_rules.proofs.Demand3.{claims}
 
 failed-stays : (r : Run) (x : Transfer r) (c j n n′ : ℕ) → n ≤ n′ → Failed r x c j n → Failed r x c j n′
 failed-stays r x c j n n′ l f =
@@ -85,6 +85,6 @@ corollaries = record {
     givenUp = λ e. claims r w x n′ s′ .gaveUp .1 (three-stays r x n n′ l (claims r w x n s .gaveUp .0 e));
     shown = shown-stays r w x n n′ l s s′;
   };
-  narrowMeanwhile = λ r w x n s rd e t a un. table-since r w x n t a un s (past-read r w x rd n s) e;
+  narrowMeanwhile = λ r w x n s rd e t a un. table-since r w x n t a un s (read-so-far r w x rd n s) e;
   takenAnswers = λ r w x n t a. taken-answers r w x n t a;
 }

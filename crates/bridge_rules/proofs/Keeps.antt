@@ -21,7 +21,7 @@ use Rattle.bridge_rules.specs.Run.{state, buffer, answer}
 use Rattle.bridge_rules.specs.Calls.{KeepsSound, ResetFresh, UnsoundRefused, RefusalsKeep}
 use Rattle.bridge_rules.proofs.Sound.{Sound, sound-true, true-sound}
 use Rattle.bridge_rules.proofs.Status.{span-number}
-use Rattle.bridge_rules.proofs.CallKinds.{kind, kind-sound, frame-own, frame-other, fresh-sound}
+use Rattle.bridge_rules.proofs.CallCases.{kind, kind-sound, frame-own, frame-other, fresh-sound}
 
 -- a lent list of the right length is the bridge's own to a call; one of a wrong length is refused, whatever the bridge's own is
 module _ (s : Bridge) (h : Sound s) where

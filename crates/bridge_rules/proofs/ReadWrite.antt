@@ -9,8 +9,8 @@ use Rattle.bridge_rules.specs.State.{reads, writes, asks, carries}
 use Rattle.bridge_rules.specs.Opening.{Ask, read, write, isWrite, askKind}
 
 -- a kind of the two that there are
-abbrev pub Told : ℕ → Type 0
-Told k = (carries k ≡ true) ⊎ (asks k ≡ true)
+abbrev pub KnownKind : ℕ → Type 0
+KnownKind k = (carries k ≡ true) ⊎ (asks k ≡ true)
 
 pub asks-alone : (k : ℕ) → asks k ≡ true → carries k ≡ false
 unfolding asks carries
@@ -23,28 +23,28 @@ carries-alone k e = ne-eqb k reads (λ z. omega (arith, eqb-true k writes e))
 pub kinds-clash : {A : Type 0} (k : ℕ) → carries k ≡ true → asks k ≡ true → A
 kinds-clash k c a = absurd (true≢false (sym a ∙ carries-alone k c))
 
-pub told-test : (k : ℕ) → Told k → (asks k || carries k) ≡ true
-told-test k (inl c) = rw (carries-alone k c, c)
-told-test k (inr a) = rw a
+pub known-tested : (k : ℕ) → KnownKind k → (asks k || carries k) ≡ true
+known-tested k (inl c) = rw (carries-alone k c, c)
+known-tested k (inr a) = rw a
 
-pub test-told : (k : ℕ) → (asks k || carries k) ≡ true → Told k
-test-told k e = go (asks k) (carries k) refl refl e
+pub tested-known : (k : ℕ) → (asks k || carries k) ≡ true → KnownKind k
+tested-known k e = go (asks k) (carries k) refl refl e
   where
-    go : (a c : Bool) → asks k ≡ a → carries k ≡ c → (a || c) ≡ true → Told k
+    go : (a c : Bool) → asks k ≡ a → carries k ≡ c → (a || c) ≡ true → KnownKind k
     go true c p q h = inr p
     go false true p q h = inl q
     go false false p q h = absurd (false≢true h)
 
-pub told-small : (k : ℕ) → Told k → k ≤ 1
+pub known-small : (k : ℕ) → KnownKind k → k ≤ 1
 unfolding asks carries
-told-small k (inl c) = omega (arith, eqb-true k writes c)
-told-small k (inr a) = omega (arith, eqb-true k reads a)
+known-small k (inl c) = omega (arith, eqb-true k writes c)
+known-small k (inr a) = omega (arith, eqb-true k reads a)
 
 -- of what was asked for
-pub told-ask : (a : Ask) → Told (askKind a)
+pub asked-known : (a : Ask) → KnownKind (askKind a)
 unfolding asks carries
-told-ask (read d t o n) = inr refl
-told-ask (write d t o bs) = inl refl
+asked-known (read d t o n) = inr refl
+asked-known (write d t o bs) = inl refl
 
 pub asks-of : (a : Ask) {k : ℕ} → k ≡ askKind a → isWrite a ≡ false → asks k ≡ true
 unfolding asks

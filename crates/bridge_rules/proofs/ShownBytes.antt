@@ -21,13 +21,13 @@ use Rattle.bridge_rules.specs.Demand3.{brought, join, showing}
 use Rattle.bridge_rules.proofs.ReadWrite.{carries-of, carries-alone}
 use Rattle.bridge_rules.proofs.FrameLaws.{len-eight, len-inside, content-length}
 use Rattle.bridge_rules.proofs.Sound.{SlotOk, okFree, okReady, okWaiting, okDone, okGaveUp}
-use Rattle.bridge_rules.proofs.Storages.{storage-sound}
-use Rattle.bridge_rules.proofs.Runs.{okAt, openedAt, view, Held, held}
+use Rattle.bridge_rules.proofs.LedgerAgrees.{storage-sound}
+use Rattle.bridge_rules.proofs.Standing.{okAt, openedAt, view, Held, held}
 use Rattle.bridge_rules.proofs.Status.{shown-is, done-is}
-use Rattle.bridge_rules.proofs.Ages.{phases}
-use Rattle.bridge_rules.proofs.Sends.{matches-ok}
-use Rattle.bridge_rules.proofs.Past.{Past, Got}
-use Rattle.bridge_rules.proofs.Ahead.{replied-once}
+use Rattle.bridge_rules.proofs.Aging.{other-phase}
+use Rattle.bridge_rules.proofs.SentRequests.{matches-ok}
+use Rattle.bridge_rules.proofs.AskedSoFar.{AskedSoFar, Got}
+use Rattle.bridge_rules.proofs.AfterSend.{replied-once}
 
 chunk-sum : (count p : ℕ) → 8 * p < count → (min (8 * suc p) count ≡ 8 * p + chunkLen count (8 * p)) × (min (8 * p) count ≡ 8 * p)
 unfolding chunkLen
@@ -91,11 +91,11 @@ module _ (r : Run) (w : Lawful r) (x : Transfer r) where
       h = held r w x n s
 
       go : SlotOk (state r n .tickets) (view r x n) → view r x n .progress ≡ askCount (x .ask)
-      go (okFree q) = phases (view r x n .phase) free done (ap (λ (y : Slot). y .phase) q) e (λ z. omega arith)
-      go (okReady q c m i v l) = phases (view r x n .phase) ready done q e (λ z. omega arith)
-      go (okWaiting q c m v i i′ l l′) = phases (view r x n .phase) waiting done q e (λ z. omega arith)
+      go (okFree q) = other-phase (view r x n .phase) free done (ap (λ (y : Slot). y .phase) q) e (λ z. omega arith)
+      go (okReady q c m i v l) = other-phase (view r x n .phase) ready done q e (λ z. omega arith)
+      go (okWaiting q c m v i i′ l l′) = other-phase (view r x n .phase) waiting done q e (λ z. omega arith)
       go (okDone q c p i l) = p ∙ h .count
-      go (okGaveUp q c m v i l) = phases (view r x n .phase) gaveUp done q e (λ z. omega arith)
+      go (okGaveUp q c m v i l) = other-phase (view r x n .phase) gaveUp done q e (λ z. omega arith)
 
   pub write-hidden : (n : ℕ) → Stands r x n → isWrite (x .ask) ≡ true → shownAt r x n ≡ plain (statusAt r x n)
   write-hidden n s e = shown-is r w x n s ∙ go (eqb (statusAt r x n) 0) refl
@@ -106,7 +106,7 @@ module _ (r : Run) (w : Lawful r) (x : Transfer r) where
           ∙ ap plain (sym (eqb-true _ 0 q))
       go false q = refl
 
-module _ (r : Run) (w : Lawful r) (x : Transfer r) (n : ℕ) (s : Stands r x n) (p : Past r x n) where
+module _ (r : Run) (w : Lawful r) (x : Transfer r) (n : ℕ) (s : Stands r x n) (p : AskedSoFar r x n) where
   pub all-got : view r x n .phase ≡ done → (c : ℕ) → 8 * c < askCount (x .ask) → Got r x c n
   all-got e c l = p .got c (omega (arith, l, done-progress r w x n s e))
 

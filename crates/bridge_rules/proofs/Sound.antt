@@ -15,12 +15,12 @@ use Rattle.bridge_rules.specs.State.{isZero, Bridge, Slot, free, ready, 
 use Rattle.bridge_rules.specs.State.{absent, distinct, askNumber, isReady, isWaiting, isFree, asks, carries, moved, partway}
 use Rattle.bridge_rules.specs.Turn.{ticked, aged, advanced, requested, sentSlot}
 use Rattle.bridge_rules.specs.Calls.{SoundNumbers}
-use Rattle.bridge_rules.proofs.ReadWrite.{Told, carries-alone, kinds-clash, told-test, test-told, told-small}
-use Rattle.bridge_rules.proofs.Refusals.{LawfulArgs, args-lawful, args-clear}
+use Rattle.bridge_rules.proofs.ReadWrite.{KnownKind, carries-alone, kinds-clash, known-tested, tested-known, known-small}
+use Rattle.bridge_rules.proofs.NumberLaws.{LawfulArgs, args-lawful, args-clear}
 use Rattle.bridge_rules.proofs.Search.{and-intro, and-true}
 
 pub record Common (t : ℕ) (x : Slot) : Type 0 where
-  pub told : Told (x .kind)
+  pub told : KnownKind (x .kind)
   pub ticket : 0 < x .ticket
   pub given : x .ticket ≤ t
   pub device : x .device ≤ 15
@@ -30,18 +30,18 @@ pub record Common (t : ℕ) (x : Slot) : Type 0 where
   pub inside : x .offset + x .count ≤ 2048
 
 -- amid the transfer: the current chunk
-pub record Mid (x : Slot) : Type 0 where
+pub record Partway (x : Slot) : Type 0 where
   pub chunk : ℕ
   pub at : x .progress ≡ 8 * chunk
   pub below : x .progress < x .count
 
 pub data SlotOk (t : ℕ) (x : Slot) : Type 0 where
   okFree : x ≡ blank → SlotOk t x
-  okReady : x .phase ≡ ready → Common t x → Mid x → x .sends ≤ 2 → (carries (x .kind) ≡ true → x .sends ≡ 0) → x .left ≡ 0 → SlotOk t x
-  okWaiting : x .phase ≡ waiting → Common t x → Mid x → asks (x .kind) ≡ true → 0 < x .sends → x .sends ≤ 3 → 0 < x .left → x .left ≤ 20
+  okReady : x .phase ≡ ready → Common t x → Partway x → x .sends ≤ 2 → (carries (x .kind) ≡ true → x .sends ≡ 0) → x .left ≡ 0 → SlotOk t x
+  okWaiting : x .phase ≡ waiting → Common t x → Partway x → asks (x .kind) ≡ true → 0 < x .sends → x .sends ≤ 3 → 0 < x .left → x .left ≤ 20
       → SlotOk t x
   okDone : x .phase ≡ done → Common t x → x .progress ≡ x .count → x .sends ≡ 0 → x .left ≡ 0 → SlotOk t x
-  okGaveUp : x .phase ≡ gaveUp → Common t x → Mid x → asks (x .kind) ≡ true → x .sends ≡ 3 → x .left ≡ 0 → SlotOk t x
+  okGaveUp : x .phase ≡ gaveUp → Common t x → Partway x → asks (x .kind) ≡ true → x .sends ≡ 3 → x .left ≡ 0 → SlotOk t x
 
 pub record Sound (s : Bridge) : Type 0 where
   pub own : s .own ≤ 15
@@ -130,8 +130,8 @@ aged-ends x e l s =
     let third : 3 ≤ x .sends = omega arith in
     (rw (h, g, le-leb), rw h (omega arith), rw h, rw h)
 
-mid-same : (x y : Slot) → x .progress ≡ y .progress → x .count ≡ y .count → Mid x → Mid y
-mid-same x y e f m = record { chunk = m .chunk; at = sym e ∙ m .at; below = omega (arith, m .below) }
+partway-same : (x y : Slot) → x .progress ≡ y .progress → x .count ≡ y .count → Partway x → Partway y
+partway-same x y e f m = record { chunk = m .chunk; at = sym e ∙ m .at; below = omega (arith, m .below) }
 
 pub aged-ok : (t : ℕ) (x : Slot) → SlotOk t x → SlotOk t (aged x)
 aged-ok t x (okFree e) = rw (aged-other x (ap (λ (y : Slot). isWaiting (y .phase)) e)) (okFree e)
@@ -150,13 +150,13 @@ aged-ok t x (okWaiting e c m w s s′ l l′) = go (decLe (x .left) 1) (decLe 3 
     go : Dec (x .left ≤ 1) → Dec (3 ≤ x .sends) → SlotOk t (aged x)
     go (yes a) (yes b) =
         let h = aged-ends x e (omega arith) (omega arith) in
-        okGaveUp (h .0) cm (mid-same x (aged x) (sym (h .3)) (sym ct) m) wr (h .2 ∙ omega arith) (h .1)
+        okGaveUp (h .0) cm (partway-same x (aged x) (sym (h .3)) (sym ct) m) wr (h .2 ∙ omega arith) (h .1)
     go (yes a) (no b) =
         let h = aged-again x e (omega arith) (omega arith) in
-        okReady (h .0) cm (mid-same x (aged x) (sym (h .3)) (sym ct) m) (omega (arith, h .2)) (λ z. kinds-clash (aged x .kind) z wr) (h .1)
+        okReady (h .0) cm (partway-same x (aged x) (sym (h .3)) (sym ct) m) (omega (arith, h .2)) (λ z. kinds-clash (aged x .kind) z wr) (h .1)
     go (no a) d =
         let h = aged-waits x e (omega arith) in
-        okWaiting (h .0) cm (mid-same x (aged x) (sym (h .3)) (sym ct) m) wr (omega (arith, h .2)) (omega (arith, h .2))
+        okWaiting (h .0) cm (partway-same x (aged x) (sym (h .3)) (sym ct) m) wr (omega (arith, h .2)) (omega (arith, h .2))
         (omega (arith, h .1)) (omega (arith, h .1))
 aged-ok t x (okDone e c p s l) = rw (aged-other x (ap isWaiting e)) (okDone e c p s l)
 aged-ok t x (okGaveUp e c m w s l) = rw (aged-other x (ap isWaiting e)) (okGaveUp e c m w s l)
@@ -171,7 +171,7 @@ pub advanced-done : (x : Slot) → x .count ≤ x .progress + 8
 unfolding advanced
 advanced-done x h = (rw (le-ltb (x .progress + 8) (x .count) h), omega arith, refl, refl)
 
-pub advanced-ok : (t : ℕ) (x : Slot) → Common t x → Mid x → SlotOk t (advanced x)
+pub advanced-ok : (t : ℕ) (x : Slot) → Common t x → Partway x → SlotOk t (advanced x)
 advanced-ok t x c m = go (decLt (x .progress + 8) (x .count))
   where
     cm : Common t (advanced x)
@@ -202,7 +202,7 @@ sent-read x e = (rw e, rw e, rw e, rw e)
 pub record ReadyOk (t : ℕ) (x : Slot) : Type 0 where
   pub phase : x .phase ≡ ready
   pub common : Common t x
-  pub mid : Mid x
+  pub mid : Partway x
   pub sends : x .sends ≤ 2
   pub none : carries (x .kind) ≡ true → x .sends ≡ 0
 
@@ -216,12 +216,12 @@ ready-ok t x (okGaveUp e c m w s l) h = absurd (false≢true (sym (ap isReady e)
 pub sent-ok : (t : ℕ) (x : Slot) → ReadyOk t x → SlotOk t (sentSlot x)
 sent-ok t x r = go (r .common .told)
   where
-    go : Told (x .kind) → SlotOk t (sentSlot x)
+    go : KnownKind (x .kind) → SlotOk t (sentSlot x)
     go (inl w) = rw (sent-write x w) (advanced-ok t x (r .common) (r .mid))
     go (inr w) =
         let h = sent-read x w in
         let ct : sentSlot x .count ≡ x .count = sent-same x .count in
-        okWaiting (h .0) (common-same (sent-same x) (r .common)) (mid-same x (sentSlot x) (sym (h .1)) (sym ct) (r .mid))
+        okWaiting (h .0) (common-same (sent-same x) (r .common)) (partway-same x (sentSlot x) (sym (h .1)) (sym ct) (r .mid))
         (ap asks (sent-same x .kind) ∙ w)
         (omega (arith, h .2)) (omega (arith, h .2, r .sends)) (omega (arith, h .3)) (omega (arith, h .3))
 
@@ -258,14 +258,14 @@ lawful-true t x c = eq-eqb _ 0 (args-clear _ _ _ _ (record {
   inside = c .inside;
 }))
 
-mid-mod : (x : Slot) → Mid x → eqb (x .progress % 8) 0 ≡ true
-mid-mod x m = eq-eqb (x .progress % 8) 0 (omega (arith, m .at))
+partway-mod : (x : Slot) → Partway x → eqb (x .progress % 8) 0 ≡ true
+partway-mod x m = eq-eqb (x .progress % 8) 0 (omega (arith, m .at))
 
 common-true : (t : ℕ) (x : Slot) → Common t x → isFree (x .phase) ≡ false
     → soundPhase (x .phase) (x .kind) (x .count) (x .progress) (x .sends) (x .left) ≡ true → soundSlot t x ≡ true
 unfolding soundSlot
 common-true t x c e h =
-    rw (e, told-test (x .kind) (c .told), lt-ltb 0 (x .ticket) (c .ticket), le-leb (x .ticket) t (c .given), lawful-true t x c) h
+    rw (e, known-tested (x .kind) (c .told), lt-ltb 0 (x .ticket) (c .ticket), le-leb (x .ticket) t (c .given), lawful-true t x c) h
 
 free-true : (t : ℕ) → soundSlot t blank ≡ true
 unfolding soundSlot
@@ -275,9 +275,9 @@ slot-true : (t : ℕ) (x : Slot) → SlotOk t x → soundSlot t x ≡ true
 unfolding soundPhase
 slot-true t x (okFree e) = rw e (free-true t)
 slot-true t x (okReady e c m s w l) = common-true t x c (ap isFree e)
-    (rw (e, mid-mod x m, lt-ltb (x .progress) (x .count) (m .below), eq-eqb (x .left) 0 l) (go (asks (x .kind)) refl (c .told)))
+    (rw (e, partway-mod x m, lt-ltb (x .progress) (x .count) (m .below), eq-eqb (x .left) 0 l) (go (asks (x .kind)) refl (c .told)))
   where
-    go : (b : Bool) → asks (x .kind) ≡ b → Told (x .kind) → (leb (x .sends) (cond b 2 0) && true) ≡ true
+    go : (b : Bool) → asks (x .kind) ≡ b → KnownKind (x .kind) → (leb (x .sends) (cond b 2 0) && true) ≡ true
     go true e k = rw (le-leb (x .sends) 2 s)
     go false e (inl k) = rw (le-leb (x .sends) 0 (omega (arith, w k)))
     go false e (inr k) = absurd (true≢false (sym k ∙ e))
@@ -285,7 +285,7 @@ slot-true t x (okWaiting e c m w s s′ l l′) = common-true t x c (ap isFree e
     (rw (
       e,
       w,
-      mid-mod x m,
+      partway-mod x m,
       lt-ltb (x .progress) (x .count) (m .below),
       lt-ltb 0 (x .sends) s,
       le-leb (x .sends) 3 s′,
@@ -295,7 +295,7 @@ slot-true t x (okWaiting e c m w s s′ l l′) = common-true t x c (ap isFree e
 slot-true t x (okDone e c p s l) = common-true t x c (ap isFree e)
     (rw (e, eq-eqb (x .progress) (x .count) p, eq-eqb (x .sends) 0 s, eq-eqb (x .left) 0 l))
 slot-true t x (okGaveUp e c m w s l) = common-true t x c (ap isFree e)
-    (rw (e, w, mid-mod x m, lt-ltb (x .progress) (x .count) (m .below), eq-eqb (x .sends) 3 s, eq-eqb (x .left) 0 l))
+    (rw (e, w, partway-mod x m, lt-ltb (x .progress) (x .count) (m .below), eq-eqb (x .sends) 3 s, eq-eqb (x .left) 0 l))
 
 slots-true : (t : ℕ) (l : List Slot) → ((k : ℕ) → k < length l → SlotOk t (getD l k blank)) → soundSlots t l ≡ true
 unfolding soundSlots
@@ -395,7 +395,7 @@ true-held t x e h =
     let b : LawfulArgs (x .device) (x .table) (x .offset) (x .count) = args-lawful _ _ _ _ (eqb-true _ 0 (a2 .1)) in
     record {
       common = record {
-        told = test-told (x .kind) (a4 .0);
+        told = tested-known (x .kind) (a4 .0);
         ticket = ltb-true _ _ (a4 .1);
         given = leb-true _ _ (a3 .1);
         device = b .device;
@@ -407,8 +407,8 @@ true-held t x e h =
       phase = a1 .1;
     }
 
-mid-true : (x : Slot) → eqb (x .progress % 8) 0 ≡ true → ltb (x .progress) (x .count) ≡ true → Mid x
-mid-true x a b = let z : x .progress % 8 ≡ 0 = eqb-true _ 0 a in record {
+partway-true : (x : Slot) → eqb (x .progress % 8) 0 ≡ true → ltb (x .progress) (x .count) ≡ true → Partway x
+partway-true x a b = let z : x .progress % 8 ≡ 0 = eqb-true _ 0 a in record {
   chunk = x .progress / 8;
   at = omega arith;
   below = ltb-true _ _ b;
@@ -428,7 +428,7 @@ true-slot t x h = go (ℕ-discrete (x .phase) free) (ℕ-discrete (x .phase) rea
         let a2 = and-true _ (leb (x .sends) (cond (asks (x .kind)) 2 0)) (a1 .0) in
         let a3 = and-true (eqb (x .progress % 8) 0) (ltb (x .progress) (x .count)) (a2 .0) in
         let few = leb-true (x .sends) (cond (asks (x .kind)) 2 0) (a2 .1) in
-        okReady e (k .common) (mid-true x (a3 .0) (a3 .1)) (two (asks (x .kind)) few)
+        okReady e (k .common) (partway-true x (a3 .0) (a3 .1)) (two (asks (x .kind)) few)
         (λ w. none (asks (x .kind)) (carries-alone (x .kind) w) few) (zero-true _ (a1 .1))
       where
         two : (w : Bool) → x .sends ≤ cond w 2 0 → x .sends ≤ 2
@@ -450,7 +450,7 @@ true-slot t x h = go (ℕ-discrete (x .phase) free) (ℕ-discrete (x .phase) rea
         let a4 = and-true _ (ltb 0 (x .sends)) (a3 .0) in
         let a5 = and-true _ (asks (x .kind)) (a4 .0) in
         let a6 = and-true (eqb (x .progress % 8) 0) (ltb (x .progress) (x .count)) (a5 .0) in
-        okWaiting e (k .common) (mid-true x (a6 .0) (a6 .1)) (a5 .1) (ltb-true _ _ (a4 .1)) (leb-true _ _ (a3 .1))
+        okWaiting e (k .common) (partway-true x (a6 .0) (a6 .1)) (a5 .1) (ltb-true _ _ (a4 .1)) (leb-true _ _ (a3 .1))
         (ltb-true _ _ (a2 .1)) (leb-true _ _ (a1 .1))
 
     of-done : x .phase ≡ done → SlotOk t x
@@ -470,7 +470,7 @@ true-slot t x h = go (ℕ-discrete (x .phase) free) (ℕ-discrete (x .phase) rea
         let a2 = and-true _ (eqb (x .sends) 3) (a1 .0) in
         let a3 = and-true _ (asks (x .kind)) (a2 .0) in
         let a4 = and-true (eqb (x .progress % 8) 0) (ltb (x .progress) (x .count)) (a3 .0) in
-        okGaveUp e (k .common) (mid-true x (a4 .0) (a4 .1)) (a3 .1) (eqb-true _ 3 (a2 .1)) (zero-true _ (a1 .1))
+        okGaveUp e (k .common) (partway-true x (a4 .0) (a4 .1)) (a3 .1) (eqb-true _ 3 (a2 .1)) (zero-true _ (a1 .1))
 
     go : Dec (x .phase ≡ free) → Dec (x .phase ≡ ready) → Dec (x .phase ≡ waiting) → Dec (x .phase ≡ done) → Dec (x .phase ≡ gaveUp)
         → SlotOk t x
@@ -600,7 +600,7 @@ sound-numbers s h k l = go (true-sound s h .each k l)
   where
     go : SlotOk (s .tickets) (slot s k) → (slot s k .phase ≤ 4) × (slot s k .kind ≤ 1)
     go (okFree e) = (omega (arith, ap (λ (x : Slot). x .phase) e), omega (arith, ap (λ (x : Slot). x .kind) e))
-    go (okReady e c m i v l) = (omega arith, told-small (slot s k .kind) (c .told))
-    go (okWaiting e c m v i i′ l l′) = (omega arith, told-small (slot s k .kind) (c .told))
-    go (okDone e c p i l) = (omega arith, told-small (slot s k .kind) (c .told))
-    go (okGaveUp e c m v i l) = (omega arith, told-small (slot s k .kind) (c .told))
+    go (okReady e c m i v l) = (omega arith, known-small (slot s k .kind) (c .told))
+    go (okWaiting e c m v i i′ l l′) = (omega arith, known-small (slot s k .kind) (c .told))
+    go (okDone e c p i l) = (omega arith, known-small (slot s k .kind) (c .told))
+    go (okGaveUp e c m v i l) = (omega arith, known-small (slot s k .kind) (c .told))

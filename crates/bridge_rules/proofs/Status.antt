@@ -19,9 +19,9 @@ use Rattle.bridge_rules.specs.Run.{Run, state, buffer, Lawful, Transfer,
 use Rattle.bridge_rules.specs.Demand3.{showing}
 use Rattle.bridge_rules.proofs.Search.{cases, Lowest, lowest-some, lowest-none, and-true}
 use Rattle.bridge_rules.proofs.Sound.{held-free, Sound, sound-true}
-use Rattle.bridge_rules.proofs.CallKinds.{heldBy}
-use Rattle.bridge_rules.proofs.Storages.{storage-sound}
-use Rattle.bridge_rules.proofs.Runs.{openedAt, view, held}
+use Rattle.bridge_rules.proofs.CallCases.{heldBy}
+use Rattle.bridge_rules.proofs.LedgerAgrees.{storage-sound}
+use Rattle.bridge_rules.proofs.Standing.{openedAt, view, held}
 
 holder : (s : Bridge) (k t : ℕ) → Sound s → k < 4 → slot s k .ticket ≡ t → 0 < t → (o : Option ℕ) → heldSlot s t ≡ o → o ≡ some k
 unfolding heldSlot

@@ -29,13 +29,13 @@ use Rattle.bus_rules.proofs.Replies.{command-unanswered, request-answered, answ
 use Rattle.bridge_rules.proofs.FrameLaws.{len-eight, len-inside, id-of, content-of, read-is}
 use Rattle.bridge_rules.proofs.FrameLaws.{write-is}
 use Rattle.bridge_rules.proofs.Sound.{ReadyOk, Same, aged-same}
-use Rattle.bridge_rules.proofs.Storages.{storage-sound, own-is}
-use Rattle.bridge_rules.proofs.Runs.{view, Held, held, openedAt}
+use Rattle.bridge_rules.proofs.LedgerAgrees.{storage-sound, own-is}
+use Rattle.bridge_rules.proofs.Standing.{view, Held, held, openedAt}
 use Rattle.bridge_rules.proofs.Status.{done-is}
-use Rattle.bridge_rules.proofs.Sends.{sends-request, MatchesOk, matches-ok, same-place, chunk-small}
-use Rattle.bridge_rules.proofs.Past.{Past, Got}
+use Rattle.bridge_rules.proofs.SentRequests.{sends-request, MatchesOk, matches-ok, same-place, chunk-small}
+use Rattle.bridge_rules.proofs.AskedSoFar.{AskedSoFar, Got}
 use Rattle.bridge_rules.proofs.ShownBytes.{join-all, shown-part, shown-done, all-got, drop-at}
-use Rattle.bridge_rules.proofs.Slots.{same-slot, Sender, sender}
+use Rattle.bridge_rules.proofs.SlotHolders.{same-slot, Sender, sender}
 
 from-small : (id : ℕ) → idFrom id ≤ 15
 unfolding idFrom
@@ -253,7 +253,7 @@ module _ (r : Run) (w : Lawful r) (x : Transfer r) (n : ℕ) (t : Timeline) (pre
   -- read took
   pub table-shown : (During : ℕ → Type 0) → Unwritten r x t During
       → ((c m : ℕ) → m < n → Replied r x c m → t .answered m ≤ t .when m → During (t .answered m))
-      → Stands r x n → Past r x n → Done r x n → (τ : ℕ) → During τ → shownAt r x n ≡ showing (range r x (t .device τ))
+      → Stands r x n → AskedSoFar r x n → Done r x n → (τ : ℕ) → During τ → shownAt r x n ≡ showing (range r x (t .device τ))
   table-shown During un covers s p e τ mw =
       shown-done r w x n s p e ∙ ap showing (shown-part r w x n s p dn g same
       ∙ join-all g (askCount (x .ask)) (range r x (t .device τ)) (λ c q. refl) ∙ range-short r x (t .device τ))
@@ -278,19 +278,19 @@ module _ (r : Run) (w : Lawful r) (x : Transfer r) (n : ℕ) (t : Timeline) (pre
   taken-meanwhile τ₀ first c m l p u =
       record { since = omega (arith, first c m l p); c = c; m = m; before = l; last = p; until = omega arith }
 
-  pub table-meanwhile : (τ₀ : ℕ) → Premises r x n t τ₀ → Stands r x n → Past r x n → Done r x n → (τ : ℕ) → Meanwhile r x n t τ₀ τ
+  pub table-meanwhile : (τ₀ : ℕ) → Premises r x n t τ₀ → Stands r x n → AskedSoFar r x n → Done r x n → (τ : ℕ) → Meanwhile r x n t τ₀ τ
       → shownAt r x n ≡ showing (range r x (t .device τ))
   table-meanwhile τ₀ h = table-shown (Meanwhile r x n t τ₀) (h .unwritten) (taken-meanwhile τ₀ (h .first))
 
   -- there is such a moment: the answer to the first request
-  pub some-moment : (τ₀ : ℕ) → NotAfter r x n t τ₀ → Stands r x n → Past r x n → Done r x n → (τ : ℕ) × Meanwhile r x n t τ₀ τ
+  pub some-moment : (τ₀ : ℕ) → NotAfter r x n t τ₀ → Stands r x n → AskedSoFar r x n → Done r x n → (τ : ℕ) × Meanwhile r x n t τ₀ τ
   some-moment τ₀ first s p e =
       let g : Got r x 0 n = all-got r w x n s p (done-is r w x n s .0 e) 0 (openedAt r w x .law .some) in
       let o : Own r t (g .m) _ = pre .own (g .m) _ (arrives 0 (g .m) (g .before) (g .replied)) in
       (t .answered (g .m), taken-meanwhile τ₀ first 0 (g .m) (g .before) (g .replied) (o .untilArrived))
 
   -- from the first answer that was taken on
-  pub table-since : Unwritten r x t (SinceTaken r x n t) → Stands r x n → Past r x n → Done r x n → (τ : ℕ) → SinceTaken r x n t τ
+  pub table-since : Unwritten r x t (SinceTaken r x n t) → Stands r x n → AskedSoFar r x n → Done r x n → (τ : ℕ) → SinceTaken r x n t τ
       → shownAt r x n ≡ showing (range r x (t .device τ))
   table-since un = table-shown (SinceTaken r x n t) un (λ c m l p u. record {
     c = c;

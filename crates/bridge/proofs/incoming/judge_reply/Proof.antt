@@ -9,7 +9,7 @@ use Rattle.bridge.proofs.CodeSlots.{awaiting-none, awaiting-some}
 use mathlib.Core.Path.{_≡_, sym, _∙_}
 use mathlib.Core.Bool.{true}
 use Rattle.bridge_rules.proofs.Sound.{true-sound}
-use Rattle.bridge_rules.proofs.Refusals.{lent-ok}
+use Rattle.bridge_rules.proofs.NumberLaws.{lent-ok}
 
 lent-number-requires : tie.Need-lent-number-requires
 lent-number-requires c κs = search needs

@@ -2,7 +2,7 @@ use borrow.Author.Needs.{needs}
 use Rattle.bridge.proofs.turning.turn.Statement.{statement}
 use Rattle.bridge.proofs.turning.turn.Tie as tie
 use mathlib.Core.Path.{sym, _∙_}
-use Rattle.bridge_rules.proofs.Refusals.{lent-ok}
+use Rattle.bridge_rules.proofs.NumberLaws.{lent-ok}
 use Rattle.bridge.proofs.CodeSlots.{ready-none, ready-some}
 use Rattle.bridge.proofs.CodeFrames.{turn-refused, turn-idles, turn-sends, turn-sound, turn-ready}
 

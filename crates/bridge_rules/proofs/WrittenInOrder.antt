@@ -20,15 +20,15 @@ use Rattle.bridge_rules.proofs.ReadWrite.{kinds-clash, carries-of}
 use Rattle.bridge_rules.proofs.FrameLaws.{len-inside}
 use Rattle.bridge_rules.proofs.Search.{none-some}
 use Rattle.bridge_rules.proofs.Sound.{Same, ReadyOk, aged-same, sent-write}
-use Rattle.bridge_rules.proofs.Effects.{idle, elsewhere, getD-sets-in}
-use Rattle.bridge_rules.proofs.Storages.{storage-sound, own-is}
-use Rattle.bridge_rules.proofs.Runs.{full-done, okAt, openedAt, view, Held, held, Move, stays, waits, served, gets, along-from, stands-back}
-use Rattle.bridge_rules.proofs.Ages.{aged-keeps}
-use Rattle.bridge_rules.proofs.Past.{advanced-progress}
-use Rattle.bridge_rules.proofs.Ahead.{moveAt}
+use Rattle.bridge_rules.proofs.SlotEffects.{idle, elsewhere, getD-sets-in}
+use Rattle.bridge_rules.proofs.LedgerAgrees.{storage-sound, own-is}
+use Rattle.bridge_rules.proofs.Standing.{full-done, okAt, openedAt, view, Held, held, Move, stays, waits, served, gets, along-from, stands-back}
+use Rattle.bridge_rules.proofs.Aging.{aged-keeps}
+use Rattle.bridge_rules.proofs.AskedSoFar.{advanced-progress}
+use Rattle.bridge_rules.proofs.AfterSend.{moveAt}
 
 -- what a write's slot says of the calls before
-pub record WritePast (r : Run) (x : Transfer r) (n : ℕ) : Type 0 where
+pub record WrittenSoFar (r : Run) (x : Transfer r) (n : ℕ) : Type 0 where
   pub bytes : (i : ℕ) → i < askCount (x .ask) → getD (buffer r n) (128 * slotOf r x + i) 0 ≡ getD (askGiven (x .ask)) i 0
   pub j : ℕ → ℕ
   pub wrote : (c : ℕ) → 8 * c < view r x n .progress → Wrote r x c (j c)
@@ -65,7 +65,7 @@ module _ (r : Run) (w : Lawful r) (x : Transfer r) (wr : isWrite (x .ask) ≡ tr
   lg = given-count (x .ask) wr
 
   -- a write's slot sends the CMD of its current chunk
-  pub sends-write : (n : ℕ) → Held r x n → WritePast r x n → (c : ReadyOk (state r n .tickets) (aged (view r x n)))
+  pub sends-write : (n : ℕ) → Held r x n → WrittenSoFar r x n → (c : ReadyOk (state r n .tickets) (aged (view r x n)))
       → sentFrame (state r n .own) (slotOf r x) (aged (view r x n)) (buffer r n) ≡ commandFrame r x (c .mid .chunk) n
   sends-write n h p c =
       sends-command r w x (c .mid .chunk) n (aged (view r x n))
@@ -88,11 +88,11 @@ module _ (r : Run) (w : Lawful r) (x : Transfer r) (wr : isWrite (x .ask) ≡ tr
           ap (λ (u : ℕ). getD (buffer r n) u 0) z ∙ p .bytes (8 * c .mid .chunk + k)
           (omega (arith, q, len-inside (askCount (x .ask)) (8 * c .mid .chunk) inside))
 
-  served-on : (n : ℕ) → x .at < n → Held r x n → WritePast r x n → accepted r n ≡ true → ReadyOk (state r n .tickets) (aged (view r x n))
+  written-served : (n : ℕ) → x .at < n → Held r x n → WrittenSoFar r x n → accepted r n ≡ true → ReadyOk (state r n .tickets) (aged (view r x n))
       → view r x (suc n) ≡ sentSlot (aged (view r x n)) → buffer r (suc n) ≡ buffer r n
       → state r (suc n) .last ≡ slotOf r x → answer r n .sent
-      ≡ some (sentFrame (state r n .own) (slotOf r x) (aged (view r x n)) (buffer r n)) → WritePast r x (suc n)
-  served-on n l h p v c d e g i = record {
+      ≡ some (sentFrame (state r n .own) (slotOf r x) (aged (view r x n)) (buffer r n)) → WrittenSoFar r x (suc n)
+  written-served n l h p v c d e g i = record {
     bytes = λ k q. ap (λ (b : List ℕ). getD b (128 * slotOf r x + k) 0) e ∙ p .bytes k q;
     j = j′;
     wrote = wrote;
@@ -162,15 +162,15 @@ module _ (r : Run) (w : Lawful r) (x : Transfer r) (wr : isWrite (x .ask) ≡ tr
           go (yes u) = omega (arith, ap j′ u ∙ now, o, p .before k (omega (arith, at, keeps, u)))
           go (no u) = omega (arith, old (suc k) u, o, p .order k (omega (arith, q, grown, at, keeps)))
 
-  step-on : (n : ℕ) → Stands r x (suc n) → x .at < n → Held r x n → Move r x n → WritePast r x n → WritePast r x (suc n)
-  step-on n s l h (stays a v c e f g) p = record {
+  written-step : (n : ℕ) → Stands r x (suc n) → x .at < n → Held r x n → Move r x n → WrittenSoFar r x n → WrittenSoFar r x (suc n)
+  written-step n s l h (stays a v c e f g) p = record {
     bytes = λ i q. v i (omega (arith, q, few)) ∙ p .bytes i q;
     j = p .j;
     wrote = λ k q. p .wrote k (rw a at q);
     before = λ k q. omega (arith, p .before k (rw a at q));
     order = λ k q. p .order k (rw a at q);
   }
-  step-on n s l h (waits a v c d u) p =
+  written-step n s l h (waits a v c d u) p =
       let z : view r x (suc n) .progress ≡ view r x n .progress = ap (λ (y : Slot). y .progress) c
       ∙ aged-keeps (state r n .tickets) (view r x n) (okAt r w x n) .0 in
       record {
@@ -180,10 +180,10 @@ module _ (r : Run) (w : Lawful r) (x : Transfer r) (wr : isWrite (x .ask) ≡ tr
         before = λ k q. omega (arith, p .before k (rw z at q));
         order = λ k q. p .order k (rw z at q);
       }
-  step-on n s l h (served a v c d e g i) p = served-on n l h p v c d e g i
-  step-on n s l h (gets f a c d e g i j m o) p = kinds-clash (view r x n .kind) (carries-of (x .ask) (h .kind) wr) (e .isRead)
+  written-step n s l h (served a v c d e g i) p = written-served n l h p v c d e g i
+  written-step n s l h (gets f a c d e g i j m o) p = kinds-clash (view r x n .kind) (carries-of (x .ask) (h .kind) wr) (e .isRead)
 
-  base : WritePast r x (suc (x .at))
+  base : WrittenSoFar r x (suc (x .at))
   unfolding opened
   base =
       let e : view r x (suc (x .at)) .progress ≡ 0 = ap (λ (y : Slot). y .progress) (openedAt r w x .slot) in
@@ -197,8 +197,8 @@ module _ (r : Run) (w : Lawful r) (x : Transfer r) (wr : isWrite (x .ask) ≡ tr
         order = λ k q. absurd (omega (arith, q, e));
       }
 
-  pub written : (n : ℕ) → Stands r x n → WritePast r x n
-  written n s = along-from r w x (suc (x .at)) (omega arith) (WritePast r x) base step-on n (s .0) s
+  pub written-so-far : (n : ℕ) → Stands r x n → WrittenSoFar r x n
+  written-so-far n s = along-from r w x (suc (x .at)) (omega arith) (WrittenSoFar r x) base written-step n (s .0) s
 
   -- a turn that served the slot moved it on
   served-grows : (c j n : ℕ) → Wrote r x c j → j < n → Stands r x n
@@ -268,7 +268,7 @@ module _ (r : Run) (w : Lawful r) (x : Transfer r) (wr : isWrite (x .ask) ≡ tr
 
   pub done-all-written : (n : ℕ) → Stands r x n → view r x n .progress ≡ askCount (x .ask) → AllWritten r x n
   done-all-written n s e =
-      let d : WritePast r x n = written n s in
+      let d : WrittenSoFar r x n = written-so-far n s in
       record {
         j = d .j;
         wrote = λ c l. d .wrote c (omega (arith, l, e));

@@ -17,18 +17,18 @@ use Rattle.bridge_rules.specs.Turn.{aged, sentFrame, agedBridge, sendFor
 use Rattle.bridge_rules.specs.Call.{itsOwn, turn, step}
 use Rattle.bridge_rules.specs.Run.{Transfer}
 use Rattle.bridge_rules.specs.Calls.{FirstReady, NextBytes, TurnYields, TurnSends, SendsForTransfers}
-use Rattle.bridge_rules.proofs.Refusals.{lent-ok, lent-clear}
-use Rattle.bridge_rules.proofs.ReadWrite.{Told, asks-of}
+use Rattle.bridge_rules.proofs.NumberLaws.{lent-ok, lent-clear}
+use Rattle.bridge_rules.proofs.ReadWrite.{KnownKind, asks-of}
 use Rattle.bridge_rules.proofs.FrameLaws.{len-some, len-eight, len-inside, read-is, write-is}
 use Rattle.bridge_rules.proofs.Search.{some-eq, none-some, Found, search-some, search-none, Outcome, through, refused, outcome}
 use Rattle.bridge_rules.proofs.Search.{option-cases}
 use Rattle.bridge_rules.proofs.Sound.{Sound, ReadyOk, ready-ok, aged-same, sound-true, true-sound, Same}
-use Rattle.bridge_rules.proofs.CallKinds.{slot-aged, aged-sound, readyAt}
-use Rattle.bridge_rules.proofs.Effects.{dist, dist-small, dist-is}
-use Rattle.bridge_rules.proofs.Runs.{view, Held, held}
-use Rattle.bridge_rules.proofs.Sends.{sends-request}
-use Rattle.bridge_rules.proofs.Slots.{Sender, sender}
-use Rattle.bridge_rules.proofs.Writes.{written, sends-write}
+use Rattle.bridge_rules.proofs.CallCases.{slot-aged, aged-sound, readyAt}
+use Rattle.bridge_rules.proofs.SlotEffects.{distance, distance-small, distance-is}
+use Rattle.bridge_rules.proofs.Standing.{view, Held, held}
+use Rattle.bridge_rules.proofs.SentRequests.{sends-request}
+use Rattle.bridge_rules.proofs.SlotHolders.{Sender, sender}
+use Rattle.bridge_rules.proofs.WrittenInOrder.{written-so-far, sends-write}
 
 unready-phase : (p : ℕ) → isReady p ≡ false → p ≢ ready
 unready-phase p e q = true≢false (sym (ap isReady q) ∙ e)
@@ -73,10 +73,10 @@ next-bytes t own k x b l lb r =
       );
     }
 
-next-only : (own k : ℕ) (x : Slot) (b : List ℕ) (f : Frame) → Told (x .kind) → NextBytes own k x b f → sentFrame own k x b ≡ f
+next-only : (own k : ℕ) (x : Slot) (b : List ℕ) (f : Frame) → KnownKind (x .kind) → NextBytes own k x b f → sentFrame own k x b ≡ f
 next-only own k x b f told n = go told
   where
-    go : Told (x .kind) → sentFrame own k x b ≡ f
+    go : KnownKind (x .kind) → sentFrame own k x b ≡ f
     go (inl e) = write-is own k x b e ∙ sym (n .commands e .0
         ∙ ap (λ (i : ℕ). frameWith (idOf (x .offset + x .progress) cmd own (x .device) (x .table)) (take i (drop (128 * k + x .progress) b)))
         (n .next))
@@ -100,8 +100,8 @@ module _ (s : Bridge) (b : List ℕ) (h : Sound s) (lb : length b ≡ 512) where
 
     unready : (k : ℕ) → k < 4 → aged (slot s k) .phase ≢ ready
     unfolding nextReady agedBridge
-    unready k l = unready-phase _ (sym (ready-at k) ∙ rw (dist-is (s .last) k (h .last) l) at
-        (search-none (readyAt (agedBridge s)) (suc (s .last)) 4 z (dist (s .last) k) (omega (arith, dist-small (s .last) k))))
+    unready k l = unready-phase _ (sym (ready-at k) ∙ rw (distance-is (s .last) k (h .last) l) at
+        (search-none (readyAt (agedBridge s)) (suc (s .last)) 4 z (distance (s .last) k) (omega (arith, distance-small (s .last) k))))
 
     idle-yields : TurnYields s b (step s b (turn itsOwn) .answer)
     idle-yields = record {
@@ -184,7 +184,7 @@ sends-for-transfers r w j f a e = record {
   asks = λ q. sd .is ∙ sends-request r w y (sd .ready .mid .chunk) j (aged (view r y j))
       (asks-of (y .ask) (sa .kind ∙ h .kind) q) (sd .ready .mid .at)
       (sa .device ∙ h .device) (sa .table ∙ h .table) (sa .offset ∙ h .offset) (sa .count ∙ h .count);
-  carries = λ q. sd .is ∙ sends-write r w y q j h (written r w y q j (sd .stands)) (sd .ready);
+  carries = λ q. sd .is ∙ sends-write r w y q j h (written-so-far r w y q j (sd .stands)) (sd .ready);
 }
   where
     sd : Sender r w j f

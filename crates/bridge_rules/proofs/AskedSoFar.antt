@@ -21,13 +21,13 @@ use Rattle.bridge_rules.specs.Demand3.{brought}
 use Rattle.bridge_rules.proofs.ReadWrite.{asks-of, read-of}
 use Rattle.bridge_rules.proofs.FrameLaws.{len-eight, len-inside, len-small, content-length}
 use Rattle.bridge_rules.proofs.Sound.{Same, ReadyOk, aged-same, advanced-same, sent-same, advanced-more, advanced-done, sent-read}
-use Rattle.bridge_rules.proofs.CallKinds.{AwaitsOk, awaits-true, WaitOk, wait-ok}
-use Rattle.bridge_rules.proofs.Effects.{Window, getD-sets-below, getD-sets-in}
-use Rattle.bridge_rules.proofs.Storages.{turns-same, turns-more, turns-none, turns-mono, storage-sound}
-use Rattle.bridge_rules.proofs.Runs.{okAt, openedAt, view, Held, held, opened-stands, Move, stays, waits, served, gets, Begins}
-use Rattle.bridge_rules.proofs.Runs.{begins-open, along-from, stands-before}
-use Rattle.bridge_rules.proofs.Ages.{AgeCase, asleep, ticks, again, expires, ageCase, aged-keeps, phases}
-use Rattle.bridge_rules.proofs.Sends.{matches-ok, matches-true, turn-unfit, fits-awaited, awaited-matches, sends-request}
+use Rattle.bridge_rules.proofs.CallCases.{AwaitsOk, awaits-true, WaitOk, wait-ok}
+use Rattle.bridge_rules.proofs.SlotEffects.{SamePart, getD-sets-below, getD-sets-in}
+use Rattle.bridge_rules.proofs.LedgerAgrees.{turns-same, turns-more, turns-none, turns-mono, storage-sound}
+use Rattle.bridge_rules.proofs.Standing.{okAt, openedAt, view, Held, held, opened-stands, Move, stays, waits, served, gets, Begins}
+use Rattle.bridge_rules.proofs.Standing.{begins-open, along-from, stands-before}
+use Rattle.bridge_rules.proofs.Aging.{AgedBy, unaged, waitsOn, readyAgain, givesUp, agedBy, aged-keeps, other-phase}
+use Rattle.bridge_rules.proofs.SentRequests.{matches-ok, matches-true, turn-unmatched, matches-awaited, awaited-matches, sends-request}
 
 -- s failed sends of chunk c, the latest before `top`
 abbrev pub Fails : (r : Run) (x : Transfer r) → ℕ → ℕ → ℕ → ℕ → Type 0
@@ -50,7 +50,7 @@ pub record Got (r : Run) (x : Transfer r) (c n : ℕ) : Type 0 where
   pub replied : Replied r x c m
   pub kept : (i : ℕ) → i < lenOf r x c → getD (buffer r n) (place r x c + i) 0 ≡ getD (brought (r .calls m)) i 0
 
-pub record Past (r : Run) (x : Transfer r) (n : ℕ) : Type 0 where
+pub record AskedSoFar (r : Run) (x : Transfer r) (n : ℕ) : Type 0 where
   pub asking : asks (view r x n .kind) ≡ true
   pub got : (c : ℕ) → 8 * c < view r x n .progress → Got r x c n
   pub ifReady : view r x n .phase ≡ ready → (c : ℕ) → view r x n .progress ≡ 8 * c → Fails r x c (view r x n .sends) n n
@@ -88,7 +88,7 @@ expire r x c s n p e a = (
       where
         go : Dec (m < n) → Dec (m ≡ n) → ¬ Matches r x c m
         go (yes u) v = p .unmatched m l u
-        go (no u) (yes v) = subst (λ (i : ℕ). ¬ Matches r x c i) (sym v) (turn-unfit r x c n e)
+        go (no u) (yes v) = subst (λ (i : ℕ). ¬ Matches r x c i) (sym v) (turn-unmatched r x c n e)
         go (no u) (no v) = absurd (omega (arith, t, p .clock, turns-mono r (p .j) (suc n) m (omega arith)))
 
 -- a longer wait
@@ -126,8 +126,8 @@ module _ (r : Run) (w : Lawful r) (x : Transfer r) where
   few : askCount (x .ask) ≤ 128
   few = openedAt r w x .law .few
 
-  window-got : (c n : ℕ) → Window (slotOf r x) (buffer r n) (buffer r (suc n)) → Got r x c n → Got r x c (suc n)
-  window-got c n v g = record { m = g .m; before = omega (arith, g .before); replied = g .replied; kept = kept }
+  part-got : (c n : ℕ) → SamePart (slotOf r x) (buffer r n) (buffer r (suc n)) → Got r x c n → Got r x c (suc n)
+  part-got c n v g = record { m = g .m; before = omega (arith, g .before); replied = g .replied; kept = kept }
     where
       kept : (i : ℕ) → i < lenOf r x c → getD (buffer r (suc n)) (place r x c + i) 0 ≡ getD (brought (r .calls (g .m))) i 0
       kept i l =
@@ -137,51 +137,51 @@ module _ (r : Run) (w : Lawful r) (x : Transfer r) where
           ∙ ap (λ (k : ℕ). getD (buffer r n) k 0) (sym z) ∙ g .kept i l
 
   same-got : (c n : ℕ) → buffer r (suc n) ≡ buffer r n → Got r x c n → Got r x c (suc n)
-  same-got c n e = window-got c n (λ i l. ap (λ (b : List ℕ). getD b (128 * slotOf r x + i) 0) e)
+  same-got c n e = part-got c n (λ i l. ap (λ (b : List ℕ). getD b (128 * slotOf r x + i) 0) e)
 
   -- the failed sends of a slot that is ready after aging, before this turn's send
-  ready-fails : (n c : ℕ) → Past r x n → r .calls n ≡ turn itsOwn → accepted r n ≡ true → aged (view r x n) .phase ≡ ready
+  ready-fails : (n c : ℕ) → AskedSoFar r x n → r .calls n ≡ turn itsOwn → accepted r n ≡ true → aged (view r x n) .phase ≡ ready
       → aged (view r x n) .progress ≡ 8 * c
       → Fails r x c (aged (view r x n) .sends) (suc n) n
-  ready-fails n c h e a p q = go (ageCase (state r n .tickets) (view r x n) (okAt r w x n))
+  ready-fails n c h e a p q = go (agedBy (state r n .tickets) (view r x n) (okAt r w x n))
     where
-      go : AgeCase (view r x n) → Fails r x c (aged (view r x n) .sends) (suc n) n
-      go (asleep u v) = rw u (fails-mono r x c (view r x n .sends) n (suc n) n n (omega arith) (omega arith)
+      go : AgedBy (view r x n) → Fails r x c (aged (view r x n) .sends) (suc n) n
+      go (unaged u v) = rw u (fails-mono r x c (view r x n .sends) n (suc n) n n (omega arith) (omega arith)
           (h .ifReady (ap (λ (y : Slot). y .phase) (sym u) ∙ p) c (ap (λ (y : Slot). y .progress) (sym u) ∙ q)))
-      go (ticks a b c d f) = phases (aged (view r x n) .phase) ready waiting p b (λ z. omega arith)
-      go (again u v b d f) =
+      go (waitsOn a b c d f) = other-phase (aged (view r x n) .phase) ready waiting p b (λ z. omega arith)
+      go (readyAgain u v b d f) =
           let wk : WaitOk (state r n .tickets) (view r x n) = wait-ok (state r n .tickets) (view r x n) (okAt r w x n) (ap isWaiting u) in
           let sc : view r x n .sends ≡ suc (view r x n .sends - 1) = omega (arith, wk .once) in
           let pd : Pending r x c (view r x n .sends - 1) (view r x n .left) n = h .ifWaiting u c (view r x n .sends - 1) (sym f ∙ q) sc in
           let fl : Fails r x c (suc (view r x n .sends - 1)) (suc n) n
           = expire r x c (view r x n .sends - 1) n (subst (λ (l : ℕ). Pending r x c (view r x n .sends - 1) l n) v pd) e a in
           subst (λ (s : ℕ). Fails r x c s (suc n) n) (sym (d ∙ sc)) fl
-      go (expires u v b d f g) = phases (aged (view r x n) .phase) ready gaveUp p d (λ z. omega arith)
+      go (givesUp u v b d f g) = other-phase (aged (view r x n) .phase) ready gaveUp p d (λ z. omega arith)
 
-  past-stays : (n : ℕ) → Held r x n → Past r x n → view r x (suc n) ≡ view r x n → Window (slotOf r x) (buffer r n) (buffer r (suc n))
+  asked-unchanged : (n : ℕ) → Held r x n → AskedSoFar r x n → view r x (suc n) ≡ view r x n → SamePart (slotOf r x) (buffer r n) (buffer r (suc n))
       → accepted r n ≡ false
       → ((f : Frame) → r .calls n ≡ frame itsOwn f → contentNumber (state r n .own) f ≡ 0 → awaits (state r n) f (slotOf r x) ≡ false)
-      → Past r x (suc n)
-  past-stays n h p a v e g = record {
+      → AskedSoFar r x (suc n)
+  asked-unchanged n h p a v e g = record {
     asking = rw a (p .asking);
-    got = λ c l. window-got c n v (p .got c (rw a at l));
+    got = λ c l. part-got c n v (p .got c (rw a at l));
     ifReady = λ q c u. rw a (fails-mono r x c (view r x n .sends) n (suc n) n (suc n) (omega arith) (omega arith)
         (p .ifReady (rw a at q) c (rw a at u)));
     ifWaiting = λ q c s u z. rw a (wait-on r x c s (view r x n .left) (view r x n .left) n
         (p .ifWaiting (rw a at q) c s (rw a at u) (rw a at z))
-        (λ j l. ap (λ (k : ℕ). k + view r x n .left) (turns-same r j n e)) (unfit c (rw a at q) (rw a at u)));
+        (λ j l. ap (λ (k : ℕ). k + view r x n .left) (turns-same r j n e)) (unmatched-here c (rw a at q) (rw a at u)));
     ifGaveUp = λ q c u. fails-mono r x c 3 n (suc n) n (suc n) (omega arith) (omega arith) (p .ifGaveUp (rw a at q) c (rw a at u));
   }
     where
-      unfit : (c : ℕ) → view r x n .phase ≡ waiting → view r x n .progress ≡ 8 * c → ¬ Matches r x c n
-      unfit c q u t =
+      unmatched-here : (c : ℕ) → view r x n .phase ≡ waiting → view r x n .progress ≡ 8 * c → ¬ Matches r x c n
+      unmatched-here c q u t =
           let f = matches-ok r w x c n t in
-          true≢false (sym (awaits-true (state r n) (f .0) (slotOf r x) (fits-awaited r x c n h u (f .0) (f .1) q))
+          true≢false (sym (awaits-true (state r n) (f .0) (slotOf r x) (matches-awaited r x c n h u (f .0) (f .1) q))
           ∙ g (f .0) (f .1 .is) (f .1 .passes))
 
-  past-waits : (n : ℕ) → Past r x n → r .calls n ≡ turn itsOwn → accepted r n ≡ true → view r x (suc n) ≡ aged (view r x n)
-      → buffer r (suc n) ≡ buffer r n → Past r x (suc n)
-  past-waits n p e a c d = go (ageCase (state r n .tickets) (view r x n) (okAt r w x n))
+  asked-aged : (n : ℕ) → AskedSoFar r x n → r .calls n ≡ turn itsOwn → accepted r n ≡ true → view r x (suc n) ≡ aged (view r x n)
+      → buffer r (suc n) ≡ buffer r n → AskedSoFar r x (suc n)
+  asked-aged n p e a c d = go (agedBy (state r n .tickets) (view r x n) (okAt r w x n))
     where
       asking : asks (view r x (suc n) .kind) ≡ true
       asking = rw (c, aged-same (view r x n) .kind) (p .asking)
@@ -194,8 +194,8 @@ module _ (r : Run) (w : Lawful r) (x : Transfer r) where
       ifReady q i u = rw c (fails-mono r x i (aged (view r x n) .sends) (suc n) (suc n) n (suc n) (omega arith) (omega arith)
           (ready-fails n i p e a (rw c at q) (rw c at u)))
 
-      go : AgeCase (view r x n) → Past r x (suc n)
-      go (asleep u v) = record {
+      go : AgedBy (view r x n) → AskedSoFar r x (suc n)
+      go (unaged u v) = record {
         asking = asking;
         got = got (ap (λ (y : Slot). y .progress) u);
         ifReady = ifReady;
@@ -203,43 +203,43 @@ module _ (r : Run) (w : Lawful r) (x : Transfer r) where
         ifGaveUp = λ q i z. fails-mono r x i 3 n (suc n) n (suc n) (omega arith) (omega arith)
             (p .ifGaveUp (rw (c, u) at q) i (rw (c, u) at z));
       }
-      go (ticks u v b f g) = record {
+      go (waitsOn u v b f g) = record {
         asking = asking;
         got = got g;
-        ifReady = λ q. phases (aged (view r x n) .phase) waiting ready v (rw c at q) (λ z. omega arith);
+        ifReady = λ q. other-phase (aged (view r x n) .phase) waiting ready v (rw c at q) (λ z. omega arith);
         ifWaiting = λ q i s z z′. rw c (wait-on r x i s (view r x n .left) (aged (view r x n) .left) n
             (p .ifWaiting u i s (sym g ∙ (rw c at z)) (sym f ∙ (rw c at z′)))
-            (λ j l. omega (arith, turns-more r j n a l, b)) (turn-unfit r x i n e));
-        ifGaveUp = λ q. phases (aged (view r x n) .phase) waiting gaveUp v (rw c at q) (λ z. omega arith);
+            (λ j l. omega (arith, turns-more r j n a l, b)) (turn-unmatched r x i n e));
+        ifGaveUp = λ q. other-phase (aged (view r x n) .phase) waiting gaveUp v (rw c at q) (λ z. omega arith);
       }
-      go (again u v b f g) = record {
+      go (readyAgain u v b f g) = record {
         asking = asking;
         got = got g;
         ifReady = ifReady;
-        ifWaiting = λ q. phases (aged (view r x n) .phase) ready waiting b (rw c at q) (λ z. omega arith);
-        ifGaveUp = λ q. phases (aged (view r x n) .phase) ready gaveUp b (rw c at q) (λ z. omega arith);
+        ifWaiting = λ q. other-phase (aged (view r x n) .phase) ready waiting b (rw c at q) (λ z. omega arith);
+        ifGaveUp = λ q. other-phase (aged (view r x n) .phase) ready gaveUp b (rw c at q) (λ z. omega arith);
       }
-      go (expires u v b f g h) = record {
+      go (givesUp u v b f g h) = record {
         asking = asking;
         got = got h;
-        ifReady = λ q. phases (aged (view r x n) .phase) gaveUp ready f (rw c at q) (λ z. omega arith);
-        ifWaiting = λ q. phases (aged (view r x n) .phase) gaveUp waiting f (rw c at q) (λ z. omega arith);
+        ifReady = λ q. other-phase (aged (view r x n) .phase) gaveUp ready f (rw c at q) (λ z. omega arith);
+        ifWaiting = λ q. other-phase (aged (view r x n) .phase) gaveUp waiting f (rw c at q) (λ z. omega arith);
         ifGaveUp = λ q i z.
             let pd : Pending r x i 2 (view r x n .left) n = p .ifWaiting u i 2 (sym h ∙ (rw c at z)) b in
             fails-mono r x i 3 (suc n) (suc n) n (suc n) (omega arith) (omega arith) (expire r x i 2 n (subst (λ (l : ℕ). Pending r x i 2 l
             n) v pd) e a);
       }
 
-  past-served : (n : ℕ) → Stands r x n → Held r x n → Past r x n → r .calls n ≡ turn itsOwn → accepted r n ≡ true
+  asked-served : (n : ℕ) → Stands r x n → Held r x n → AskedSoFar r x n → r .calls n ≡ turn itsOwn → accepted r n ≡ true
       → ReadyOk (state r n .tickets) (aged (view r x n))
       → view r x (suc n) ≡ sentSlot (aged (view r x n)) → buffer r (suc n) ≡ buffer r n
-      → answer r n .sent ≡ some (sentFrame (state r n .own) (slotOf r x) (aged (view r x n)) (buffer r n)) → Past r x (suc n)
-  past-served n st h p e a o c d i = record {
+      → answer r n .sent ≡ some (sentFrame (state r n .own) (slotOf r x) (aged (view r x n)) (buffer r n)) → AskedSoFar r x (suc n)
+  asked-served n st h p e a o c d i = record {
     asking = rw (c, sent-same (aged (view r x n)) .kind) isRead;
     got = λ k l. same-got k n d (p .got k (omega (arith, l, progress, keeps)));
-    ifReady = λ q. phases (view r x (suc n) .phase) waiting ready phase q (λ z. omega arith);
+    ifReady = λ q. other-phase (view r x (suc n) .phase) waiting ready phase q (λ z. omega arith);
     ifWaiting = ifWaiting;
-    ifGaveUp = λ q. phases (view r x (suc n) .phase) waiting gaveUp phase q (λ z. omega arith);
+    ifGaveUp = λ q. other-phase (view r x (suc n) .phase) waiting gaveUp phase q (λ z. omega arith);
   }
     where
       y : Slot
@@ -289,7 +289,7 @@ module _ (r : Run) (w : Lawful r) (x : Transfer r) where
           same-sends = omega (arith, z, ap (λ (y : Slot). y .sends) c, sr .2)
 
   -- a frame that the slot awaits is the reply to its chunk
-  pub awaited-replied : (n : ℕ) (f : Frame) → Stands r x n → Held r x n → Past r x n → r .calls n ≡ frame itsOwn f
+  pub awaited-replied : (n : ℕ) (f : Frame) → Stands r x n → Held r x n → AskedSoFar r x n → r .calls n ≡ frame itsOwn f
       → contentNumber (state r n .own) f ≡ 0 → AwaitsOk (state r n) f (slotOf r x) → (wk : WaitOk (state r n .tickets) (view r x n))
       → Replied r x (wk .mid .chunk) n
   awaited-replied n f st h p e cr aw wk = record {
@@ -307,11 +307,11 @@ module _ (r : Run) (w : Lawful r) (x : Transfer r) where
       pd : Pending r x (wk .mid .chunk) (view r x n .sends - 1) (view r x n .left) n
       pd = p .ifWaiting (wk .phase) (wk .mid .chunk) (view r x n .sends - 1) (wk .mid .at) (omega (arith, wk .once))
 
-  past-gets : (n : ℕ) (f : Frame) → Stands r x n → Held r x n → Past r x n → r .calls n ≡ frame itsOwn f
+  asked-taken : (n : ℕ) (f : Frame) → Stands r x n → Held r x n → AskedSoFar r x n → r .calls n ≡ frame itsOwn f
       → contentNumber (state r n .own) f ≡ 0
       → AwaitsOk (state r n) f (slotOf r x) → WaitOk (state r n .tickets) (view r x n) → view r x (suc n) ≡ advanced (view r x n)
-      → buffer r (suc n) ≡ sets (buffer r n) (128 * slotOf r x + view r x n .progress) (content f) → Past r x (suc n)
-  past-gets n f st h p e cr aw wk c d = record {
+      → buffer r (suc n) ≡ sets (buffer r n) (128 * slotOf r x + view r x n .progress) (content f) → AskedSoFar r x (suc n)
+  asked-taken n f st h p e cr aw wk c d = record {
     asking = rw (c, advanced-same (view r x n) .kind) (p .asking);
     got = λ k l. got k l (decLt (8 * k) (view r x n .progress));
     ifReady = λ q k u. subst (λ (s : ℕ). Fails r x k s (suc n) (suc n)) (sym (ap (λ (y : Slot). y .sends) c ∙ advanced-sends (view r x n)))
@@ -327,8 +327,8 @@ module _ (r : Run) (w : Lawful r) (x : Transfer r) where
           z = ap (λ (y : Slot). y .phase) (sym c) ∙ q
 
           go : (advanced (view r x n) .phase ≡ ready) ⊎ (advanced (view r x n) .phase ≡ done) → ⊥
-          go (inl u) = phases _ ready t u z a
-          go (inr u) = phases _ done t u z b
+          go (inl u) = other-phase _ ready t u z a
+          go (inr u) = other-phase _ done t u z b
 
       i : ℕ
       i = wk .mid .chunk
@@ -379,25 +379,25 @@ module _ (r : Run) (w : Lawful r) (x : Transfer r) where
               )) (omega (arith, ln))
               ∙ ap (λ (t : Call). getD (brought t) j 0) (sym e)
 
-  past-base : (b : ℕ) → Begins r x b → asks (view r x b .kind) ≡ true → Past r x b
-  past-base b g a = record {
+  asked-begin : (b : ℕ) → Begins r x b → asks (view r x b .kind) ≡ true → AskedSoFar r x b
+  asked-begin b g a = record {
     asking = a;
     got = λ c l. absurd (omega (arith, l, g .progress));
     ifReady = λ q c u. rw (g .sends) tt;
-    ifWaiting = λ q. phases (view r x b .phase) ready waiting (g .phase) q (λ z. omega arith);
-    ifGaveUp = λ q. phases (view r x b .phase) ready gaveUp (g .phase) q (λ z. omega arith);
+    ifWaiting = λ q. other-phase (view r x b .phase) ready waiting (g .phase) q (λ z. omega arith);
+    ifGaveUp = λ q. other-phase (view r x b .phase) ready gaveUp (g .phase) q (λ z. omega arith);
   }
 
-  past-step : (n : ℕ) → Stands r x (suc n) → x .at < n → Held r x n → Move r x n → Past r x n → Past r x (suc n)
-  past-step n s l h (stays a v c e f g) p = past-stays n h p a v e g
-  past-step n s l h (waits a v c d u) p = past-waits n p a v c d
-  past-step n s l h (served a v c d e g i) p = past-served n (stands-before r w x n s l) h p a v c d e i
-  past-step n s l h (gets f a c d e g i j m o) p = past-gets n f (stands-before r w x n s l) h p a c d e g i
+  asked-step : (n : ℕ) → Stands r x (suc n) → x .at < n → Held r x n → Move r x n → AskedSoFar r x n → AskedSoFar r x (suc n)
+  asked-step n s l h (stays a v c e f g) p = asked-unchanged n h p a v e g
+  asked-step n s l h (waits a v c d u) p = asked-aged n p a v c d
+  asked-step n s l h (served a v c d e g i) p = asked-served n (stands-before r w x n s l) h p a v c d e i
+  asked-step n s l h (gets f a c d e g i j m o) p = asked-taken n f (stands-before r w x n s l) h p a c d e g i
 
-  pub past : (b : ℕ) → Begins r x b → asks (view r x b .kind) ≡ true → (n : ℕ) → b ≤ n → Stands r x n → Past r x n
-  past b g a = along-from r w x b (g .since) (Past r x) (past-base b g a) (λ n s l. past-step n s (omega (arith, g .since)))
+  pub asked-so-far : (b : ℕ) → Begins r x b → asks (view r x b .kind) ≡ true → (n : ℕ) → b ≤ n → Stands r x n → AskedSoFar r x n
+  asked-so-far b g a = along-from r w x b (g .since) (AskedSoFar r x) (asked-begin b g a) (λ n s l. asked-step n s (omega (arith, g .since)))
 
   -- a read begins to ask at its opening
-  pub past-read : isWrite (x .ask) ≡ false → (n : ℕ) → Stands r x n → Past r x n
-  past-read rd n s = past (suc (x .at)) (begins-open r w x)
+  pub read-so-far : isWrite (x .ask) ≡ false → (n : ℕ) → Stands r x n → AskedSoFar r x n
+  read-so-far rd n s = asked-so-far (suc (x .at)) (begins-open r w x)
       (asks-of (x .ask) (held r w x (suc (x .at)) (opened-stands r w x) .kind) rd) n (s .0) s

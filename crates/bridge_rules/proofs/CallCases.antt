@@ -23,12 +23,12 @@ use Rattle.bridge_rules.specs.Incoming.{awaits, contentNumber, awaiting,
 use Rattle.bridge_rules.specs.Ending.{closeNumber, closeOf, resetOf, bytesOf, resetNumber}
 use Rattle.bridge_rules.specs.Call.{Call, itsOwn, other, opening, turn, frame, status, bytes, close, reset, step, lentList}
 use Rattle.bridge_rules.specs.Run.{Shaped, isTurn}
-use Rattle.bridge_rules.proofs.ReadWrite.{told-ask}
-use Rattle.bridge_rules.proofs.Refusals.{else-first, else-second, LawfulArgs, OpenFacts, open-facts, lent-clear, lent-ten, open-ten}
-use Rattle.bridge_rules.proofs.Refusals.{reply-later, reply-ten}
+use Rattle.bridge_rules.proofs.ReadWrite.{asked-known}
+use Rattle.bridge_rules.proofs.NumberLaws.{else-first, else-second, LawfulArgs, OpenFacts, open-facts, lent-clear, lent-ten, open-ten}
+use Rattle.bridge_rules.proofs.NumberLaws.{reply-later, reply-ten}
 use Rattle.bridge_rules.proofs.Search.{option-cases, cases, and-true, Found, Lowest, search-some, search-none, lowest-some, lowest-none}
 use Rattle.bridge_rules.proofs.Search.{Outcome, through, refused, outcome}
-use Rattle.bridge_rules.proofs.Sound.{Common, Mid, SlotOk, okFree, okReady, okWaiting, okDone, okGaveUp, Sound, aged-same, advanced-same}
+use Rattle.bridge_rules.proofs.Sound.{Common, Partway, SlotOk, okFree, okReady, okWaiting, okDone, okGaveUp, Sound, aged-same, advanced-same}
 use Rattle.bridge_rules.proofs.Sound.{sent-same, aged-ok, advanced-ok, sent-ok, ready-ok, sound-true, set-sound}
 
 abbrev pub isOpening : Call → Bool
@@ -294,7 +294,7 @@ pub opened-ok : (a : Ask) (t : ℕ) → LawfulAsk a → SlotOk (suc t) (opened a
 unfolding opened
 opened-ok a t l = okReady refl
     (record {
-      told = told-ask a;
+      told = asked-known a;
       ticket = omega arith;
       given = omega arith;
       device = l .device;
@@ -309,7 +309,7 @@ opened-ok a t l = okReady refl
 pub record WaitOk (t : ℕ) (x : Slot) : Type 0 where
   pub phase : x .phase ≡ waiting
   pub common : Common t x
-  pub mid : Mid x
+  pub mid : Partway x
   pub isRead : asks (x .kind) ≡ true
   pub once : 0 < x .sends
   pub thrice : x .sends ≤ 3

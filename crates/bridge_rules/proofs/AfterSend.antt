@@ -15,17 +15,17 @@ use Rattle.bridge_rules.specs.Replies.{Sent, Matches, Awaits, Replied, T
 use Rattle.bridge_rules.proofs.Search.{none-some}
 use Rattle.bridge_rules.proofs.Sound.{ReadyOk, ready-ok, sent-read, aged-same}
 use Rattle.bridge_rules.proofs.Sound.{advanced-same}
-use Rattle.bridge_rules.proofs.CallKinds.{Kind, nothing, opens, sends, idles, takes, closes, resets, isFrame, awaits-true, WaitOk, wait-ok}
-use Rattle.bridge_rules.proofs.Effects.{idle, elsewhere}
-use Rattle.bridge_rules.proofs.Storages.{turns-same, turns-more, turns-none, turns-step, kindAt}
-use Rattle.bridge_rules.proofs.Runs.{full-done, okAt, openedAt, view, Held, held, Move, stays, waits, served, gets, move, move-same, along-from}
-use Rattle.bridge_rules.proofs.Runs.{stands-before, stands-back}
-use Rattle.bridge_rules.proofs.Ages.{AgeCase, asleep, ticks, again, expires, ageCase, aged-keeps, phases}
-use Rattle.bridge_rules.proofs.Sends.{MatchesOk, matches-ok, matches-true, turn-unfit, fits-awaited, awaited-matches, sends-own}
-use Rattle.bridge_rules.proofs.Past.{advanced-progress}
+use Rattle.bridge_rules.proofs.CallCases.{Kind, nothing, opens, sends, idles, takes, closes, resets, isFrame, awaits-true, WaitOk, wait-ok}
+use Rattle.bridge_rules.proofs.SlotEffects.{idle, elsewhere}
+use Rattle.bridge_rules.proofs.LedgerAgrees.{turns-same, turns-more, turns-none, turns-step, kindAt}
+use Rattle.bridge_rules.proofs.Standing.{full-done, okAt, openedAt, view, Held, held, Move, stays, waits, served, gets, move, move-same, along-from}
+use Rattle.bridge_rules.proofs.Standing.{stands-before, stands-back}
+use Rattle.bridge_rules.proofs.Aging.{AgedBy, unaged, waitsOn, readyAgain, givesUp, agedBy, aged-keeps, other-phase}
+use Rattle.bridge_rules.proofs.SentRequests.{MatchesOk, matches-ok, matches-true, turn-unmatched, matches-awaited, awaited-matches, sends-own}
+use Rattle.bridge_rules.proofs.AskedSoFar.{advanced-progress}
 
-no-both : {A : Type 0} {b : Bool} → b ≡ true → b ≡ false → A
-no-both p q = absurd (true≢false (sym p ∙ q))
+contradiction : {A : Type 0} {b : Bool} → b ≡ true → b ≡ false → A
+contradiction p q = absurd (true≢false (sym p ∙ q))
 
 module _ (r : Run) (w : Lawful r) (x : Transfer r) where
   pub moveAt : (n : ℕ) → Stands r x (suc n) → x .at < n → Move r x n
@@ -76,21 +76,21 @@ module _ (r : Run) (w : Lawful r) (x : Transfer r) where
 
   gave-up-stays : (n : ℕ) → Move r x n → view r x n .phase ≡ gaveUp → view r x (suc n) .phase ≡ gaveUp
   gave-up-stays n (stays a v c e f g) p = ap (λ (y : Slot). y .phase) a ∙ p
-  gave-up-stays n (waits a v c d u) p = go (ageCase (state r n .tickets) (view r x n) (okAt r w x n))
+  gave-up-stays n (waits a v c d u) p = go (agedBy (state r n .tickets) (view r x n) (okAt r w x n))
     where
-      go : AgeCase (view r x n) → view r x (suc n) .phase ≡ gaveUp
-      go (asleep q z) = ap (λ (y : Slot). y .phase) (c ∙ q) ∙ p
-      go (ticks q b c d e) = phases (view r x n .phase) gaveUp waiting p q (λ z. omega arith)
-      go (again q b c d e) = phases (view r x n .phase) gaveUp waiting p q (λ z. omega arith)
-      go (expires q b c d e f) = phases (view r x n .phase) gaveUp waiting p q (λ z. omega arith)
-  gave-up-stays n (served a v c d e g i) p = go (ageCase (state r n .tickets) (view r x n) (okAt r w x n))
+      go : AgedBy (view r x n) → view r x (suc n) .phase ≡ gaveUp
+      go (unaged q z) = ap (λ (y : Slot). y .phase) (c ∙ q) ∙ p
+      go (waitsOn q b c d e) = other-phase (view r x n .phase) gaveUp waiting p q (λ z. omega arith)
+      go (readyAgain q b c d e) = other-phase (view r x n .phase) gaveUp waiting p q (λ z. omega arith)
+      go (givesUp q b c d e f) = other-phase (view r x n .phase) gaveUp waiting p q (λ z. omega arith)
+  gave-up-stays n (served a v c d e g i) p = go (agedBy (state r n .tickets) (view r x n) (okAt r w x n))
     where
-      go : AgeCase (view r x n) → view r x (suc n) .phase ≡ gaveUp
-      go (asleep q z) = phases (view r x n .phase) gaveUp ready p (ap (λ (y : Slot). y .phase) (sym q) ∙ c .phase) (λ z. omega arith)
-      go (ticks q b c d e) = phases (view r x n .phase) gaveUp waiting p q (λ z. omega arith)
-      go (again q b c d e) = phases (view r x n .phase) gaveUp waiting p q (λ z. omega arith)
-      go (expires q b c d e f) = phases (view r x n .phase) gaveUp waiting p q (λ z. omega arith)
-  gave-up-stays n (gets f a c d e g i j m o) p = phases (view r x n .phase) gaveUp waiting p (e .phase) (λ z. omega arith)
+      go : AgedBy (view r x n) → view r x (suc n) .phase ≡ gaveUp
+      go (unaged q z) = other-phase (view r x n .phase) gaveUp ready p (ap (λ (y : Slot). y .phase) (sym q) ∙ c .phase) (λ z. omega arith)
+      go (waitsOn q b c d e) = other-phase (view r x n .phase) gaveUp waiting p q (λ z. omega arith)
+      go (readyAgain q b c d e) = other-phase (view r x n .phase) gaveUp waiting p q (λ z. omega arith)
+      go (givesUp q b c d e f) = other-phase (view r x n .phase) gaveUp waiting p q (λ z. omega arith)
+  gave-up-stays n (gets f a c d e g i j m o) p = other-phase (view r x n .phase) gaveUp waiting p (e .phase) (λ z. omega arith)
 
   -- a send leaves the slot waiting at that chunk, with twenty turns left and one send more
   pub record AfterSend (c j : ℕ) : Type 0 where
@@ -104,7 +104,7 @@ module _ (r : Run) (w : Lawful r) (x : Transfer r) where
   after-send c j n q l s = go (moveAt j (stands-back r w x (suc j) n s (omega (arith, q .stands .0)) l) (q .stands .0))
     where
       go : Move r x j → AfterSend c j
-      go (stays a v k e f g) = no-both (q .turned) e
+      go (stays a v k e f g) = contradiction (q .turned) e
       go (waits a v k d (idle f g i)) = none-some (sym f ∙ q .yields)
       go (waits a v k d (elsewhere t f g i u m o)) = absurd
           (g (sends-own r w x c j (q .chunk) t (state r j .tickets) (aged (slot (state r j) t)) i (sym u ∙ q .yields) f .0))
@@ -120,16 +120,16 @@ module _ (r : Run) (w : Lawful r) (x : Transfer r) where
             sends = ap (λ (y : Slot). y .sends) d ∙ z .2 ∙ ap suc (b .1);
             before = sym (b .0) ∙ o .1;
           }
-      go (gets f a k d e g i t m o) = no-both (q .turned) m
+      go (gets f a k d e g i t m o) = contradiction (q .turned) m
 
   -- the state n calls on, while no frame matches in the first twenty turns
-  record Sim (c j n : ℕ) : Type 0 where
+  record WithoutReply (c j n : ℕ) : Type 0 where
     soon : turns r j n < 20 → (view r x n .phase ≡ waiting) × (view r x n .progress ≡ 8 * c) × (view r x n .left + turns r j n ≡ 20)
         × (view r x n .sends ≡ view r x (suc j) .sends)
     over : 20 ≤ turns r j n → view r x (suc j) .sends ≡ 3 → view r x n .phase ≡ gaveUp
 
-  sim-step : (c j n : ℕ) → j < n → x .at < n → Stands r x (suc n) → (turns r j n < 20 → ¬ Matches r x c n) → Sim c j n → Sim c j (suc n)
-  sim-step c j n l l′ s u h = pick (decLt (turns r j n) 20)
+  without-reply-step : (c j n : ℕ) → j < n → x .at < n → Stands r x (suc n) → (turns r j n < 20 → ¬ Matches r x c n) → WithoutReply c j n → WithoutReply c j (suc n)
+  without-reply-step c j n l l′ s u h = pick (decLt (turns r j n) 20)
     where
       h′ : Held r x n
       h′ = held r w x n (stands-before r w x n s l′)
@@ -137,7 +137,7 @@ module _ (r : Run) (w : Lawful r) (x : Transfer r) where
       mv : Move r x n
       mv = moveAt n s l′
 
-      pick : Dec (turns r j n < 20) → Sim c j (suc n)
+      pick : Dec (turns r j n < 20) → WithoutReply c j (suc n)
       pick (no p) = record {
         soon = λ q. absurd (omega (arith, q, turns-step r j n .0));
         over = λ q z. gave-up-stays n mv (h .over (omega arith) z);
@@ -148,7 +148,7 @@ module _ (r : Run) (w : Lawful r) (x : Transfer r) where
               × (view r x n .sends ≡ view r x (suc j) .sends)
           wt = h .soon p
 
-          go : Move r x n → Sim c j (suc n)
+          go : Move r x n → WithoutReply c j (suc n)
           go (stays a v k e f g) =
               let t = turns-same r j n e in
               record {
@@ -160,14 +160,14 @@ module _ (r : Run) (w : Lawful r) (x : Transfer r) where
                 );
                 over = λ q. absurd (omega (arith, q, t, p));
               }
-          go (waits a v k d f) = age (ageCase (state r n .tickets) (view r x n) (okAt r w x n))
+          go (waits a v k d f) = age (agedBy (state r n .tickets) (view r x n) (okAt r w x n))
             where
               t : turns r j (suc n) ≡ suc (turns r j n)
               t = turns-more r j n v l
 
-              age : AgeCase (view r x n) → Sim c j (suc n)
-              age (asleep q z) = no-both (ap isWaiting (wt .0)) z
-              age (ticks q b g i m) =
+              age : AgedBy (view r x n) → WithoutReply c j (suc n)
+              age (unaged q z) = contradiction (ap isWaiting (wt .0)) z
+              age (waitsOn q b g i m) =
                   let ph : view r x (suc n) .phase ≡ waiting = ap (λ (y : Slot). y .phase) k ∙ b in
                   let wk : WaitOk (state r (suc n) .tickets) (view r x (suc n))
                   = wait-ok (state r (suc n) .tickets) (view r x (suc n)) (okAt r w x (suc n)) (ap isWaiting ph) in
@@ -181,7 +181,7 @@ module _ (r : Run) (w : Lawful r) (x : Transfer r) where
                     );
                     over = λ z. absurd (omega (arith, z, t, g, lf, wt .2, wk .some));
                   }
-              age (again q b g i m) =
+              age (readyAgain q b g i m) =
                   let rk : ReadyOk (state r (suc n) .tickets) (view r x (suc n))
                   = ready-ok (state r (suc n) .tickets) (view r x (suc n)) (okAt r w x (suc n))
                   (ap isReady (ap (λ (y : Slot). y .phase) k ∙ g))
@@ -190,42 +190,42 @@ module _ (r : Run) (w : Lawful r) (x : Transfer r) where
                     soon = λ z. absurd (omega (arith, z, t, b, wt .2));
                     over = λ z z′. absurd (omega (arith, rk .sends, ap (λ (y : Slot). y .sends) k, i, wt .3, z′));
                   }
-              age (expires q b b′ g i m) = record {
+              age (givesUp q b b′ g i m) = record {
                 soon = λ z. absurd (omega (arith, z, t, b, wt .2));
                 over = λ z z′. ap (λ (y : Slot). y .phase) k ∙ g;
               }
-          go (served a v k d e g i) = age (ageCase (state r n .tickets) (view r x n) (okAt r w x n))
+          go (served a v k d e g i) = age (agedBy (state r n .tickets) (view r x n) (okAt r w x n))
             where
               t : turns r j (suc n) ≡ suc (turns r j n)
               t = turns-more r j n v l
 
-              age : AgeCase (view r x n) → Sim c j (suc n)
-              age (asleep q z) = no-both (ap isWaiting (wt .0)) z
-              age (ticks q b g i m) = phases (aged (view r x n) .phase) waiting ready b (k .phase) (λ z. omega arith)
-              age (again q b g i m) = record {
+              age : AgedBy (view r x n) → WithoutReply c j (suc n)
+              age (unaged q z) = contradiction (ap isWaiting (wt .0)) z
+              age (waitsOn q b g i m) = other-phase (aged (view r x n) .phase) waiting ready b (k .phase) (λ z. omega arith)
+              age (readyAgain q b g i m) = record {
                 soon = λ z. absurd (omega (arith, z, t, b, wt .2));
                 over = λ z z′. absurd (omega (arith, k .sends, i, wt .3, z′));
               }
-              age (expires q b b′ g i m) = phases (aged (view r x n) .phase) gaveUp ready g (k .phase) (λ z. omega arith)
+              age (givesUp q b b′ g i m) = other-phase (aged (view r x n) .phase) gaveUp ready g (k .phase) (λ z. omega arith)
           go (gets f a k d e g i t m o) = absurd (u p (matches-true r w x c n f (awaited-matches r x c n h′ (wt .1) f a k d)))
 
-  sim-start : (c j : ℕ) → AfterSend c j → Sim c j (suc j)
-  sim-start c j a = record {
+  without-reply-start : (c j : ℕ) → AfterSend c j → WithoutReply c j (suc j)
+  without-reply-start c j a = record {
     soon = λ q. (a .phase, a .progress, omega (arith, a .left, turns-none r j (suc j) (omega arith)), refl);
     over = λ q. absurd (omega (arith, q, turns-none r j (suc j) (omega arith)));
   }
 
-  sim : (c j n : ℕ) → Sent r x c j → j < n → Stands r x n → ((m : ℕ) → j < m → m < n → turns r j m < 20 → ¬ Matches r x c m) → Sim c j n
-  sim c j n q l s = along-from r w x (suc j) (omega (arith, q .stands .0)) (λ k. Unmet k → Sim c j k) base step n l s
+  without-reply : (c j n : ℕ) → Sent r x c j → j < n → Stands r x n → ((m : ℕ) → j < m → m < n → turns r j m < 20 → ¬ Matches r x c m) → WithoutReply c j n
+  without-reply c j n q l s = along-from r w x (suc j) (omega (arith, q .stands .0)) (λ k. NoMatch k → WithoutReply c j k) base step n l s
     where
-      Unmet : ℕ → Type 0
-      Unmet n = (m : ℕ) → j < m → m < n → turns r j m < 20 → ¬ Matches r x c m
+      NoMatch : ℕ → Type 0
+      NoMatch n = (m : ℕ) → j < m → m < n → turns r j m < 20 → ¬ Matches r x c m
 
-      base : Unmet (suc j) → Sim c j (suc j)
-      base u = sim-start c j (after-send c j n q l s)
+      base : NoMatch (suc j) → WithoutReply c j (suc j)
+      base u = without-reply-start c j (after-send c j n q l s)
 
-      step : (k : ℕ) → Stands r x (suc k) → j < k → Held r x k → Move r x k → (Unmet k → Sim c j k) → Unmet (suc k) → Sim c j (suc k)
-      step k s h g m ih u = sim-step c j k h (omega (arith, q .stands .0)) s (u k h (omega arith)) (ih (λ m a b. u m a (omega arith)))
+      step : (k : ℕ) → Stands r x (suc k) → j < k → Held r x k → Move r x k → (NoMatch k → WithoutReply c j k) → NoMatch (suc k) → WithoutReply c j (suc k)
+      step k s h g m ih u = without-reply-step c j k h (omega (arith, q .stands .0)) s (u k h (omega arith)) (ih (λ m a b. u m a (omega arith)))
 
   -- ── replies ──────────────────────────────────────────────────────────────────────────────────────────────────────
 
@@ -244,8 +244,8 @@ module _ (r : Run) (w : Lawful r) (x : Transfer r) where
       h : Held r x m
       h = held r w x m (aw .stands)
 
-      sm : Sim c (aw .j) m
-      sm = sim c (aw .j) m (aw .sent) (aw .before) (aw .stands) (λ k a b q. aw .unmatched k a b)
+      sm : WithoutReply c (aw .j) m
+      sm = without-reply c (aw .j) m (aw .sent) (aw .before) (aw .stands) (λ k a b q. aw .unmatched k a b)
 
       wt : (view r x m .phase ≡ waiting) × (view r x m .progress ≡ 8 * c) × (view r x m .left + turns r (aw .j) m ≡ 20)
           × (view r x m .sends ≡ view r x (suc (aw .j)) .sends)
@@ -255,10 +255,10 @@ module _ (r : Run) (w : Lawful r) (x : Transfer r) where
           × (asks (view r x (suc m) .kind) ≡ true)
       go (stays a v k e f g) =
           let q = matches-ok r w x c m (p .matches) in
-          no-both (awaits-true (state r m) (q .0) (slotOf r x) (fits-awaited r x c m h (wt .1) (q .0) (q .1) (wt .0)))
+          contradiction (awaits-true (state r m) (q .0) (slotOf r x) (matches-awaited r x c m h (wt .1) (q .0) (q .1) (wt .0)))
           (g (q .0) (q .1 .is) (q .1 .passes))
-      go (waits a v k d f) = absurd (turn-unfit r x c m a (p .matches))
-      go (served a v k d e g i) = absurd (turn-unfit r x c m a (p .matches))
+      go (waits a v k d f) = absurd (turn-unmatched r x c m a (p .matches))
+      go (served a v k d e g i) = absurd (turn-unmatched r x c m a (p .matches))
       go (gets f a k d e g i t u o) = (
         wt .1,
         ap (λ (y : Slot). y .progress) g ∙ advanced-progress (view r x m) ∙ rw (wt .1, h .count),
@@ -269,10 +269,10 @@ module _ (r : Run) (w : Lawful r) (x : Transfer r) where
   pub reply-awaited : (c m : ℕ) (p : Replied r x c m) → awaits (state r m) (matches-ok r w x c m (p .matches) .0) (slotOf r x) ≡ true
   reply-awaited c m p =
       let aw : Awaits r x c m = p .awaits in
-      let sm : Sim c (aw .j) m = sim c (aw .j) m (aw .sent) (aw .before) (aw .stands) (λ k a b q. aw .unmatched k a b) in
+      let sm : WithoutReply c (aw .j) m = without-reply c (aw .j) m (aw .sent) (aw .before) (aw .stands) (λ k a b q. aw .unmatched k a b) in
       let fo = matches-ok r w x c m (p .matches) in
       awaits-true (state r m) (fo .0) (slotOf r x)
-      (fits-awaited r x c m (held r w x m (aw .stands)) (sm .soon (aw .soon) .1) (fo .0) (fo .1) (sm .soon (aw .soon) .0))
+      (matches-awaited r x c m (held r w x m (aw .stands)) (sm .soon (aw .soon) .1) (fo .0) (fo .1) (sm .soon (aw .soon) .0))
 
   -- and the frame call that brings it is answered 0
   pub reply-accepted : (c m : ℕ) → Replied r x c m → answer r m .number ≡ 0
@@ -282,10 +282,10 @@ module _ (r : Run) (w : Lawful r) (x : Transfer r) where
       fo = matches-ok r w x c m (p .matches)
 
       other-call : (d : Call) → r .calls m ≡ d → isFrame d ≡ false → answer r m .number ≡ 0
-      other-call d e q = no-both (ap isFrame (fo .1 .is)) (ap isFrame e ∙ q)
+      other-call d e q = contradiction (ap isFrame (fo .1 .is)) (ap isFrame e ∙ q)
 
       go : Kind (state r m) (buffer r m) (r .calls m) → answer r m .number ≡ 0
-      go (nothing a b d e f g) = no-both (reply-awaited c m p) (g (fo .0) (fo .1 .is) (fo .1 .passes) (slotOf r x) (openedAt r w x .bound))
+      go (nothing a b d e f g) = contradiction (reply-awaited c m p) (g (fo .0) (fo .1 .is) (fo .1 .passes) (slotOf r x) (openedAt r w x .bound))
       go (opens a k e f g l t z) = other-call (opening itsOwn a) e refl
       go (sends k e f z) = other-call (turn itsOwn) e refl
       go (idles e f z) = other-call (turn itsOwn) e refl
@@ -298,7 +298,7 @@ module _ (r : Run) (w : Lawful r) (x : Transfer r) where
   not-twice c m m′ q p p′ l =
       let s : Stands r x m′ = p′ .awaits .stands in
       let a = reply-taken c m m′ p l s in
-      let sm : Sim c (p′ .awaits .j) m′ = sim c (p′ .awaits .j) m′ (p′ .awaits .sent) (p′ .awaits .before) s
+      let sm : WithoutReply c (p′ .awaits .j) m′ = without-reply c (p′ .awaits .j) m′ (p′ .awaits .sent) (p′ .awaits .before) s
       (λ k a b z. p′ .awaits .unmatched k a b) in
       omega (arith, a .1, sm .soon (p′ .awaits .soon) .1, grown (suc m) m′ (omega (arith, p .awaits .stands .0)) (a .2) l s .progress, q)
 
@@ -320,7 +320,7 @@ module _ (r : Run) (w : Lawful r) (x : Transfer r) where
       at : (c m : ℕ) → Replied r x c m → (view r x m .phase ≡ waiting) × (view r x m .progress ≡ 8 * c)
       at c m p =
           let a : Awaits r x c m = p .awaits in
-          let q = sim c (a .j) m (a .sent) (a .before) (a .stands) (λ k b d q. a .unmatched k b d) .soon (a .soon) in
+          let q = without-reply c (a .j) m (a .sent) (a .before) (a .stands) (λ k b d q. a .unmatched k b d) .soon (a .soon) in
           (q .0, q .1)
 
       go : Dec (m < m′) → m < m′
@@ -380,5 +380,5 @@ module _ (r : Run) (w : Lawful r) (x : Transfer r) where
       three : view r x (suc (t .j₃)) .sends ≡ 3
       three = omega (arith, a₁ .sends, a₂ .sends, a₃ .sends, b₁₂, b₂₃, wk .thrice)
 
-      sm : Sim (t .c) (t .j₃) n
-      sm = sim (t .c) (t .j₃) n (t .third .sent) l₃ s (λ m a b q. t .third .unmatched m a q)
+      sm : WithoutReply (t .c) (t .j₃) n
+      sm = without-reply (t .c) (t .j₃) n (t .third .sent) l₃ s (λ m a b q. t .third .unmatched m a q)

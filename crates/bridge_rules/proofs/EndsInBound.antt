@@ -10,9 +10,9 @@ use Rattle.bridge_rules.specs.Turn.{aged, advanced}
 use Rattle.bridge_rules.specs.Run.{Run, storage, state, buffer, Lawful, Transfer, ticket, slotOf, Stands, turns, chunks}
 use Rattle.bridge_rules.proofs.Sound.{SlotOk, okFree, okReady, okWaiting, okDone, okGaveUp, aged-other, aged-waits, aged-again, aged-ends}
 use Rattle.bridge_rules.proofs.Sound.{advanced-more, advanced-done, sent-write, sent-read}
-use Rattle.bridge_rules.proofs.Effects.{Unserved, idle, elsewhere, dist, dist-small}
-use Rattle.bridge_rules.proofs.Storages.{turns-same, turns-more, turns-none}
-use Rattle.bridge_rules.proofs.Runs.{okAt, openedAt, view, Held, held, Move, stays, waits, served, gets, Begins, along-from}
+use Rattle.bridge_rules.proofs.SlotEffects.{Unserved, idle, elsewhere, distance, distance-small}
+use Rattle.bridge_rules.proofs.LedgerAgrees.{turns-same, turns-more, turns-none}
+use Rattle.bridge_rules.proofs.Standing.{okAt, openedAt, view, Held, held, Move, stays, waits, served, gets, Begins, along-from}
 
 -- the phases are told apart
 pub phase-clash : {A : Type 0} (p : ℕ) → p ≡ ready → p ≡ waiting → A
@@ -20,7 +20,7 @@ phase-clash p e f = absurd (false≢true (sym (ap isWaiting e) ∙ ap isWaiting 
 
 -- turns used, and turns that the current chunk may still take, by phase; nine turns a byte are 72 for eight
 pub record Budget (r : Run) (x : Transfer r) (j n : ℕ) : Type 0 where
-  pub ifReady : view r x n .phase ≡ ready → turns r j n + dist (state r n .last) (slotOf r x)
+  pub ifReady : view r x n .phase ≡ ready → turns r j n + distance (state r n .last) (slotOf r x)
       ≤ 9 * view r x n .progress + 3 + 24 * view r x n .sends
   pub ifWaiting : view r x n .phase ≡ waiting → turns r j n + view r x n .left ≤ 9 * view r x n .progress + 24 * view r x n .sends
 
@@ -108,23 +108,23 @@ module _ (r : Run) (w : Lawful r) (x : Transfer r) where
       t : turns r j (suc n) ≡ suc (turns r j n)
       t = turns-more r j n v l
 
-      ifReady : view r x (suc n) .phase ≡ ready → turns r j (suc n) + dist (state r (suc n) .last) (slotOf r x) ≤ 9 * view r x (suc n)
+      ifReady : view r x (suc n) .phase ≡ ready → turns r j (suc n) + distance (state r (suc n) .last) (slotOf r x) ≤ 9 * view r x (suc n)
           .progress + 3 + 24 * view r x (suc n) .sends
       ifReady p = pick (aged-ready (state r n .tickets) (view r x n) (okAt r w x n) q) u
         where
           q : aged (view r x n) .phase ≡ ready
           q = sym (ap (λ (y : Slot). y .phase) c) ∙ p
 
-          d3 : dist (state r (suc n) .last) (slotOf r x) ≤ 3
-          d3 = dist-small (state r (suc n) .last) (slotOf r x)
+          d3 : distance (state r (suc n) .last) (slotOf r x) ≤ 3
+          d3 = distance-small (state r (suc n) .last) (slotOf r x)
 
           pick : ReadyAfter (view r x n) → Unserved (state r n) (buffer r n) (r .calls n) (slotOf r x)
-              → turns r j (suc n) + dist (state r (suc n) .last) (slotOf r x) ≤ 9 * view r x (suc n) .progress + 3 + 24 * view r x
+              → turns r j (suc n) + distance (state r (suc n) .last) (slotOf r x) ≤ 9 * view r x (suc n) .progress + 3 + 24 * view r x
               (suc n) .sends
           pick (inr z) k = rw c (omega (arith, t, d3, z .1, z .2, z .3, b .ifWaiting (z .0)))
           pick (inl z) (idle f g i) = absurd (false≢true (sym g ∙ ap isReady q))
           pick (inl z) (elsewhere v f g i k m o) =
-              let near : dist (state r (suc n) .last) (slotOf r x) < dist (state r n .last) (slotOf r x) = rw m (o (ap isReady q)) in
+              let near : distance (state r (suc n) .last) (slotOf r x) < distance (state r n .last) (slotOf r x) = rw m (o (ap isReady q)) in
               rw (c, z .1) (omega (arith, t, near, b .ifReady (z .0)))
 
       ifWaiting : view r x (suc n) .phase ≡ waiting → turns r j (suc n) + view r x (suc n) .left ≤ 9 * view r x (suc n)
@@ -143,14 +143,14 @@ module _ (r : Run) (w : Lawful r) (x : Transfer r) where
       before : turns r j n ≤ 9 * aged (view r x n) .progress + 3 + 24 * aged (view r x n) .sends
       before = aged-budget j n b (c .phase)
 
-      d3 : dist (state r (suc n) .last) (slotOf r x) ≤ 3
-      d3 = dist-small (state r (suc n) .last) (slotOf r x)
+      d3 : distance (state r (suc n) .last) (slotOf r x) ≤ 3
+      d3 = distance-small (state r (suc n) .last) (slotOf r x)
 
       go : (carries (aged (view r x n) .kind) ≡ true) ⊎ (asks (aged (view r x n) .kind) ≡ true) → Budget r x j (suc n)
       go (inl u) =
           let z : view r x (suc n) ≡ advanced (aged (view r x n)) = d ∙ sent-write (aged (view r x n)) u in
           record {
-            ifReady = λ p. rw z (advance-budget (aged (view r x n)) (turns r j (suc n)) (dist (state r (suc n) .last) (slotOf r x))
+            ifReady = λ p. rw z (advance-budget (aged (view r x n)) (turns r j (suc n)) (distance (state r (suc n) .last) (slotOf r x))
                 (omega (arith, before, t, d3, c .none u)) (sym (ap (λ (y : Slot). y .phase) z) ∙ p));
             ifWaiting = λ p. absurd (advance-waits (aged (view r x n)) (sym (ap (λ (y : Slot). y .phase) z) ∙ p));
           }
@@ -162,17 +162,17 @@ module _ (r : Run) (w : Lawful r) (x : Transfer r) where
           }
   budget-step j n s l h (gets f a c d e g i k m o) b =
       let t : turns r j (suc n) ≡ turns r j n = turns-same r j n m in
-      let d3 : dist (state r (suc n) .last) (slotOf r x) ≤ 3 = dist-small (state r (suc n) .last) (slotOf r x) in
+      let d3 : distance (state r (suc n) .last) (slotOf r x) ≤ 3 = distance-small (state r (suc n) .last) (slotOf r x) in
       record {
-        ifReady = λ p. rw g (advance-budget (view r x n) (turns r j (suc n)) (dist (state r (suc n) .last) (slotOf r x))
+        ifReady = λ p. rw g (advance-budget (view r x n) (turns r j (suc n)) (distance (state r (suc n) .last) (slotOf r x))
             (omega (arith, t, d3, b .ifWaiting (e .phase), e .thrice, e .some)) (sym (ap (λ (y : Slot). y .phase) g) ∙ p));
         ifWaiting = λ p. absurd (advance-waits (view r x n) (sym (ap (λ (y : Slot). y .phase) g) ∙ p));
       }
 
   base : (j : ℕ) → Begins r x (suc j) → Budget r x j (suc j)
   base j g = record {
-    ifReady = λ p. let d3 : dist (state r (suc j) .last) (slotOf r x) ≤ 3
-        = dist-small (state r (suc j) .last) (slotOf r x) in omega (arith, turns-none r j (suc j) (omega arith));
+    ifReady = λ p. let d3 : distance (state r (suc j) .last) (slotOf r x) ≤ 3
+        = distance-small (state r (suc j) .last) (slotOf r x) in omega (arith, turns-none r j (suc j) (omega arith));
     ifWaiting = λ p. phase-clash (view r x (suc j) .phase) (g .phase) p;
   }
 

@@ -17,20 +17,20 @@ use Rattle.bridge_rules.specs.Demand3.{After, Claims, ReadClaims, runOf,
 use Rattle.bridge_rules.specs.Calls.{Calls}
 use Rattle.bridge_rules.proofs.ReadWrite.{read-of}
 use Rattle.bridge_rules.proofs.Sound.{sound-numbers, SlotOk, okFree, okReady, okWaiting, okDone, okGaveUp}
-use Rattle.bridge_rules.proofs.Runs.{begins-open, okAt, openedAt, view, Held, held}
-use Rattle.bridge_rules.proofs.Storages.{storage-sound}
+use Rattle.bridge_rules.proofs.Standing.{begins-open, okAt, openedAt, view, Held, held}
+use Rattle.bridge_rules.proofs.LedgerAgrees.{storage-sound}
 use Rattle.bridge_rules.proofs.Status.{done-is, gave-up-is, unfinished-is, unknown-ticket}
-use Rattle.bridge_rules.proofs.Bound.{ended}
-use Rattle.bridge_rules.proofs.Ages.{phases}
-use Rattle.bridge_rules.proofs.Past.{past-read, Past, Got, Fails}
-use Rattle.bridge_rules.proofs.Ahead.{reply-accepted, replied-once, replied-order, replied-done, failed-thrice}
+use Rattle.bridge_rules.proofs.EndsInBound.{ended}
+use Rattle.bridge_rules.proofs.Aging.{other-phase}
+use Rattle.bridge_rules.proofs.AskedSoFar.{read-so-far, AskedSoFar, Got, Fails}
+use Rattle.bridge_rules.proofs.AfterSend.{reply-accepted, replied-once, replied-order, replied-done, failed-thrice}
 use Rattle.bridge_rules.proofs.ShownBytes.{done-progress, hidden, write-hidden, shown-joined, shown-whole, all-got}
-use Rattle.bridge_rules.proofs.Writes.{all-written-done, done-all-written}
-use Rattle.bridge_rules.proofs.Slots.{places, alone, no-holder, known-holder}
+use Rattle.bridge_rules.proofs.WrittenInOrder.{all-written-done, done-all-written}
+use Rattle.bridge_rules.proofs.SlotHolders.{places, alone, no-holder, known-holder}
 use Rattle.bridge_rules.proofs.TableBytes.{table-meanwhile, some-moment}
 use Rattle.bridge_rules.proofs.Keeps.{keeps-sound, reset-fresh, unsound-refused, refusals-keep}
-use Rattle.bridge_rules.proofs.Numbers.{opening-numbers, opens-exactly, numbers-in-runs}
-use Rattle.bridge_rules.proofs.Turns.{turn-sends, sends-for-transfers}
+use Rattle.bridge_rules.proofs.NumbersInRuns.{opening-numbers, opens-exactly, numbers-in-runs}
+use Rattle.bridge_rules.proofs.TurnSends.{turn-sends, sends-for-transfers}
 
 module _ (r : Run) (w : Lawful r) (x : Transfer r) (n : ℕ) (s : Stands r x n) where
   gaveUp→ : view r x n .phase ≡ gaveUp → ThreeFailed r x n
@@ -40,12 +40,12 @@ module _ (r : Run) (w : Lawful r) (x : Transfer r) (n : ℕ) (s : Stands r x n) 
       h = held r w x n s
 
       go : SlotOk (state r n .tickets) (view r x n) → ThreeFailed r x n
-      go (okFree q) = phases (view r x n .phase) free gaveUp (ap (λ (y : Slot). y .phase) q) e (λ z. omega arith)
-      go (okReady q c m i v l) = phases (view r x n .phase) ready gaveUp q e (λ z. omega arith)
-      go (okWaiting q c m v i i′ l l′) = phases (view r x n .phase) waiting gaveUp q e (λ z. omega arith)
-      go (okDone q c p i l) = phases (view r x n .phase) done gaveUp q e (λ z. omega arith)
+      go (okFree q) = other-phase (view r x n .phase) free gaveUp (ap (λ (y : Slot). y .phase) q) e (λ z. omega arith)
+      go (okReady q c m i v l) = other-phase (view r x n .phase) ready gaveUp q e (λ z. omega arith)
+      go (okWaiting q c m v i i′ l l′) = other-phase (view r x n .phase) waiting gaveUp q e (λ z. omega arith)
+      go (okDone q c p i l) = other-phase (view r x n .phase) done gaveUp q e (λ z. omega arith)
       go (okGaveUp q c m v i l) =
-          let f : Fails r x (m .chunk) 3 n n = past-read r w x (read-of (x .ask) (h .kind) v) n s .ifGaveUp e (m .chunk) (m .at) in
+          let f : Fails r x (m .chunk) 3 n n = read-so-far r w x (read-of (x .ask) (h .kind) v) n s .ifGaveUp e (m .chunk) (m .at) in
           record {
             c = m .chunk;
             j₁ = f .3 .3 .0;
@@ -81,8 +81,8 @@ module _ (r : Run) (w : Lawful r) (x : Transfer r) (n : ℕ) (s : Stands r x n) 
     during = λ t τ₀ a h. some-moment r w x n t a τ₀ h s p;
   }
     where
-      p : Past r x n
-      p = past-read r w x rd n s
+      p : AskedSoFar r x n
+      p = read-so-far r w x rd n s
 
       back : ((c : ℕ) → c < chunks r x → (m : ℕ) × (m < n) × Replied r x c m) → statusAt r x n ≡ 0
       back h =

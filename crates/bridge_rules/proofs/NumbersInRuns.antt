@@ -24,16 +24,16 @@ use Rattle.bridge_rules.specs.Call.{bytes, turn, frame, close, reset, Ca
 use Rattle.bridge_rules.specs.Run.{ticket, Run, Lawful, Shaped, Transfer, Stands, slotOf, state, buffer, answer, accepted, ledger}
 use Rattle.bridge_rules.specs.Replies.{Replied}
 use Rattle.bridge_rules.specs.Calls.{FrameInRun, NumbersInRun, NumbersInRuns, OpeningNumber, OpeningNumbers, OpeningInRun, Acceptable, OpensExactly}
-use Rattle.bridge_rules.proofs.Refusals.{OpenFacts, open-facts, open-lent, lent-clear, lent-ten, open-later, open-ten, reply-later, reply-ten}
+use Rattle.bridge_rules.proofs.NumberLaws.{OpenFacts, open-facts, open-lent, lent-clear, lent-ten, open-later, open-ten, reply-later, reply-ten}
 use Rattle.bridge_rules.proofs.ReadWrite.{read-of}
-use Rattle.bridge_rules.proofs.CallKinds.{WaitOk, wait-ok, awaits-ok, freeAt}
-use Rattle.bridge_rules.proofs.Storages.{own-is, storage-sound, agrees}
-use Rattle.bridge_rules.proofs.Runs.{view, Held, held, okAt, held-slot, openedAt}
+use Rattle.bridge_rules.proofs.CallCases.{WaitOk, wait-ok, awaits-ok, freeAt}
+use Rattle.bridge_rules.proofs.LedgerAgrees.{own-is, storage-sound, agrees}
+use Rattle.bridge_rules.proofs.Standing.{view, Held, held, okAt, held-slot, openedAt}
 use Rattle.bridge_rules.proofs.Status.{held-by}
-use Rattle.bridge_rules.proofs.Sends.{matches-ok}
-use Rattle.bridge_rules.proofs.Past.{past-read, awaited-replied}
-use Rattle.bridge_rules.proofs.Ahead.{reply-awaited}
-use Rattle.bridge_rules.proofs.Slots.{no-holder, known-holder, occupied}
+use Rattle.bridge_rules.proofs.SentRequests.{matches-ok}
+use Rattle.bridge_rules.proofs.AskedSoFar.{read-so-far, awaited-replied}
+use Rattle.bridge_rules.proofs.AfterSend.{reply-awaited}
+use Rattle.bridge_rules.proofs.SlotHolders.{no-holder, known-holder, occupied}
 use Rattle.bridge_rules.proofs.Keeps.{sends-zero}
 use Rattle.bridge_rules.proofs.Search.{cases, and-intro, and-true, Lowest, lowest-some, lowest-none, option-cases}
 use Rattle.bridge_rules.proofs.Sound.{sound-true}
@@ -78,19 +78,19 @@ sound-test true = (λ e. absurd (false≢true e), λ e. absurd (true≢false e))
 sound-test false = (λ e. refl, λ e. refl)
 
 -- a refusal that goes before others
-past-if : (m : ℕ) (t : Bool) (k x : ℕ) → (((suc m) if t else k) orElse x) ≡ ((suc m) if t else (k orElse x))
+if-orElse : (m : ℕ) (t : Bool) (k x : ℕ) → (((suc m) if t else k) orElse x) ≡ ((suc m) if t else (k orElse x))
 unfolding _if_else_ _orElse_
-past-if m true k x = refl
-past-if m false k x = refl
+if-orElse m true k x = refl
+if-orElse m false k x = refl
 
-past-none : (x : ℕ) → (0 orElse x) ≡ x
+zero-orElse : (x : ℕ) → (0 orElse x) ≡ x
 unfolding _orElse_
-past-none x = refl
+zero-orElse x = refl
 
-past-past : (a b c : ℕ) → ((a orElse b) orElse c) ≡ (a orElse (b orElse c))
+orElse-orElse : (a b c : ℕ) → ((a orElse b) orElse c) ≡ (a orElse (b orElse c))
 unfolding _orElse_
-past-past zero b c = refl
-past-past (suc a) b c = refl
+orElse-orElse zero b c = refl
+orElse-orElse (suc a) b c = refl
 
 -- two tests of one number
 either : (m : ℕ) (t u : Bool) (k : ℕ) → (m if t else m if u else k) ≡ (m if (t || u) else k)
@@ -146,7 +146,7 @@ args-chain d t o c x n rest r = (λ e. tests .0 (sym flat ∙ e), λ p. flat ∙
   where
     flat : (askNumber d t o c orElse x)
         ≡ (7 if (ltb 15 d || ltb 31 t) else 9 if (eqb c 0 || ltb 128 c) else 8 if ltb 2048 (o + c) else x)
-    flat = rw (past-if, past-if, past-if, past-if, past-if, past-none) (either 7 (ltb 15 d) (ltb 31 t) _
+    flat = rw (if-orElse, if-orElse, if-orElse, if-orElse, if-orElse, zero-orElse) (either 7 (ltb 15 d) (ltb 31 t) _
         ∙ ap (λ (k : ℕ). 7 if (ltb 15 d || ltb 31 t) else k) (either 9 (eqb c 0) (ltb 128 c) _))
 
     tests : ((7 if (ltb 15 d || ltb 31 t) else 9 if (eqb c 0 || ltb 128 c) else 8 if ltb 2048 (o + c) else x) ≡ n)
@@ -219,7 +219,7 @@ opening-numbers s b a n = (λ e. h .0 (sym (number-is s b a) ∙ e), λ p. numbe
     h = (λ e. tests .0 (sym flat ∙ e), λ p. flat ∙ tests .1 p)
       where
         flat : openNumber s (length b) a ≡ (11 if not (sound s) else 10 if not (eqb (length b) 512) else later s a)
-        flat = rw (past-if, past-if, past-none)
+        flat = rw (if-orElse, if-orElse, zero-orElse)
 
         tests : ((11 if not (sound s) else 10 if not (eqb (length b) 512) else later s a) ≡ n) ↔ OpeningNumber s b a n
         tests = first-if 11 (not (sound s)) _ n (sound s ≡ false) (First (length b ≢ 512) 10 (Later a Full Used)) (sound-test (sound s))
@@ -321,11 +321,11 @@ head-chain : (own : ℕ) (f : Frame) (x : ℕ) → (headNumber own f orElse x)
     ≡ (1 if leb (2 ^ 29) (f .id) else 2 if not (eqb (idSpare (f .id)) 0) else 3 if ltb 8 (f .len)
     else 4 if not (eqb (idTo (f .id)) own) else x)
 unfolding headNumber
-head-chain own f x = rw (past-if, past-if, past-if, past-if, past-none)
+head-chain own f x = rw (if-orElse, if-orElse, if-orElse, if-orElse, zero-orElse)
 
 content-chain : (own : ℕ) (f : Frame) (rest : ℕ) → (contentNumber own f orElse rest) ≡ frameChain own f rest
 unfolding contentNumber
-content-chain own f rest = rw (past-past, past-if 4 (not (eqb (idKind (f .id)) rsp)) 0 rest, past-none) (head-chain own f _)
+content-chain own f rest = rw (orElse-orElse, if-orElse 4 (not (eqb (idKind (f .id)) rsp)) 0 rest, zero-orElse) (head-chain own f _)
 
 content-clear : (own : ℕ) (f : Frame) → leb (2 ^ 29) (f .id) ≡ false → not (eqb (idSpare (f .id)) 0) ≡ false → ltb 8 (f .len) ≡ false
     → not (eqb (idTo (f .id)) own) ≡ false → not (eqb (idKind (f .id)) rsp) ≡ false → contentNumber own f ≡ 0
@@ -391,7 +391,7 @@ module _ (r : Run) (w : Lawful r) (n : ℕ) where
         go (x, s, q) = (
           x,
           wx .mid .chunk,
-          awaited-replied r w x n f s h (past-read r w x rd n s) e z
+          awaited-replied r w x n f s h (read-so-far r w x rd n s) e z
               (awaits-ok (state r n) f (slotOf r x) ax) wx,
         )
           where

@@ -21,10 +21,10 @@ use Rattle.bridge_rules.specs.Run.{Run, storage, state, buffer, answer, 
 use Rattle.bridge_rules.proofs.Search.{Lowest}
 use Rattle.bridge_rules.proofs.Sound.{SlotOk, okFree, okReady, okWaiting, okDone, okGaveUp, held-free, Sound, Same, same-refl, ReadyOk, aged-same, advanced-same, sent-same}
 use Rattle.bridge_rules.proofs.Sound.{slot-set-same, no-ticket}
-use Rattle.bridge_rules.proofs.CallKinds.{Kind, nothing, opens, sends, idles, takes, closes, resets, LawfulAsk, freeAt, WaitOk, AwaitsOk}
-use Rattle.bridge_rules.proofs.CallKinds.{isOpening, isNoted}
-use Rattle.bridge_rules.proofs.Effects.{Effect, still, ages, serves, taken, opensHere, closesHere, resetsHere, Unserved, Window}
-use Rattle.bridge_rules.proofs.Storages.{storage-sound, kindAt, effectAt, agrees, lowest-agrees}
+use Rattle.bridge_rules.proofs.CallCases.{Kind, nothing, opens, sends, idles, takes, closes, resets, LawfulAsk, freeAt, WaitOk, AwaitsOk}
+use Rattle.bridge_rules.proofs.CallCases.{isOpening, isNoted}
+use Rattle.bridge_rules.proofs.SlotEffects.{Effect, still, ages, serves, taken, opensHere, closesHere, resetsHere, Unserved, SamePart}
+use Rattle.bridge_rules.proofs.LedgerAgrees.{storage-sound, kindAt, effectAt, agrees, lowest-agrees}
 
 -- ── a transfer's opening ───────────────────────────────────────────────────────────────────────────────────────────
 
@@ -96,7 +96,7 @@ pub record Begins (r : Run) (x : Transfer r) (b : ℕ) : Type 0 where
 
 -- what a call does to a standing transfer
 pub data Move (r : Run) (x : Transfer r) (n : ℕ) : Type 0 where
-  stays : view r x (suc n) ≡ view r x n → Window (slotOf r x) (buffer r n) (buffer r (suc n)) → state r (suc n) .last ≡ state r n .last
+  stays : view r x (suc n) ≡ view r x n → SamePart (slotOf r x) (buffer r n) (buffer r (suc n)) → state r (suc n) .last ≡ state r n .last
       → accepted r n ≡ false → answer r n .sent ≡ none
       → ((f : Frame) → r .calls n ≡ frame itsOwn f → contentNumber (state r n .own) f ≡ 0 → awaits (state r n) f (slotOf r x) ≡ false)
       → Move r x n

@@ -22,9 +22,9 @@ use Rattle.bridge_rules.proofs.ReadWrite.{asks-alone}
 use Rattle.bridge_rules.proofs.FrameLaws.{kinds-apart, id-of, reply-byte, read-is, write-is}
 use Rattle.bridge_rules.proofs.Search.{some-eq, and-true}
 use Rattle.bridge_rules.proofs.Sound.{ReadyOk}
-use Rattle.bridge_rules.proofs.CallKinds.{AwaitsOk, LawfulAsk}
-use Rattle.bridge_rules.proofs.Storages.{storage-sound, own-is}
-use Rattle.bridge_rules.proofs.Runs.{openedAt, view, Held, waits}
+use Rattle.bridge_rules.proofs.CallCases.{AwaitsOk, LawfulAsk}
+use Rattle.bridge_rules.proofs.LedgerAgrees.{storage-sound, own-is}
+use Rattle.bridge_rules.proofs.Standing.{openedAt, view, Held, waits}
 
 request-byte : (r : Run) (x : Transfer r) (c j : ℕ) → getD (requestFrame r x c j .bytes) 1 0 ≡ (128 * slotOf r x + 8 * c) / 8
 unfolding requestFrame
@@ -143,13 +143,13 @@ matches-true r w x c m f h = rw (
 )
 
 -- a turn is no frame that matches
-pub turn-unfit : (r : Run) (x : Transfer r) (c m : ℕ) → r .calls m ≡ turn itsOwn → ¬ Matches r x c m
-turn-unfit r x c m e h = false≢true (sym (ap (matchesCall r x c m) e) ∙ h)
+pub turn-unmatched : (r : Run) (x : Transfer r) (c m : ℕ) → r .calls m ≡ turn itsOwn → ¬ Matches r x c m
+turn-unmatched r x c m e h = false≢true (sym (ap (matchesCall r x c m) e) ∙ h)
 
 module _ (r : Run) (x : Transfer r) (c m : ℕ) (h : Held r x m) (p : view r x m .progress ≡ 8 * c) where
   -- a waiting read at chunk c awaits what matches chunk c
-  pub fits-awaited : (f : Frame) → MatchesOk r x c m f → view r x m .phase ≡ waiting → AwaitsOk (state r m) f (slotOf r x)
-  fits-awaited f a q = record {
+  pub matches-awaited : (f : Frame) → MatchesOk r x c m f → view r x m .phase ≡ waiting → AwaitsOk (state r m) f (slotOf r x)
+  matches-awaited f a q = record {
     waits = ap isWaiting q;
     table = a .table;
     device = a .device ∙ sym (h .device);

@@ -19,9 +19,9 @@ use Rattle.bridge_rules.specs.Call.{Call, itsOwn, opening, turn, frame, 
 use Rattle.bridge_rules.specs.Run.{Run, storage, state, buffer, answer, Lawful, accepted, turns, Ledger, newLedger, firstGivable, noted, ledger}
 use Rattle.bridge_rules.proofs.Search.{cases, Lowest}
 use Rattle.bridge_rules.proofs.Sound.{Sound, aged-same, advanced-same, sent-same, slot-set-same, slot-set-other, no-ticket, has-ticket}
-use Rattle.bridge_rules.proofs.CallKinds.{Kind, nothing, opens, sends, idles, takes, closes, resets, kind, kind-sound, fresh-sound}
-use Rattle.bridge_rules.proofs.CallKinds.{fresh-slot, freeAt, isNoted, openResult, closeResult, opened-ticket}
-use Rattle.bridge_rules.proofs.Effects.{Effect, still, ages, serves, taken, opensHere, closesHere, resetsHere, effect}
+use Rattle.bridge_rules.proofs.CallCases.{Kind, nothing, opens, sends, idles, takes, closes, resets, kind, kind-sound, fresh-sound}
+use Rattle.bridge_rules.proofs.CallCases.{fresh-slot, freeAt, isNoted, openResult, closeResult, opened-ticket}
+use Rattle.bridge_rules.proofs.SlotEffects.{Effect, still, ages, serves, taken, opensHere, closesHere, resetsHere, effect}
 
 -- ── turns ──────────────────────────────────────────────────────────────────────────────────────────────────────────
 

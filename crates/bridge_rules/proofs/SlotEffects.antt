@@ -22,26 +22,26 @@ use Rattle.bridge_rules.specs.Run.{isTurn}
 use Rattle.bridge_rules.proofs.FrameLaws.{len-inside, content-short}
 use Rattle.bridge_rules.proofs.Search.{cases}
 use Rattle.bridge_rules.proofs.Sound.{Sound, ReadyOk, ready-ok, slot-set-same, slot-set-other}
-use Rattle.bridge_rules.proofs.CallKinds.{Kind, nothing, opens, sends, idles, takes, closes, resets, LawfulAsk, freeAt, readyAt, slot-aged}
-use Rattle.bridge_rules.proofs.CallKinds.{aged-sound, fresh-slot, WaitOk, wait-ok, AwaitsOk, awaits-ok, isOpening, openResult, takeResult}
-use Rattle.bridge_rules.proofs.CallKinds.{closeResult}
+use Rattle.bridge_rules.proofs.CallCases.{Kind, nothing, opens, sends, idles, takes, closes, resets, LawfulAsk, freeAt, readyAt, slot-aged}
+use Rattle.bridge_rules.proofs.CallCases.{aged-sound, fresh-slot, WaitOk, wait-ok, AwaitsOk, awaits-ok, isOpening, openResult, takeResult}
+use Rattle.bridge_rules.proofs.CallCases.{closeResult}
 
 -- how many slots are looked at before slot k
-unfoldable pub dist : ℕ → ℕ → ℕ
-dist last k = (k + 3 - last) % 4
+unfoldable pub distance : ℕ → ℕ → ℕ
+distance last k = (k + 3 - last) % 4
 
-pub dist-small : (last k : ℕ) → dist last k ≤ 3
-unfolding dist
-dist-small last k = omega arith
+pub distance-small : (last k : ℕ) → distance last k ≤ 3
+unfolding distance
+distance-small last k = omega arith
 
-pub dist-is : (last k : ℕ) → last ≤ 3 → k < 4 → (suc last + dist last k) % 4 ≡ k
-unfolding dist
-dist-is last k h l = omega arith
+pub distance-is : (last k : ℕ) → last ≤ 3 → k < 4 → (suc last + distance last k) % 4 ≡ k
+unfolding distance
+distance-is last k h l = omega arith
 
 -- the slot served at distance d comes before k: then k is nearer
-pub dist-less : (last k d : ℕ) → last ≤ 3 → k < 4 → d < dist last k → dist ((suc last + d) % 4) k < dist last k
-unfolding dist
-dist-less last k d h l e = omega arith
+pub distance-less : (last k d : ℕ) → last ≤ 3 → k < 4 → d < distance last k → distance ((suc last + d) % 4) k < distance last k
+unfolding distance
+distance-less last k d h l e = omega arith
 
 -- ── stores ─────────────────────────────────────────────────────────────────────────────────────────────────────────
 
@@ -64,11 +64,11 @@ getD-sets-in l i (a ∷ vs) (suc e) h m =
     rw z (getD-sets-in (set l i a) (suc i) vs e (omega (arith, length-set l i a)) (omega arith))
 
 -- slot k's part of the buffer is the same
-abbrev pub Window : ℕ → List ℕ → List ℕ → Type 0
-Window k b b′ = (i : ℕ) → i < 128 → getD b′ (128 * k + i) 0 ≡ getD b (128 * k + i) 0
+abbrev pub SamePart : ℕ → List ℕ → List ℕ → Type 0
+SamePart k b b′ = (i : ℕ) → i < 128 → getD b′ (128 * k + i) 0 ≡ getD b (128 * k + i) 0
 
-window-sets : (k j : ℕ) (b vs : List ℕ) (p : ℕ) → k ≢ j → p + length vs ≤ 128 → Window k b (sets b (128 * j + p) vs)
-window-sets k j b vs p d h i l = go (decLt k j)
+sets-elsewhere : (k j : ℕ) (b vs : List ℕ) (p : ℕ) → k ≢ j → p + length vs ≤ 128 → SamePart k b (sets b (128 * j + p) vs)
+sets-elsewhere k j b vs p d h i l = go (decLt k j)
   where
     go : Dec (k < j) → getD (sets b (128 * j + p) vs) (128 * k + i) 0 ≡ getD b (128 * k + i) 0
     go (yes q) = getD-sets-below b (128 * j + p) vs (128 * k + i) (omega arith)
@@ -84,10 +84,10 @@ pub data Unserved (s : Bridge) (b : List ℕ) (c : Call) (k : ℕ) : Type 0 wher
   idle : step s b c .answer .sent ≡ none → isReady (aged (slot s k) .phase) ≡ false → step s b c .state .last ≡ s .last → Unserved s b c k
   elsewhere : (j : ℕ) → j < 4 → j ≢ k → ReadyOk (s .tickets) (aged (slot s j))
       → step s b c .answer .sent ≡ some (sentFrame (s .own) j (aged (slot s j)) b)
-      → step s b c .state .last ≡ j → (isReady (aged (slot s k) .phase) ≡ true → dist j k < dist (s .last) k) → Unserved s b c k
+      → step s b c .state .last ≡ j → (isReady (aged (slot s k) .phase) ≡ true → distance j k < distance (s .last) k) → Unserved s b c k
 
 pub data Effect (s : Bridge) (b : List ℕ) (c : Call) (k : ℕ) : Type 0 where
-  still : slot (step s b c .state) k ≡ slot s k → Window k b (step s b c .buffer) → step s b c .state .last ≡ s .last
+  still : slot (step s b c .state) k ≡ slot s k → SamePart k b (step s b c .buffer) → step s b c .state .last ≡ s .last
       → turnedBy s b c ≡ false → step s b c .answer .sent ≡ none
       → ((f : Frame) → c ≡ frame itsOwn f → contentNumber (s .own) f ≡ 0 → awaits s f k ≡ false) → Effect s b c k
   ages : c ≡ turn itsOwn → turnedBy s b c ≡ true → slot (step s b c .state) k ≡ aged (slot s k) → step s b c .buffer ≡ b
@@ -131,7 +131,7 @@ module _ (s : Bridge) (b : List ℕ) (c : Call) (h : Sound s) (k : ℕ) (l : k <
           ∙ g .passes) w (rw z (slot-set-same s _ k _ (h .four) (ap (λ (i : ℕ). set (s .slots) i (opened a (suc (s .tickets)))) p) l))
           (rw (z, p)) (rw z) (rw z)
       go (no p) = still (same-slot (openResult s b a j) j (opened a (suc (s .tickets))) z refl p)
-          (rw z (let u : 128 * j ≡ 128 * j + 0 = omega arith in rw u (window-sets k j b (askGiven a) 0 (λ v. p (sym v)) (given-short a w))))
+          (rw z (let u : 128 * j ≡ 128 * j + 0 = omega arith in rw u (sets-elsewhere k j b (askGiven a) 0 (λ v. p (sym v)) (given-short a w))))
           (rw z) (rw e) (rw z) (λ f q. absurd (no-frame (ap isOpening e) f q))
   effect (sends j e f z) = go (ℕ-discrete j k)
     where
@@ -149,26 +149,26 @@ module _ (s : Bridge) (b : List ℕ) (c : Call) (h : Sound s) (k : ℕ) (l : k <
       go (no p) = ages e (rw (z, e)) (rw z (slot-set-other (agedBridge s) _ j k _ refl (λ u. p (sym u))) ∙ slot-aged s k) (rw z)
           (elsewhere j bound p (ready j bound (f .passes)) (rw (z, slot-aged s j)) (rw z) nearer)
         where
-          nearer : isReady (aged (slot s k) .phase) ≡ true → dist j k < dist (s .last) k
-          nearer r = less (decLt (f .d) (dist (s .last) k))
+          nearer : isReady (aged (slot s k) .phase) ≡ true → distance j k < distance (s .last) k
+          nearer r = less (decLt (f .d) (distance (s .last) k))
             where
-              at-k : readyAt (agedBridge s) ((suc (s .last) + dist (s .last) k) % 4) ≡ true
-              at-k = rw (dist-is (s .last) k (h .last) l, slot-aged s k) r
+              at-k : readyAt (agedBridge s) ((suc (s .last) + distance (s .last) k) % 4) ≡ true
+              at-k = rw (distance-is (s .last) k (h .last) l, slot-aged s k) r
 
-              less : Dec (f .d < dist (s .last) k) → dist j k < dist (s .last) k
-              less (yes q) = rw (f .is) (dist-less (s .last) k (f .d) (h .last) l q)
-              less (no q) = eqd (ℕ-discrete (f .d) (dist (s .last) k))
+              less : Dec (f .d < distance (s .last) k) → distance j k < distance (s .last) k
+              less (yes q) = rw (f .is) (distance-less (s .last) k (f .d) (h .last) l q)
+              less (no q) = eqd (ℕ-discrete (f .d) (distance (s .last) k))
                 where
-                  eqd : Dec (f .d ≡ dist (s .last) k) → dist j k < dist (s .last) k
-                  eqd (yes u) = absurd (p (f .is ∙ ap (λ (n : ℕ). (suc (s .last) + n) % 4) u ∙ dist-is (s .last) k (h .last) l))
-                  eqd (no u) = absurd (true≢false (sym at-k ∙ f .skipped (dist (s .last) k) (omega arith)))
+                  eqd : Dec (f .d ≡ distance (s .last) k) → distance j k < distance (s .last) k
+                  eqd (yes u) = absurd (p (f .is ∙ ap (λ (n : ℕ). (suc (s .last) + n) % 4) u ∙ distance-is (s .last) k (h .last) l))
+                  eqd (no u) = absurd (true≢false (sym at-k ∙ f .skipped (distance (s .last) k) (omega arith)))
   effect (idles e f z) = ages e (rw (z, e)) (rw z (slot-aged s k)) (rw z) (idle (rw z) unready (rw z))
     where
       unready : isReady (aged (slot s k) .phase) ≡ false
       unready =
-          let q : readyAt (agedBridge s) ((suc (s .last) + dist (s .last) k) % 4) ≡ false
-          = f (dist (s .last) k) (omega (arith, dist-small (s .last) k)) in
-          rw (dist-is (s .last) k (h .last) l, slot-aged s k) at q
+          let q : readyAt (agedBridge s) ((suc (s .last) + distance (s .last) k) % 4) ≡ false
+          = f (distance (s .last) k) (omega (arith, distance-small (s .last) k)) in
+          rw (distance-is (s .last) k (h .last) l, slot-aged s k) at q
   effect (takes f j e r m a z) = go (ℕ-discrete j k)
     where
       w : WaitOk (s .tickets) (slot s j)
@@ -179,7 +179,7 @@ module _ (s : Bridge) (b : List ℕ) (c : Call) (h : Sound s) (k : ℕ) (l : k <
           (rw z (slot-set-same s _ k _ (h .four) (ap (λ (i : ℕ). set (s .slots) i (advanced (slot s i))) p) l)) (rw (z, p)) (rw z)
           (rw e) (rw z)
       go (no p) = still (same-slot (takeResult s b f j) j (advanced (slot s j)) z refl p)
-          (rw z (window-sets k j b (content f) (slot s j .progress) (λ v. p (sym v)) short))
+          (rw z (sets-elsewhere k j b (content f) (slot s j .progress) (λ v. p (sym v)) short))
           (rw z) (rw e) (rw z) (λ g q u. only g q (cases (awaits s g k)))
         where
           short : slot s j .progress + length (content f) ≤ 128

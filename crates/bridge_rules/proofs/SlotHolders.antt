@@ -19,11 +19,11 @@ use Rattle.bridge_rules.specs.Run.{ledger, Run, storage, state, buffer, 
 use Rattle.bridge_rules.specs.Demand3.{Places}
 use Rattle.bridge_rules.proofs.Search.{some-eq, none-some, cases, Lowest, lowest-some, and-true, option-cases}
 use Rattle.bridge_rules.proofs.Sound.{held-free, Sound, sound-true, slot-set-same, ReadyOk, ready-ok, aged-other, aged-same}
-use Rattle.bridge_rules.proofs.CallKinds.{Kind, nothing, opens, sends, idles, takes, closes, resets, heldBy, slot-aged, aged-sound}
-use Rattle.bridge_rules.proofs.CallKinds.{fresh-slot, freeAt, closeResult}
-use Rattle.bridge_rules.proofs.Effects.{Effect, still, ages, serves, taken, opensHere, closesHere, resetsHere}
-use Rattle.bridge_rules.proofs.Storages.{storage-sound, kindAt, effectAt, agrees, lowest-agrees}
-use Rattle.bridge_rules.proofs.Runs.{held-slot, openedAt, view, held}
+use Rattle.bridge_rules.proofs.CallCases.{Kind, nothing, opens, sends, idles, takes, closes, resets, heldBy, slot-aged, aged-sound}
+use Rattle.bridge_rules.proofs.CallCases.{fresh-slot, freeAt, closeResult}
+use Rattle.bridge_rules.proofs.SlotEffects.{Effect, still, ages, serves, taken, opensHere, closesHere, resetsHere}
+use Rattle.bridge_rules.proofs.LedgerAgrees.{storage-sound, kindAt, effectAt, agrees, lowest-agrees}
+use Rattle.bridge_rules.proofs.Standing.{held-slot, openedAt, view, held}
 use Rattle.bridge_rules.proofs.Status.{held-by}
 
 close-is : (s : Bridge) (b : List ℕ) (t k : ℕ) → sound s ≡ true → heldSlot s t ≡ some k → step s b (close t) ≡ closeResult s b k
