@@ -18,9 +18,12 @@ use crate::rows::offset_of;
 use crate::rows::request_of;
 use crate::rows::table_of;
 ghost use mathlib.Core.Path.{_≡_};
-ghost use Prim.Native.Nat.{_+_, _*_, _≤_, _<_};
+ghost use mathlib.Core.List.{List};
+ghost use Prim.Native.Nat.{ℕ, _+_, _*_, _≤_, _<_};
 ghost use lib.ListN.{length, take, drop};
-ghost use Rattle.bus_rules.specs.Holder.{startOf, sizeOf, rightOf, totalOf, soundTables, directoryNumber, memoryNumber, commandNumber, requestNumber, queryNumber, kindNumber, serveNumber, requestAt, tableOf, noAnswer, replyTo, placeOf, protocol, actOf, memoryAct, serveOf, memoryOf};
+ghost use Rattle.bus_rules.specs.Device.{Device, device, startOf, sizeOf, rightOf, totalOf, soundTables, directoryNumber, memoryNumber};
+ghost use Rattle.bus_rules.specs.Holder.{commandNumber, requestNumber, queryNumber, kindNumber, serveNumber, requestAt, tableOf, noAnswer, replyTo};
+ghost use Rattle.bus_rules.specs.Holder.{placeOf, protocol, actOf, actAfter, serveOf, deviceAfter};
 ghost use Rattle.bus_rules.specs.Demand2.{Demand2};
 
 // A table: its start (the sum of the sizes before it), its size and its right.
@@ -178,7 +181,7 @@ fn query_number(len: u8, first: u8, reserved: bool, count: u8) -> u8
 
 // 5, 6, 7, 9 and 8, by the frame's type; t is the table that the frame addresses.
 fn kind_number(t: Table, f: Frame) -> u8
-    ensures { λ r. ⌜ ((d : Directory) → t .size ≡ sizeOf d (tableOf f) → t .right ≡ rightOf d (tableOf f) → r ≡ kindNumber d f) ⌝ }
+    ensures { λ r. ⌜ ((e : Device) → t .size ≡ sizeOf (e .directory) (tableOf f) → t .right ≡ rightOf (e .directory) (tableOf f) → r ≡ kindNumber e f) ⌝ }
 {
     let id = f.id;
     let kind = kind_of(id);
@@ -206,7 +209,7 @@ fn kind_number(t: Table, f: Frame) -> u8
 // The number of the answer: the refusals in their order, or 0; t is the addressed table, n the memory's length.
 fn serve_number(d: Directory, t: Table, n: usize, f: Frame) -> u8
     requires { ⌜ (t .size ≡ sizeOf d (tableOf f)) × (t .right ≡ rightOf d (tableOf f)) ⌝ }
-    ensures { λ r. ⌜ r ≡ serveNumber d n f ⌝ }
+    ensures { λ r. ⌜ ((m : List ℕ) → n ≡ length m → r ≡ serveNumber (device d m) f) ⌝ }
 {
     let memory = memory_number(d, n);
     if memory != 0 {
@@ -235,11 +238,11 @@ fn no_answer(number: u8) -> Served
 }
 
 // RSP to the sender of a frame, to the table and offset that the request asks for.
-fn reply(d: Directory, f: Frame, q: Request, bytes: &[u8]) -> Served
-    requires { ⌜ (d .own ≤ 15) × (q .table ≤ 31) × (q .offset ≤ 2047) × (q .count ≡ length (now bytes)) ⌝ }
-    ensures { λ r. ⌜ r ≡ replyTo d f q (now (bytes .entry)) ⌝ }
+fn reply(own: u8, f: Frame, q: Request, bytes: &[u8]) -> Served
+    requires { ⌜ (own ≤ 15) × (q .table ≤ 31) × (q .offset ≤ 2047) × (q .count ≡ length (now bytes)) ⌝ }
+    ensures { λ r. ⌜ r ≡ replyTo own f q (now (bytes .entry)) ⌝ }
 {
-    let id = id_of(q.offset, RSP, d.own, from_of(f.id), q.table);
+    let id = id_of(q.offset, RSP, own, from_of(f.id), q.table);
     Served {
         number: 0,
         answers: 1,
@@ -263,28 +266,28 @@ fn protocol_of(d: Directory) -> [u8; 5]
 // The answer to a protocol query that is not refused.
 fn answer_query(d: Directory, f: Frame) -> Served
     requires { ⌜ (d .own ≤ 15) × (requestAt f 1 .count ≤ 5) ⌝ }
-    ensures { λ r. ⌜ r ≡ replyTo d f (requestAt f 1) (take (requestAt f 1 .count) (protocol d)) ⌝ }
+    ensures { λ r. ⌜ r ≡ replyTo (d .own) f (requestAt f 1) (take (requestAt f 1 .count) (protocol d)) ⌝ }
 {
     let q = request_of(f.bytes[1], f.bytes[2], f.bytes[3]);
     let bytes = protocol_of(d);
     let n = q.count as usize;
-    reply(d, f, q, &bytes[..n])
+    reply(d.own, f, q, &bytes[..n])
 }
 
 // The answer to a request that is not refused; its range starts at the place given.
 fn answer_request(d: Directory, at: usize, memory: &[u8], f: Frame) -> Served
     requires { ⌜ (d .own ≤ 15) × (at + requestAt f 0 .count ≤ length (now memory)) ⌝ }
-    ensures { λ r. ⌜ r ≡ replyTo d f (requestAt f 0) (take (requestAt f 0 .count) (drop at (now (memory .entry)))) ⌝ }
+    ensures { λ r. ⌜ r ≡ replyTo (d .own) f (requestAt f 0) (take (requestAt f 0 .count) (drop at (now (memory .entry)))) ⌝ }
 {
     let q = request_of(f.bytes[0], f.bytes[1], f.bytes[2]);
     let end = at + q.count as usize;
-    reply(d, f, q, &memory[at..end])
+    reply(d.own, f, q, &memory[at..end])
 }
 
 // What a frame that is not refused does; its offset lies at the place given.
 fn act(d: Directory, at: usize, memory: &mut [u8], f: Frame) -> Served
-    requires { ⌜ (serveNumber d (length (now memory)) f ≡ 0) × (at ≡ placeOf d f) ⌝ }
-    ensures { λ r. ⌜ (r ≡ actOf d (now (memory .entry)) f) × (now (memory .exit) ≡ memoryAct d (now (memory .entry)) f) ⌝ }
+    requires { ⌜ (serveNumber (device d (now memory)) f ≡ 0) × (at ≡ placeOf (device d (now memory)) f) ⌝ }
+    ensures { λ r. ⌜ (r ≡ actOf (device d (now (memory .entry))) f) × (now (memory .exit) ≡ actAfter (device d (now (memory .entry))) f .memory) ⌝ }
 {
     let kind = kind_of(f.id);
     if kind == CMD {
@@ -299,8 +302,8 @@ fn act(d: Directory, at: usize, memory: &mut [u8], f: Frame) -> Served
 
 // What the holder of these tables, which lie back to back in memory, does with a frame.
 pub fn serve(d: Directory, memory: &mut [u8], f: Frame) -> Served
-    ensures { λ r. ⌜ (r ≡ serveOf d (now (memory .entry)) f) × (now (memory .exit) ≡ memoryOf d (now (memory .entry)) f) ⌝ }
-    ensures demand2 { λ r. ⌜ Demand2 d (now (memory .entry)) f r (now (memory .exit)) ⌝ }
+    ensures { λ r. ⌜ (r ≡ serveOf (device d (now (memory .entry))) f) × (now (memory .exit) ≡ deviceAfter (device d (now (memory .entry))) f .memory) ⌝ }
+    ensures demand2 { λ r. ⌜ Demand2 (device d (now (memory .entry))) f r (device d (now (memory .exit))) ⌝ }
 {
     let t = table_at(d, table_of(f.id) as usize);
     let number = serve_number(d, t, memory.len(), f);

@@ -10,7 +10,7 @@ use native.Mathlib.Decide.{decLt}
 use lib.Dec.{leb}
 use borrow.Author.Tests.{leb-true, le-leb, lt-leb, not-false, eqb-true}
 use Rattle.wire.proofs.Orders.{order, if-zero, else-zero}
-use Rattle.bus_rules.specs.Holder.{Directory, startOf, totalOf, sizeOf, rightOf, soundTables, soundDirectory, directoryNumber, lengthNumber, memoryNumber}
+use Rattle.bus_rules.specs.Device.{Directory, startOf, totalOf, sizeOf, rightOf, soundTables, soundDirectory, directoryNumber, lengthNumber, memoryNumber}
 use Rattle.bus_rules.specs.Demand2.{SoundDirectory}
 
 -- ── Starts ───────────────────────────────────────────────────────────────────────────────────────────────────────────

@@ -1,6 +1,7 @@
 pub mod IdentLaws
 pub mod RequestLaws
 pub mod Directories
+pub mod Ranges
 pub mod FrameLaws
 pub mod Cases
 pub mod Numbers

@@ -2,7 +2,6 @@
 use mathlib.Core.Path.{_≡_, refl, sym, subst}
 use mathlib.Core.Logic.{_⊎_, inl, inr, _≢_}
 use mathlib.Core.Bool.{Bool, true, false, not}
-use mathlib.Core.List.{List}
 use Prim.Native.Nat.{ℕ, zero, suc, _+_, _≤_, _<_, _^_}
 use native.Mathlib.Omega.{arith}
 use lib.Dec.{leb, ltb, eqb}
@@ -14,8 +13,8 @@ use Rattle.wire.proofs.Firsts.{link, links, unless, unlesses, neither}
 use Rattle.wire.proofs.Orders.{if-orElse, zero-orElse}
 use Rattle.bus_rules.specs.Ident.{idSpare, idTo}
 use Rattle.bus_rules.specs.Frames.{Frame, headNumber}
-use Rattle.bus_rules.specs.Holder.{Directory, soundDirectory, totalOf, directoryNumber, lengthNumber, memoryNumber, commandNumber, requestNumber, queryNumber}
-use Rattle.bus_rules.specs.Holder.{kindNumber, serveNumber}
+use Rattle.bus_rules.specs.Device.{Device, ownOf, soundDirectory, totalOf, directoryNumber, lengthNumber, memoryNumber}
+use Rattle.bus_rules.specs.Holder.{commandNumber, requestNumber, queryNumber, kindNumber, serveNumber}
 use Rattle.bus_rules.specs.Demand2.{CommandNumber, RequestNumber, QueryNumber, KindNumber, ServeNumber}
 use Rattle.bus_rules.proofs.Directories.{sound-says, says-sound}
 use Rattle.bus_rules.proofs.Cases.{command-case, request-case, query-case, other-case}
@@ -111,37 +110,37 @@ query-numbers len first v count =
     (λ l. unless 5 (not (eqb first 0x80)) _ (Clear len 4 v (Queries count)) (ne-true _ _) (is-false _ _)
     (λ b. clear-number len 4 v _ (Queries count) (one-or-five count)))
 
-module _ (d : Directory) (f : Frame) where
-  kind-numbers : KindNumber d f (kindNumber d f)
+module _ (e : Device) (f : Frame) where
+  kind-numbers : KindNumber e f (kindNumber e f)
   kind-numbers =
       record {
-        command = λ k. subst (CommandNumber d f) (sym (command-case d f k)) (command-numbers _ _ _ _);
-        request = λ k. subst (RequestNumber d f) (sym (request-case d f k)) (request-numbers _ _ _ _ _ _);
-        query = λ k. subst (QueryNumber f) (sym (query-case d f k)) (query-numbers _ _ _ _);
-        other = other-case d f;
+        command = λ k. subst (CommandNumber e f) (sym (command-case e f k)) (command-numbers _ _ _ _);
+        request = λ k. subst (RequestNumber e f) (sym (request-case e f k)) (request-numbers _ _ _ _ _ _);
+        query = λ k. subst (QueryNumber f) (sym (query-case e f k)) (query-numbers _ _ _ _);
+        other = other-case e f;
       }
 
 -- ── All numbers ────────────────────────────────────────────────────────────────────────────────────────────────────
 
-module _ (d : Directory) (m : List ℕ) (f : Frame) where
+module _ (e : Device) (f : Frame) where
   -- the four parts of the order as one chain
-  whole : serveNumber d (length m) f
-      ≡ (11 if not (soundDirectory d) else 10 if not (eqb (length m) (totalOf d)) else 1 if leb (2 ^ 29) (f .id) else 2 if not (eqb (idSpare (f .id)) 0)
-      else 3 if ltb 8 (f .len) else 4 if not (eqb (idTo (f .id)) (d .own)) else kindNumber d f)
+  whole : serveNumber e f
+      ≡ (11 if not (soundDirectory (e .directory)) else 10 if not (eqb (length (e .memory)) (totalOf (e .directory))) else 1 if leb (2 ^ 29) (f .id) else 2 if not (eqb (idSpare (f .id)) 0)
+      else 3 if ltb 8 (f .len) else 4 if not (eqb (idTo (f .id)) (ownOf e)) else kindNumber e f)
   unfolding serveNumber memoryNumber directoryNumber lengthNumber headNumber
   whole = rw (if-orElse, zero-orElse, if-orElse, if-orElse, zero-orElse, if-orElse, if-orElse, if-orElse, if-orElse, zero-orElse)
 
-  pub serve-numbers : ServeNumber d m f (serveNumber d (length m) f)
+  pub serve-numbers : ServeNumber e f (serveNumber e f)
   serve-numbers =
-      let r4 = Unless (idTo (f .id) ≡ d .own) 4 (KindNumber d f) in
+      let r4 = Unless (idTo (f .id) ≡ ownOf e) 4 (KindNumber e f) in
       let r3 = First (8 < f .len) 3 r4 in
       let r2 = Unless (idSpare (f .id) ≡ 0) 2 r3 in
       let r1 = First (2 ^ 29 ≤ f .id) 1 r2 in
-      let r10 = Unless (length m ≡ totalOf d) 10 r1 in
+      let r10 = Unless (length (e .memory) ≡ totalOf (e .directory)) 10 r1 in
       rw whole
-      (unless 11 _ _ r10 (λ e s. apart _ (says-sound d s) (not-true _ e)) (λ e. sound-says d (not-false _ e))
+      (unless 11 _ _ r10 (λ h s. apart _ (says-sound (e .directory) s) (not-true _ h)) (λ h. sound-says (e .directory) (not-false _ h))
       (λ s. unless 10 _ _ r1 (ne-true _ _) (is-false _ _)
       (λ l. link 1 _ _ r2 (leb-true _ _) (le-false _ _)
       (λ i. unless 2 _ _ r3 (ne-true _ _) (is-false _ _)
       (λ p. link 3 _ _ r4 (ltb-true _ _) (lt-false _ _)
-      (λ n. unless 4 _ _ (KindNumber d f) (ne-true _ _) (is-false _ _) (λ t. kind-numbers d f)))))))
+      (λ n. unless 4 _ _ (KindNumber e f) (ne-true _ _) (is-false _ _) (λ t. kind-numbers e f)))))))

@@ -10,6 +10,7 @@ use lib.Ieee.{binary32, ofInt, div, toBits}
 use Rattle.bus_rules.specs.Ident.{packOf, unpackOf}
 use Rattle.bus_rules.specs.Frames.{cmd, req, xtnd, frameWith}
 use Rattle.bus_rules.specs.Request.{readRequestOf}
+use Rattle.bus_rules.specs.Device.{device}
 use Rattle.bus_rules.specs.Holder.{serveOf, answerWith}
 use Rattle.bus_rules.specs.declared.Frame.{Frame}
 use Rattle.bus_rules.specs.declared.Directory.{Directory}
@@ -84,7 +85,7 @@ unfoldable pub compute : Question → Answer
 compute (identifier o k f t n) = packed (packOf (record { offset = o; kind = k; from = f; to = t; table = n }))
 compute (parts id) = unpacked (unpackOf id)
 compute (request a b c) = asked (readRequestOf a b c)
-compute (reply m f) = served (serveOf (directory (length m)) m f)
+compute (reply m f) = served (serveOf (device (directory (length m)) m) f)
 compute (turn own cs) = turned (answerTo (runOf own (replicate 512 0) cs) (length cs) (B.turn B.itsOwn))
 compute (sum bs) = summed (sumIn (length bs) (dataBytes 7 770 bs))
 compute (raw t bs) = rawValue (rawAt 2 (scalar t 0 0) bs)

@@ -16,7 +16,7 @@ cast-t7 : tie.Need-cast-t7
 cast-t7 c = let a = c .before .before .before .args in
     let p = c .before .before .before .pre in
     let k = from-small (a .f .id) in
-    omega (arith, c .id-of .ensures, c .before .from-of .ensures, id-small (a .q .offset) 2 (a .d .own) (c .before .from-of .result) (a .q .table) (omega arith) (omega arith) (omega arith) (omega (arith, c .before .from-of .ensures)) (omega arith))
+    omega (arith, c .id-of .ensures, c .before .from-of .ensures, id-small (a .q .offset) 2 (a .own) (c .before .from-of .result) (a .q .table) (omega arith) (omega arith) (omega arith) (omega (arith, c .before .from-of .ensures)) (omega arith))
 
 padded-requires : tie.Need-padded-requires
 padded-requires c κs = search needs

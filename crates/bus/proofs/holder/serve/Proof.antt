@@ -4,26 +4,31 @@ use Rattle.bus.proofs.holder.serve.Tie as tie
 use mir.Val.{Fits}
 use mir.Syntax.{w8}
 use Rattle.bus_rules.proofs.Demands.{IsFrame, demand2}
-use Rattle.bus_rules.proofs.Cases.{served-case, refused-case}
+use Rattle.bus_rules.proofs.Cases.{served-case, refused-case, device-after}
 use Rattle.bus_rules.proofs.IdentLaws.{table-small}
 use Rattle.bus_rules.specs.declared.Served.{Served}
-use Rattle.bus_rules.specs.Holder.{byteOf, sizeOf, rightOf, placeOf, serveOf, memoryOf}
+use Rattle.bus_rules.specs.Device.{Device, device, sizeOf, rightOf}
+use Rattle.bus_rules.specs.Holder.{byteOf, placeOf, serveOf, deviceAfter}
 use Rattle.bus_rules.specs.Demand2.{Demand2}
 use lib.ListN.{getD}
 use native.Mathlib.Omega.{arith}
-use mathlib.Core.Path.{_≡_, sym, _∙_, ap}
+use mathlib.Core.Path.{_≡_, refl, sym, _∙_, ap}
 use mathlib.Core.List.{List}
 use Prim.Native.Nat.{ℕ}
 
+-- the device before the call
+abbrev before : tie.Start → Device
+before s = device (s .args .d) (s .args .memory .now)
+
 -- demand 2, of the values that the code's arguments have
-demanded : (s : tie.Start) (r : Served) (after : List ℕ) → r ≡ serveOf (s .args .d) (s .args .memory .now) (s .args .f)
-    → after ≡ memoryOf (s .args .d) (s .args .memory .now) (s .args .f) → Demand2 (s .args .d) (s .args .memory .now) (s .args .f) r after
+demanded : (s : tie.Start) (r : Served) (m : List ℕ) → r ≡ serveOf (before s) (s .args .f) → m ≡ deviceAfter (before s) (s .args .f) .memory
+    → Demand2 (before s) (s .args .f) r (device (s .args .d) m)
 unfolding byteOf
-demanded s r after p q =
+demanded s r m p q =
     let a = s .args in
     let w : IsFrame (a .f) =
     record { eight = search needs; bytes = λ i l. let h : Fits w8 (getD (a .f .bytes) i 0) = search needs in omega arith } in
-    demand2 (a .d) (a .memory .now) (a .f) r after p q w (search needs) (search needs)
+    demand2 (before s) (a .f) r (device (a .d) m) p (device-after (before s) (a .f) m q) w (search needs) (search needs)
 
 table-of-requires : tie.Need-table-of-requires
 table-of-requires c κs = search needs
@@ -44,9 +49,9 @@ no-answer-requires c κs = search needs
 returns : tie.Need-returns
 returns c = let s = c .before .before .before .before .before .before in
     let a = s .args in
-    let e = refused-case (a .d) (a .memory .now) (a .f) (c .before .before .serve-number .result) (sym (c .before .before .serve-number .ensures)) (c .before .if1 .taken) in
+    let e = refused-case (before s) (a .f) (c .before .before .serve-number .result) (sym (c .before .before .serve-number .ensures _ refl)) (c .before .if1 .taken) in
     let p = c .no-answer .ensures ∙ sym (e .0) in
-    let q = sym (e .1) in
+    let q = sym (ap (λ (v : Device). v .memory) (e .1)) in
     ((p, q), demanded s _ _ p q)
 
 cast-act : tie.Need-cast-act
@@ -63,7 +68,7 @@ add-act c = search needs
 
 act-requires : tie.Need-act-requires
 unfolding placeOf
-act-requires c κs = (sym (c .before .before .before .before .serve-number .ensures) ∙ c .before .before .before .if1 .left, rw (c .before .offset-of .ensures, c .before .before .before .before .before .table-at .ensures .0, c .before .before .before .before .before .before .table-of .ensures))
+act-requires c κs = (sym (c .before .before .before .before .serve-number .ensures _ refl) ∙ c .before .before .before .if1 .left, rw (c .before .offset-of .ensures, c .before .before .before .before .before .table-at .ensures .0, c .before .before .before .before .before .before .table-of .ensures))
 
 same-length : tie.Need-same-length
 same-length c = search needs
@@ -71,9 +76,9 @@ same-length c = search needs
 returns-2 : tie.Need-returns-2
 returns-2 c = let s = c .before .before .before .before .before .before .before .before .before .before .before in
     let a = s .args in
-    let e = served-case (a .d) (a .memory .now) (a .f) (sym (c .before .before .before .before .before .before .before .serve-number .ensures) ∙ c .before .before .before .before .before .before .if1 .left) in
+    let e = served-case (before s) (a .f) (sym (c .before .before .before .before .before .before .before .serve-number .ensures _ refl) ∙ c .before .before .before .before .before .before .if1 .left) in
     let p = c .before .before .act .ensures .0 ∙ sym (e .0) in
-    let q = c .before .before .act .ensures .1 ∙ sym (e .1) in
+    let q = c .before .before .act .ensures .1 ∙ sym (ap (λ (v : Device). v .memory) (e .1)) in
     ((p, q), demanded s _ _ p q)
 
 pub serve-spec : {M : Type 1} → statement M

@@ -7,7 +7,7 @@ use Prim.Native.Nat.{_≤_, _-_, _*_}
 use mathlib.Core.Path.{_≡_, refl, _∙_, ap}
 use native.Mathlib.Omega.{arith}
 use borrow.Author.Needs.{needs}
-use Rattle.bus_rules.specs.Holder.{sizeOf, rightOf, startOf}
+use Rattle.bus_rules.specs.Device.{sizeOf, rightOf, startOf}
 use Rattle.bus_rules.proofs.Directories.{start-next}
 
 abbrev Inv-loop : tie.InvT-loop
