@@ -1,69 +1,64 @@
--- From a send on: what the calls after it make of the slot. Progress and sends only grow; giving up is for good.
-use Prim.Native.Nat.{ℕ, suc, _+_, _*_, _-_, _≤_, _<_, min}
+-- From a send on, while no reply comes: the slot waits for twenty turns, and has given up after the third time.
+use Prim.Native.Nat.{ℕ, suc, _+_, _*_, _≤_, _<_, min}
 use mathlib.Core.Path.{_≡_, refl, sym, _∙_, ap}
-use mathlib.Core.Bool.{Bool, true, false, true≢false}
+use mathlib.Core.Logic.{inl, inr}
+use mathlib.Core.Bool.{true}
 use native.Mathlib.Omega.{arith}
 use native.Mathlib.Decide.{decLt}
-use Rattle.bridge_rules.specs.State.{Frame, Slot, ready, waiting, done, gaveUp, slot, isWaiting, isReady, asks}
-use Rattle.bridge_rules.specs.Answers.{Result}
-use Rattle.bridge_rules.specs.Opening.{askCount}
+use Rattle.bridge_rules.specs.State.{Slot, ready, waiting, gaveUp, isWaiting, isReady, asks}
 use Rattle.bridge_rules.specs.Turn.{aged}
-use Rattle.bridge_rules.specs.Incoming.{awaits}
-use Rattle.bridge_rules.specs.Call.{Call, itsOwn, opening, turn, close, reset}
-use Rattle.bridge_rules.specs.Run.{Run, state, buffer, answer, Lawful, Transfer, slotOf, Stands, turns, chunks}
-use Rattle.bridge_rules.specs.Replies.{Sent, Matches, Awaits, Replied, ThreeFailed}
-use Rattle.bridge_rules.proofs.Search.{none-some}
-use Rattle.bridge_rules.proofs.Sound.{ReadyOk, ready-ok, sent-read, aged-same}
-use Rattle.bridge_rules.proofs.Sound.{advanced-same}
-use Rattle.bridge_rules.proofs.CallCases.{Kind, nothing, opens, sends, idles, takes, closes, resets, isFrame, awaits-true, WaitOk, wait-ok}
-use Rattle.bridge_rules.proofs.SlotEffects.{idle, elsewhere}
-use Rattle.bridge_rules.proofs.LedgerAgrees.{turns-same, turns-more, turns-none, turns-step, kindAt}
-use Rattle.bridge_rules.proofs.Standing.{full-done, okAt, openedAt, view, Held, held, Move, stays, waits, served, gets, move, move-same, along-from}
-use Rattle.bridge_rules.proofs.Standing.{stands-before, stands-back}
-use Rattle.bridge_rules.proofs.Aging.{AgedBy, unaged, waitsOn, readyAgain, givesUp, agedBy, aged-keeps, other-phase}
-use Rattle.bridge_rules.proofs.SentRequests.{MatchesOk, matches-ok, matches-true, turn-unmatched, matches-awaited, awaited-matches, sends-own}
-use Rattle.bridge_rules.proofs.AskedSoFar.{advanced-progress}
-
-contradiction : {A : Type 0} {b : Bool} → b ≡ true → b ≡ false → A
-contradiction p q = absurd (true≢false (sym p ∙ q))
+use Rattle.bridge_rules.specs.Run.{Run, Lawful, Transfer, slotOf, Stands, turns}
+use Rattle.bridge_rules.specs.Replies.{Sent, Matches}
+use Rattle.bridge_rules.proofs.Search.{none-some, contradiction}
+use Rattle.bridge_rules.proofs.SlotOk.{wait-ok, other-phase}
+use Rattle.bridge_rules.proofs.SlotChanges.{aged-same, aged-progress, aged-sends, Aging, unaged, waitsOn, readyAgain, givesUp, Requested, sent-read}
+use Rattle.bridge_rules.proofs.SlotChanges.{advanced-progress}
+use Rattle.bridge_rules.proofs.SlotEffects.{unchanged, ages, served, taken, change-same}
+use Rattle.bridge_rules.proofs.TurnCounts.{turns-same, turns-more, turns-none, turns-step}
+use Rattle.bridge_rules.proofs.SoundRuns.{UnservedAt}
+use Rattle.bridge_rules.proofs.Standing.{okAt, agingAt, openedAt, view, Changes, changes, Held, held, along-from, stands-before, stands-back}
+use Rattle.bridge_rules.proofs.Matching.{matches-true, awaited-matches}
+use Rattle.bridge_rules.proofs.SentRequests.{sends-own}
 
 module _ (r : Run) (w : Lawful r) (x : Transfer r) where
-  pub moveAt : (n : ℕ) → Stands r x (suc n) → x .at < n → Move r x n
-  moveAt n s l = move r w x n s l (held r w x n (stands-before r w x n s l))
+  -- ── progress and sends only grow ─────────────────────────────────────────────────────────────────────────────────
 
   -- one step of a slot that asks: progress grows, and sends grow while progress stays
-  grows : (n : ℕ) → Move r x n → asks (view r x n .kind) ≡ true → (view r x n .progress ≤ view r x (suc n) .progress)
+  grows : (n : ℕ) → Changes r x n → asks (view r x n .kind) ≡ true → (view r x n .progress ≤ view r x (suc n) .progress)
       × (view r x n .progress ≡ view r x (suc n) .progress → view r x n .sends ≤ view r x (suc n) .sends)
-  grows n (stays a v c e f g) p = (omega (arith, ap (λ (y : Slot). y .progress) a), λ q. omega (arith, ap (λ (y : Slot). y .sends) a))
-  grows n (waits a v c d u) p =
-      let k = aged-keeps (state r n .tickets) (view r x n) (okAt r w x n) in
-      (omega (arith, ap (λ (y : Slot). y .progress) c, k .0), λ q. omega (arith, ap (λ (y : Slot). y .sends) c, k .1))
-  grows n (served a v c d e g i) p =
-      let k = aged-keeps (state r n .tickets) (view r x n) (okAt r w x n) in
-      let s = sent-read (aged (view r x n)) (ap asks (aged-same (view r x n) .kind) ∙ p) in
-      (omega (arith, ap (λ (y : Slot). y .progress) d, s .1, k .0), λ q. omega (arith, ap (λ (y : Slot). y .sends) d, s .2, k .1))
-  grows n (gets f a c d e g i j m o) p =
-      let z : view r x (suc n) .progress ≡ min (view r x n .progress + 8) (view r x n .count) = ap (λ (y : Slot). y .progress) g
+  grows n (unchanged v) p =
+      (omega (arith, ap (λ (y : Slot). y .progress) (v .after)), λ q. omega (arith, ap (λ (y : Slot). y .sends) (v .after)))
+  grows n (ages v) p = (
+    omega (arith, ap (λ (y : Slot). y .progress) (v .after), aged-progress (view r x n)),
+    λ q. omega (arith, ap (λ (y : Slot). y .sends) (v .after), aged-sends (view r x n)),
+  )
+  grows n (served v) p =
+      let s : Requested (aged (view r x n)) = sent-read (aged (view r x n)) (ap asks (aged-same (view r x n) .kind) ∙ p) in (
+        omega (arith, ap (λ (y : Slot). y .progress) (v .after), s .progress, aged-progress (view r x n)),
+        λ q. omega (arith, ap (λ (y : Slot). y .sends) (v .after), s .sends, aged-sends (view r x n)),
+      )
+  grows n (taken v) p =
+      let z : view r x (suc n) .progress ≡ min (view r x n .progress + 8) (view r x n .count) = ap (λ (y : Slot). y .progress) (v .after)
       ∙ advanced-progress (view r x n) in
-      (omega (arith, z, e .mid .below), λ q. absurd (omega (arith, q, z, e .mid .below)))
+      (omega (arith, z, v .waits .partway .below), λ q. absurd (omega (arith, q, z, v .waits .partway .below)))
 
   -- so it does from any event on at which the slot asks
-  record Grown (m n : ℕ) : Type 0 where
-    asking : asks (view r x n .kind) ≡ true
-    progress : view r x m .progress ≤ view r x n .progress
-    sends : view r x m .progress ≡ view r x n .progress → view r x m .sends ≤ view r x n .sends
+  pub record Grown (m n : ℕ) : Type 0 where
+    pub asking : asks (view r x n .kind) ≡ true
+    pub progress : view r x m .progress ≤ view r x n .progress
+    pub sends : view r x m .progress ≡ view r x n .progress → view r x m .sends ≤ view r x n .sends
 
-  grown : (m n : ℕ) → x .at < m → asks (view r x m .kind) ≡ true → m ≤ n → Stands r x n → Grown m n
+  pub grown : (m n : ℕ) → x .at < m → asks (view r x m .kind) ≡ true → m ≤ n → Stands r x n → Grown m n
   grown m n at a = along-from r w x m at (Grown m) base step n
     where
       base : Grown m m
       base = record { asking = a; progress = omega arith; sends = λ q. omega arith }
 
-      step : (n : ℕ) → Stands r x (suc n) → m ≤ n → Held r x n → Move r x n → Grown m n → Grown m (suc n)
-      step n s l h mv g =
-          let k = grows n mv (g .asking) in
+      step : (n : ℕ) → Stands r x (suc n) → m ≤ n → Held r x n → Changes r x n → Grown m n → Grown m (suc n)
+      step n s l h v g =
+          let k = grows n v (g .asking) in
           record {
-            asking = ap asks (move-same r w x n mv .kind) ∙ g .asking;
+            asking = ap asks (change-same v .kind) ∙ g .asking;
             progress = omega (arith, k .0, g .progress);
             sends = λ q.
                 let e : view r x m .progress ≡ view r x n .progress = omega (arith, q, k .0, g .progress) in
@@ -71,26 +66,26 @@ module _ (r : Run) (w : Lawful r) (x : Transfer r) where
           }
 
   -- a slot that waits asks
-  waits-asks : (n : ℕ) → view r x n .phase ≡ waiting → asks (view r x n .kind) ≡ true
-  waits-asks n e = wait-ok (state r n .tickets) (view r x n) (okAt r w x n) (ap isWaiting e) .isRead
+  pub waits-asks : (n : ℕ) → view r x n .phase ≡ waiting → asks (view r x n .kind) ≡ true
+  waits-asks n e = wait-ok (view r x n) (okAt r w x n) (ap isWaiting e) .asking
 
-  gave-up-stays : (n : ℕ) → Move r x n → view r x n .phase ≡ gaveUp → view r x (suc n) .phase ≡ gaveUp
-  gave-up-stays n (stays a v c e f g) p = ap (λ (y : Slot). y .phase) a ∙ p
-  gave-up-stays n (waits a v c d u) p = go (agedBy (state r n .tickets) (view r x n) (okAt r w x n))
+  -- aging leaves alone what has given up
+  unaged-gave-up : (n : ℕ) → view r x n .phase ≡ gaveUp → aged (view r x n) ≡ view r x n
+  unaged-gave-up n p = go (agingAt r w x n)
     where
-      go : AgedBy (view r x n) → view r x (suc n) .phase ≡ gaveUp
-      go (unaged q z) = ap (λ (y : Slot). y .phase) (c ∙ q) ∙ p
-      go (waitsOn q b c d e) = other-phase (view r x n .phase) gaveUp waiting p q (λ z. omega arith)
-      go (readyAgain q b c d e) = other-phase (view r x n .phase) gaveUp waiting p q (λ z. omega arith)
-      go (givesUp q b c d e f) = other-phase (view r x n .phase) gaveUp waiting p q (λ z. omega arith)
-  gave-up-stays n (served a v c d e g i) p = go (agedBy (state r n .tickets) (view r x n) (okAt r w x n))
-    where
-      go : AgedBy (view r x n) → view r x (suc n) .phase ≡ gaveUp
-      go (unaged q z) = other-phase (view r x n .phase) gaveUp ready p (ap (λ (y : Slot). y .phase) (sym q) ∙ c .phase) (λ z. omega arith)
-      go (waitsOn q b c d e) = other-phase (view r x n .phase) gaveUp waiting p q (λ z. omega arith)
-      go (readyAgain q b c d e) = other-phase (view r x n .phase) gaveUp waiting p q (λ z. omega arith)
-      go (givesUp q b c d e f) = other-phase (view r x n .phase) gaveUp waiting p q (λ z. omega arith)
-  gave-up-stays n (gets f a c d e g i j m o) p = other-phase (view r x n .phase) gaveUp waiting p (e .phase) (λ z. omega arith)
+      go : Aging (view r x n) → aged (view r x n) ≡ view r x n
+      go (unaged q z) = q
+      go (waitsOn a) = other-phase (a .was .phase) p refl
+      go (readyAgain a) = other-phase (a .was .phase) p refl
+      go (givesUp a) = other-phase (a .was .phase) p refl
+
+  gave-up-stays : (n : ℕ) → Changes r x n → view r x n .phase ≡ gaveUp → view r x (suc n) .phase ≡ gaveUp
+  gave-up-stays n (unchanged v) p = ap (λ (y : Slot). y .phase) (v .after) ∙ p
+  gave-up-stays n (ages v) p = ap (λ (y : Slot). y .phase) (v .after ∙ unaged-gave-up n p) ∙ p
+  gave-up-stays n (served v) p = other-phase (ap (λ (y : Slot). y .phase) (sym (unaged-gave-up n p)) ∙ v .ready .phase) p refl
+  gave-up-stays n (taken v) p = other-phase (v .waits .phase) p refl
+
+  -- ── a send, and what follows it ──────────────────────────────────────────────────────────────────────────────────
 
   -- a send leaves the slot waiting at that chunk, with twenty turns left and one send more
   pub record AfterSend (c j : ℕ) : Type 0 where
@@ -101,284 +96,127 @@ module _ (r : Run) (w : Lawful r) (x : Transfer r) where
     pub before : view r x j .progress ≡ 8 * c
 
   pub after-send : (c j n : ℕ) → Sent r x c j → j < n → Stands r x n → AfterSend c j
-  after-send c j n q l s = go (moveAt j (stands-back r w x (suc j) n s (omega (arith, q .stands .0)) l) (q .stands .0))
+  after-send c j n q l s = go (changes r w x j (stands-back r w x (suc j) n s (omega (arith, q .stands .0)) l) (q .stands .0))
     where
-      go : Move r x j → AfterSend c j
-      go (stays a v k e f g) = contradiction (q .turned) e
-      go (waits a v k d (idle f g i)) = none-some (sym f ∙ q .yields)
-      go (waits a v k d (elsewhere t f g i u m o)) = absurd
-          (g (sends-own r w x c j (q .chunk) t (state r j .tickets) (aged (slot (state r j) t)) i (sym u ∙ q .yields) f .0))
-      go (served a v k d e g i) =
-          let o = sends-own r w x c j (q .chunk) (slotOf r x) (state r j .tickets) (aged (view r x j)) k (sym i
-          ∙ q .yields) (openedAt r w x .bound) in
-          let z = sent-read (aged (view r x j)) (o .2) in
-          let b = aged-keeps (state r j .tickets) (view r x j) (okAt r w x j) in
-          record {
-            phase = ap (λ (y : Slot). y .phase) d ∙ z .0;
-            progress = ap (λ (y : Slot). y .progress) d ∙ z .1 ∙ o .1;
-            left = ap (λ (y : Slot). y .left) d ∙ z .3;
-            sends = ap (λ (y : Slot). y .sends) d ∙ z .2 ∙ ap suc (b .1);
-            before = sym (b .0) ∙ o .1;
-          }
-      go (gets f a k d e g i t m o) = contradiction (q .turned) m
-
-  -- the state n calls on, while no frame matches in the first twenty turns
-  record WithoutReply (c j n : ℕ) : Type 0 where
-    soon : turns r j n < 20 → (view r x n .phase ≡ waiting) × (view r x n .progress ≡ 8 * c) × (view r x n .left + turns r j n ≡ 20)
-        × (view r x n .sends ≡ view r x (suc j) .sends)
-    over : 20 ≤ turns r j n → view r x (suc j) .sends ≡ 3 → view r x n .phase ≡ gaveUp
-
-  without-reply-step : (c j n : ℕ) → j < n → x .at < n → Stands r x (suc n) → (turns r j n < 20 → ¬ Matches r x c n) → WithoutReply c j n → WithoutReply c j (suc n)
-  without-reply-step c j n l l′ s u h = pick (decLt (turns r j n) 20)
-    where
-      h′ : Held r x n
-      h′ = held r w x n (stands-before r w x n s l′)
-
-      mv : Move r x n
-      mv = moveAt n s l′
-
-      pick : Dec (turns r j n < 20) → WithoutReply c j (suc n)
-      pick (no p) = record {
-        soon = λ q. absurd (omega (arith, q, turns-step r j n .0));
-        over = λ q z. gave-up-stays n mv (h .over (omega arith) z);
-      }
-      pick (yes p) = go mv
+      go : Changes r x j → AfterSend c j
+      go (unchanged v) = contradiction (q .turned) (v .noTurn)
+      go (ages v) = unserved (v .unserved)
         where
-          wt : (view r x n .phase ≡ waiting) × (view r x n .progress ≡ 8 * c) × (view r x n .left + turns r j n ≡ 20)
-              × (view r x n .sends ≡ view r x (suc j) .sends)
-          wt = h .soon p
+          unserved : UnservedAt r j (slotOf r x) → AfterSend c j
+          unserved (inl u) = none-some (sym (u .silent) ∙ q .yields)
+          unserved (inr u) = absurd (u .apart
+              (sends-own r w x c j (q .chunk) (u .j) _ (u .ready) (sym (u .yields) ∙ q .yields) (u .bound) .0))
+      go (served v) =
+          let o = sends-own r w x c j (q .chunk) (slotOf r x) _ (v .ready) (sym (v .yields) ∙ q .yields) (openedAt r w x .bound) in
+          let z : Requested (aged (view r x j)) = sent-read (aged (view r x j)) (o .2) in
+          record {
+            phase = ap (λ (y : Slot). y .phase) (v .after) ∙ z .phase;
+            progress = ap (λ (y : Slot). y .progress) (v .after) ∙ z .progress ∙ o .1;
+            left = ap (λ (y : Slot). y .left) (v .after) ∙ z .left;
+            sends = ap (λ (y : Slot). y .sends) (v .after) ∙ z .sends ∙ ap suc (aged-sends (view r x j));
+            before = sym (aged-progress (view r x j)) ∙ o .1;
+          }
+      go (taken v) = contradiction (q .turned) (v .noTurn)
 
-          go : Move r x n → WithoutReply c j (suc n)
-          go (stays a v k e f g) =
-              let t = turns-same r j n e in
-              record {
-                soon = λ q. (
-                  ap (λ (y : Slot). y .phase) a ∙ wt .0,
-                  ap (λ (y : Slot). y .progress) a ∙ wt .1,
-                  omega (arith, ap (λ (y : Slot). y .left) a, t, wt .2),
-                  ap (λ (y : Slot). y .sends) a ∙ wt .3,
-                );
-                over = λ q. absurd (omega (arith, q, t, p));
-              }
-          go (waits a v k d f) = age (agedBy (state r n .tickets) (view r x n) (okAt r w x n))
-            where
-              t : turns r j (suc n) ≡ suc (turns r j n)
-              t = turns-more r j n v l
+  -- it waits for the reply to chunk c, sent at j
+  pub record Waits (c j n : ℕ) : Type 0 where
+    pub phase : view r x n .phase ≡ waiting
+    pub progress : view r x n .progress ≡ 8 * c
+    pub left : view r x n .left + turns r j n ≡ 20
+    pub sends : view r x n .sends ≡ view r x (suc j) .sends
 
-              age : AgedBy (view r x n) → WithoutReply c j (suc n)
-              age (unaged q z) = contradiction (ap isWaiting (wt .0)) z
-              age (waitsOn q b g i m) =
-                  let ph : view r x (suc n) .phase ≡ waiting = ap (λ (y : Slot). y .phase) k ∙ b in
-                  let wk : WaitOk (state r (suc n) .tickets) (view r x (suc n))
-                  = wait-ok (state r (suc n) .tickets) (view r x (suc n)) (okAt r w x (suc n)) (ap isWaiting ph) in
-                  let lf : view r x (suc n) .left ≡ aged (view r x n) .left = ap (λ (y : Slot). y .left) k in
-                  record {
-                    soon = λ z. (
-                      ph,
-                      ap (λ (y : Slot). y .progress) k ∙ m ∙ wt .1,
-                      omega (arith, lf, g, t, wt .2),
-                      ap (λ (y : Slot). y .sends) k ∙ i ∙ wt .3,
-                    );
-                    over = λ z. absurd (omega (arith, z, t, g, lf, wt .2, wk .some));
-                  }
-              age (readyAgain q b g i m) =
-                  let rk : ReadyOk (state r (suc n) .tickets) (view r x (suc n))
-                  = ready-ok (state r (suc n) .tickets) (view r x (suc n)) (okAt r w x (suc n))
-                  (ap isReady (ap (λ (y : Slot). y .phase) k ∙ g))
-                  in
-                  record {
-                    soon = λ z. absurd (omega (arith, z, t, b, wt .2));
-                    over = λ z z′. absurd (omega (arith, rk .sends, ap (λ (y : Slot). y .sends) k, i, wt .3, z′));
-                  }
-              age (givesUp q b b′ g i m) = record {
-                soon = λ z. absurd (omega (arith, z, t, b, wt .2));
-                over = λ z z′. ap (λ (y : Slot). y .phase) k ∙ g;
-              }
-          go (served a v k d e g i) = age (agedBy (state r n .tickets) (view r x n) (okAt r w x n))
-            where
-              t : turns r j (suc n) ≡ suc (turns r j n)
-              t = turns-more r j n v l
+  -- n calls on, while no frame matches in the first twenty turns
+  pub record WithoutReply (c j n : ℕ) : Type 0 where
+    pub soon : turns r j n < 20 → Waits c j n
+    pub over : 20 ≤ turns r j n → view r x (suc j) .sends ≡ 3 → view r x n .phase ≡ gaveUp
 
-              age : AgedBy (view r x n) → WithoutReply c j (suc n)
-              age (unaged q z) = contradiction (ap isWaiting (wt .0)) z
-              age (waitsOn q b g i m) = other-phase (aged (view r x n) .phase) waiting ready b (k .phase) (λ z. omega arith)
-              age (readyAgain q b g i m) = record {
-                soon = λ z. absurd (omega (arith, z, t, b, wt .2));
-                over = λ z z′. absurd (omega (arith, k .sends, i, wt .3, z′));
-              }
-              age (givesUp q b b′ g i m) = other-phase (aged (view r x n) .phase) gaveUp ready g (k .phase) (λ z. omega arith)
-          go (gets f a k d e g i t m o) = absurd (u p (matches-true r w x c n f (awaited-matches r x c n h′ (wt .1) f a k d)))
+  waits-step : (c j n : ℕ) → j < n → Stands r x n → ¬ Matches r x c n → turns r j n < 20 → Waits c j n → Changes r x n
+      → WithoutReply c j (suc n)
+  waits-step c j n l s u p t (unchanged v) =
+      let e = turns-same r j n (v .noTurn) in
+      record {
+        soon = λ q. record {
+          phase = ap (λ (y : Slot). y .phase) (v .after) ∙ t .phase;
+          progress = ap (λ (y : Slot). y .progress) (v .after) ∙ t .progress;
+          left = omega (arith, ap (λ (y : Slot). y .left) (v .after), e, t .left);
+          sends = ap (λ (y : Slot). y .sends) (v .after) ∙ t .sends;
+        };
+        over = λ q. absurd (omega (arith, q, e, p));
+      }
+  waits-step c j n l s u p t (ages v) = go (agingAt r w x n)
+    where
+      e : turns r j (suc n) ≡ suc (turns r j n)
+      e = turns-more r j n (v .turned) l
 
-  without-reply-start : (c j : ℕ) → AfterSend c j → WithoutReply c j (suc j)
-  without-reply-start c j a = record {
-    soon = λ q. (a .phase, a .progress, omega (arith, a .left, turns-none r j (suc j) (omega arith)), refl);
-    over = λ q. absurd (omega (arith, q, turns-none r j (suc j) (omega arith)));
-  }
+      phase : view r x (suc n) .phase ≡ aged (view r x n) .phase
+      phase = ap (λ (y : Slot). y .phase) (v .after)
 
-  without-reply : (c j n : ℕ) → Sent r x c j → j < n → Stands r x n → ((m : ℕ) → j < m → m < n → turns r j m < 20 → ¬ Matches r x c m) → WithoutReply c j n
+      left : view r x (suc n) .left ≡ aged (view r x n) .left
+      left = ap (λ (y : Slot). y .left) (v .after)
+
+      go : Aging (view r x n) → WithoutReply c j (suc n)
+      go (unaged q z) = contradiction (ap isWaiting (t .phase)) z
+      go (waitsOn a) = record {
+        soon = λ z. record {
+          phase = phase ∙ a .phase;
+          progress = ap (λ (y : Slot). y .progress) (v .after) ∙ aged-progress (view r x n) ∙ t .progress;
+          left = omega (arith, left, a .left, e, t .left);
+          sends = ap (λ (y : Slot). y .sends) (v .after) ∙ aged-sends (view r x n) ∙ t .sends;
+        };
+        over = λ z. absurd (omega (arith, z, e, t .left, a .more));
+      }
+      go (readyAgain a) = record {
+        soon = λ z. absurd (omega (arith, z, e, a .over, t .left));
+        over = λ z z′. absurd (omega (arith, a .few, t .sends, z′));
+      }
+      go (givesUp a) = record {
+        soon = λ z. absurd (omega (arith, z, e, a .over, t .left));
+        over = λ z z′. phase ∙ a .phase;
+      }
+  waits-step c j n l s u p t (served v) = go (agingAt r w x n)
+    where
+      e : turns r j (suc n) ≡ suc (turns r j n)
+      e = turns-more r j n (v .turned) l
+
+      go : Aging (view r x n) → WithoutReply c j (suc n)
+      go (unaged q z) = contradiction (ap isWaiting (t .phase)) z
+      go (waitsOn a) = other-phase (a .phase) (v .ready .phase) refl
+      go (readyAgain a) = record {
+        soon = λ z. absurd (omega (arith, z, e, a .over, t .left));
+        over = λ z z′. absurd (omega (arith, a .few, t .sends, z′));
+      }
+      go (givesUp a) = other-phase (a .phase) (v .ready .phase) refl
+  waits-step c j n l s u p t (taken v) = absurd (u (matches-true r w x c n (v .f)
+      (awaited-matches r x c n (held r w x n s) (t .progress) (v .f) (v .call) (v .passes) (v .awaited))))
+
+  without-reply-step : (c j n : ℕ) → j < n → x .at < n → Stands r x (suc n) → (turns r j n < 20 → ¬ Matches r x c n) → WithoutReply c j n
+      → WithoutReply c j (suc n)
+  without-reply-step c j n l l′ s u h = go (decLt (turns r j n) 20)
+    where
+      go : Dec (turns r j n < 20) → WithoutReply c j (suc n)
+      go (no p) = record {
+        soon = λ q. absurd (omega (arith, q, turns-step r j n .0));
+        over = λ q z. gave-up-stays n (changes r w x n s l′) (h .over (omega arith) z);
+      }
+      go (yes p) = waits-step c j n l (stands-before r w x n s l′) (u p) p (h .soon p) (changes r w x n s l′)
+
+  pub without-reply : (c j n : ℕ) → Sent r x c j → j < n → Stands r x n
+      → ((m : ℕ) → j < m → m < n → turns r j m < 20 → ¬ Matches r x c m) → WithoutReply c j n
   without-reply c j n q l s = along-from r w x (suc j) (omega (arith, q .stands .0)) (λ k. NoMatch k → WithoutReply c j k) base step n l s
     where
       NoMatch : ℕ → Type 0
       NoMatch n = (m : ℕ) → j < m → m < n → turns r j m < 20 → ¬ Matches r x c m
 
       base : NoMatch (suc j) → WithoutReply c j (suc j)
-      base u = without-reply-start c j (after-send c j n q l s)
+      base u =
+          let a : AfterSend c j = after-send c j n q l s in
+          let z : turns r j (suc j) ≡ 0 = turns-none r j (suc j) (omega arith) in
+          record {
+            soon = λ q. record { phase = a .phase; progress = a .progress; left = omega (arith, a .left, z); sends = refl };
+            over = λ q. absurd (omega (arith, q, z));
+          }
 
-      step : (k : ℕ) → Stands r x (suc k) → j < k → Held r x k → Move r x k → (NoMatch k → WithoutReply c j k) → NoMatch (suc k) → WithoutReply c j (suc k)
-      step k s h g m ih u = without-reply-step c j k h (omega (arith, q .stands .0)) s (u k h (omega arith)) (ih (λ m a b. u m a (omega arith)))
-
-  -- ── replies ──────────────────────────────────────────────────────────────────────────────────────────────────────
-
-  -- a reply is taken, and the read goes on to the next chunk
-  pub reply-taken : (c m n : ℕ) → Replied r x c m → m < n → Stands r x n
-      → (view r x m .progress ≡ 8 * c) × (view r x (suc m) .progress ≡ min (8 * c + 8) (askCount (x .ask)))
-      × (asks (view r x (suc m) .kind) ≡ true)
-  reply-taken c m n p l s = go (moveAt m (stands-back r w x (suc m) n s (omega arith) l) at)
-    where
-      aw : Awaits r x c m
-      aw = p .awaits
-
-      at : x .at < m
-      at = aw .stands .0
-
-      h : Held r x m
-      h = held r w x m (aw .stands)
-
-      sm : WithoutReply c (aw .j) m
-      sm = without-reply c (aw .j) m (aw .sent) (aw .before) (aw .stands) (λ k a b q. aw .unmatched k a b)
-
-      wt : (view r x m .phase ≡ waiting) × (view r x m .progress ≡ 8 * c) × (view r x m .left + turns r (aw .j) m ≡ 20)
-          × (view r x m .sends ≡ view r x (suc (aw .j)) .sends)
-      wt = sm .soon (aw .soon)
-
-      go : Move r x m → (view r x m .progress ≡ 8 * c) × (view r x (suc m) .progress ≡ min (8 * c + 8) (askCount (x .ask)))
-          × (asks (view r x (suc m) .kind) ≡ true)
-      go (stays a v k e f g) =
-          let q = matches-ok r w x c m (p .matches) in
-          contradiction (awaits-true (state r m) (q .0) (slotOf r x) (matches-awaited r x c m h (wt .1) (q .0) (q .1) (wt .0)))
-          (g (q .0) (q .1 .is) (q .1 .passes))
-      go (waits a v k d f) = absurd (turn-unmatched r x c m a (p .matches))
-      go (served a v k d e g i) = absurd (turn-unmatched r x c m a (p .matches))
-      go (gets f a k d e g i t u o) = (
-        wt .1,
-        ap (λ (y : Slot). y .progress) g ∙ advanced-progress (view r x m) ∙ rw (wt .1, h .count),
-        rw (g, advanced-same (view r x m) .kind) (e .isRead),
-      )
-
-  -- the slot awaits it
-  pub reply-awaited : (c m : ℕ) (p : Replied r x c m) → awaits (state r m) (matches-ok r w x c m (p .matches) .0) (slotOf r x) ≡ true
-  reply-awaited c m p =
-      let aw : Awaits r x c m = p .awaits in
-      let sm : WithoutReply c (aw .j) m = without-reply c (aw .j) m (aw .sent) (aw .before) (aw .stands) (λ k a b q. aw .unmatched k a b) in
-      let fo = matches-ok r w x c m (p .matches) in
-      awaits-true (state r m) (fo .0) (slotOf r x)
-      (matches-awaited r x c m (held r w x m (aw .stands)) (sm .soon (aw .soon) .1) (fo .0) (fo .1) (sm .soon (aw .soon) .0))
-
-  -- and the frame call that brings it is answered 0
-  pub reply-accepted : (c m : ℕ) → Replied r x c m → answer r m .number ≡ 0
-  reply-accepted c m p = go (kindAt r w m)
-    where
-      fo : (f : Frame) × MatchesOk r x c m f
-      fo = matches-ok r w x c m (p .matches)
-
-      other-call : (d : Call) → r .calls m ≡ d → isFrame d ≡ false → answer r m .number ≡ 0
-      other-call d e q = contradiction (ap isFrame (fo .1 .is)) (ap isFrame e ∙ q)
-
-      go : Kind (state r m) (buffer r m) (r .calls m) → answer r m .number ≡ 0
-      go (nothing a b d e f g) = contradiction (reply-awaited c m p) (g (fo .0) (fo .1 .is) (fo .1 .passes) (slotOf r x) (openedAt r w x .bound))
-      go (opens a k e f g l t z) = other-call (opening itsOwn a) e refl
-      go (sends k e f z) = other-call (turn itsOwn) e refl
-      go (idles e f z) = other-call (turn itsOwn) e refl
-      go (takes f k e a l b z) = ap (λ (u : Result). u .answer .number) z
-      go (closes t k e l a q z) = other-call (close t) e refl
-      go (resets o e l z) = other-call (reset o) e refl
-
-  -- no chunk is replied to twice
-  not-twice : (c m m′ : ℕ) → c < chunks r x → Replied r x c m → Replied r x c m′ → m < m′ → ⊥
-  not-twice c m m′ q p p′ l =
-      let s : Stands r x m′ = p′ .awaits .stands in
-      let a = reply-taken c m m′ p l s in
-      let sm : WithoutReply c (p′ .awaits .j) m′ = without-reply c (p′ .awaits .j) m′ (p′ .awaits .sent) (p′ .awaits .before) s
-      (λ k a b z. p′ .awaits .unmatched k a b) in
-      omega (arith, a .1, sm .soon (p′ .awaits .soon) .1, grown (suc m) m′ (omega (arith, p .awaits .stands .0)) (a .2) l s .progress, q)
-
-  pub replied-once : (c m m′ : ℕ) → Replied r x c m → Replied r x c m′ → m ≡ m′
-  replied-once c m m′ p p′ = go (decLt m m′) (decLt m′ m)
-    where
-      q : c < chunks r x
-      q = p .awaits .sent .chunk
-
-      go : Dec (m < m′) → Dec (m′ < m) → m ≡ m′
-      go (yes a) b = absurd (not-twice c m m′ q p p′ a)
-      go (no a) (yes b) = absurd (not-twice c m′ m q p′ p b)
-      go (no a) (no b) = omega arith
-
-  -- replies come in the chunks' order
-  pub replied-order : (c m m′ : ℕ) → Replied r x c m → Replied r x (suc c) m′ → m < m′
-  replied-order c m m′ p p′ = go (decLt m m′)
-    where
-      at : (c m : ℕ) → Replied r x c m → (view r x m .phase ≡ waiting) × (view r x m .progress ≡ 8 * c)
-      at c m p =
-          let a : Awaits r x c m = p .awaits in
-          let q = without-reply c (a .j) m (a .sent) (a .before) (a .stands) (λ k b d q. a .unmatched k b d) .soon (a .soon) in
-          (q .0, q .1)
-
-      go : Dec (m < m′) → m < m′
-      go (yes q) = q
-      go (no q) = absurd (omega (
-        arith,
-        at c m p .1,
-        at (suc c) m′ p′ .1,
-        grown m′ m (p′ .awaits .stands .0) (waits-asks m′ (at (suc c) m′ p′ .0)) (omega arith) (p .awaits .stands) .progress,
-      ))
-
-  -- the last chunk's reply makes the read done
-  pub replied-done : (n m : ℕ) → Stands r x n → m < n → Replied r x (chunks r x - 1) m → view r x n .phase ≡ done
-  replied-done n m s l p = full-done r w x n s full
-    where
-      a : (view r x m .progress ≡ 8 * (chunks r x - 1)) × (view r x (suc m) .progress ≡ min (8 * (chunks r x - 1) + 8) (askCount (x .ask)))
-          × (asks (view r x (suc m) .kind) ≡ true)
-      a = reply-taken (chunks r x - 1) m n p l s
-
-      full : askCount (x .ask) ≤ view r x n .progress
-      full = omega (arith, a .1, grown (suc m) n (omega (arith, p .awaits .stands .0)) (a .2) l s .progress, openedAt r w x .law .some)
-
-  -- three failed sends make it give up
-  pub failed-thrice : (n : ℕ) → Stands r x n → ThreeFailed r x n → view r x n .phase ≡ gaveUp
-  failed-thrice n s t = sm .over (t .third .late) three
-    where
-      l₃ : t .j₃ < n
-      l₃ = go (decLt (t .j₃) n)
-        where
-          go : Dec (t .j₃ < n) → t .j₃ < n
-          go (yes p) = p
-          go (no p) = absurd (omega (arith, t .third .late, turns-none r (t .j₃) n (omega arith)))
-
-      at₁ : x .at < t .j₁
-      at₁ = t .first .sent .stands .0
-
-      a₁ : AfterSend (t .c) (t .j₁)
-      a₁ = after-send (t .c) (t .j₁) n (t .first .sent) (omega (arith, t .order₁, t .order₂, l₃)) s
-
-      a₂ : AfterSend (t .c) (t .j₂)
-      a₂ = after-send (t .c) (t .j₂) n (t .second .sent) (omega (arith, t .order₂, l₃)) s
-
-      a₃ : AfterSend (t .c) (t .j₃)
-      a₃ = after-send (t .c) (t .j₃) n (t .third .sent) l₃ s
-
-      b₁₂ : view r x (suc (t .j₁)) .sends ≤ view r x (t .j₂) .sends
-      b₁₂ = grown (suc (t .j₁)) (t .j₂) (omega (arith, at₁)) (waits-asks (suc (t .j₁)) (a₁ .phase)) (t .order₁)
-          (t .second .sent .stands) .sends (a₁ .progress ∙ sym (a₂ .before))
-
-      b₂₃ : view r x (suc (t .j₂)) .sends ≤ view r x (t .j₃) .sends
-      b₂₃ = grown (suc (t .j₂)) (t .j₃) (omega (arith, t .second .sent .stands .0)) (waits-asks (suc (t .j₂)) (a₂ .phase)) (t .order₂)
-          (t .third .sent .stands) .sends (a₂ .progress ∙ sym (a₃ .before))
-
-      wk : WaitOk (state r (suc (t .j₃)) .tickets) (view r x (suc (t .j₃)))
-      wk = wait-ok (state r (suc (t .j₃)) .tickets) (view r x (suc (t .j₃))) (okAt r w x (suc (t .j₃))) (ap isWaiting (a₃ .phase))
-
-      three : view r x (suc (t .j₃)) .sends ≡ 3
-      three = omega (arith, a₁ .sends, a₂ .sends, a₃ .sends, b₁₂, b₂₃, wk .thrice)
-
-      sm : WithoutReply (t .c) (t .j₃) n
-      sm = without-reply (t .c) (t .j₃) n (t .third .sent) l₃ s (λ m a b q. t .third .unmatched m a q)
+      step : (k : ℕ) → Stands r x (suc k) → j < k → Held r x k → Changes r x k → (NoMatch k → WithoutReply c j k) → NoMatch (suc k)
+          → WithoutReply c j (suc k)
+      step k s h g v ih u =
+          without-reply-step c j k h (omega (arith, q .stands .0)) s (u k h (omega arith)) (ih (λ m a b. u m a (omega arith)))

@@ -1,33 +1,36 @@
--- The invariant of a slot that asks, from the event on at which it begins to: what it says of the calls since.
-use Prim.Native.Nat.{ℕ, zero, suc, _+_, _*_, _-_, _≤_, _<_, min}
+-- What a slot that asks says of the calls since it began: which chunks were replied to, and which sends failed.
+use Prim.Native.Nat.{ℕ, zero, suc, _+_, _*_, _-_, _≤_, _<_}
 use mathlib.Core.Path.{_≡_, refl, sym, _∙_, ap, subst}
-use mathlib.Core.Logic.{_⊎_, inl, inr, _≢_}
 use mathlib.Core.List.{List}
 use mathlib.Core.Option.{some}
-use mathlib.Core.Bool.{true, false, false≢true, true≢false}
+use mathlib.Core.Bool.{true, false}
 use native.Mathlib.Omega.{arith}
 use native.Mathlib.Decide.{ℕ-discrete, decLt}
 use lib.ListN.{length, getD}
 use lib.Seq.{sets}
 use Rattle.bus_rules.specs.Frames.{content}
-use Rattle.bridge_rules.specs.State.{Frame, Slot, ready, waiting, done, gaveUp, isWaiting, asks}
+use Rattle.bridge_rules.specs.State.{Frame, Slot, ready, waiting, gaveUp, isWaiting, asks}
 use Rattle.bridge_rules.specs.Opening.{isWrite, askCount}
-use Rattle.bridge_rules.specs.Turn.{aged, advanced, sentSlot, sentFrame}
-use Rattle.bridge_rules.specs.Incoming.{awaits, contentNumber}
+use Rattle.bridge_rules.specs.Turn.{aged, advanced}
+use Rattle.bridge_rules.specs.Incoming.{contentNumber}
 use Rattle.bridge_rules.specs.Call.{Call, itsOwn, turn, frame}
-use Rattle.bridge_rules.specs.Run.{Run, state, buffer, answer, Lawful, Shaped, Transfer, slotOf, Stands, accepted, turns, lenOf}
+use Rattle.bridge_rules.specs.Run.{Run, state, buffer, Lawful, Shaped, Transfer, slotOf, Stands, accepted, turns, lenOf}
 use Rattle.bridge_rules.specs.Replies.{place, Sent, Matches, Replied, Failed}
 use Rattle.bridge_rules.specs.Demand3.{brought}
-use Rattle.bridge_rules.proofs.ReadWrite.{asks-of, read-of}
+use Rattle.bridge_rules.proofs.KindTests.{asks-of, read-of}
 use Rattle.bridge_rules.proofs.FrameLaws.{len-eight, len-inside, len-small, content-length}
-use Rattle.bridge_rules.proofs.Sound.{Same, ReadyOk, aged-same, advanced-same, sent-same, advanced-more, advanced-done, sent-read}
-use Rattle.bridge_rules.proofs.CallCases.{AwaitsOk, awaits-true, WaitOk, wait-ok}
-use Rattle.bridge_rules.proofs.SlotEffects.{SamePart, getD-sets-below, getD-sets-in}
-use Rattle.bridge_rules.proofs.LedgerAgrees.{turns-same, turns-more, turns-none, turns-mono, storage-sound}
-use Rattle.bridge_rules.proofs.Standing.{okAt, openedAt, view, Held, held, opened-stands, Move, stays, waits, served, gets, Begins}
-use Rattle.bridge_rules.proofs.Standing.{begins-open, along-from, stands-before}
-use Rattle.bridge_rules.proofs.Aging.{AgedBy, unaged, waitsOn, readyAgain, givesUp, agedBy, aged-keeps, other-phase}
-use Rattle.bridge_rules.proofs.SentRequests.{matches-ok, matches-true, turn-unmatched, matches-awaited, awaited-matches, sends-request}
+use Rattle.bridge_rules.proofs.Search.{contradiction}
+use Rattle.bridge_rules.proofs.BufferParts.{SamePart, getD-sets-below, getD-sets-in}
+use Rattle.bridge_rules.proofs.AwaitsTest.{AwaitsOk, awaits-true}
+use Rattle.bridge_rules.proofs.SlotOk.{WaitOk, other-phase}
+use Rattle.bridge_rules.proofs.SlotChanges.{Same, aged-same, aged-progress, aged-sends, aged-waiting, Aging, unaged, waitsOn, readyAgain, givesUp}
+use Rattle.bridge_rules.proofs.SlotChanges.{Requested, sent-read, advanced-sends, advanced-progress, advanced-not}
+use Rattle.bridge_rules.proofs.SlotEffects.{unchanged, ages, served, taken, change-same}
+use Rattle.bridge_rules.proofs.TurnCounts.{turns-same, turns-more, turns-none, turns-mono}
+use Rattle.bridge_rules.proofs.SoundRuns.{storage-sound}
+use Rattle.bridge_rules.proofs.Standing.{okAt, agingAt, openedAt, view, Changes, Held, held, opened-stands, Begins, begins-open, along-from, stands-before}
+use Rattle.bridge_rules.proofs.Matching.{matches-ok, matches-true, turn-unmatched, matches-awaited, awaited-matches}
+use Rattle.bridge_rules.proofs.SentRequests.{sends-request}
 
 -- s failed sends of chunk c, the latest before `top`
 abbrev pub Fails : (r : Run) (x : Transfer r) → ℕ → ℕ → ℕ → ℕ → Type 0
@@ -58,7 +61,7 @@ pub record AskedSoFar (r : Run) (x : Transfer r) (n : ℕ) : Type 0 where
       → Pending r x c s (view r x n .left) n
   pub ifGaveUp : view r x n .phase ≡ gaveUp → (c : ℕ) → view r x n .progress ≡ 8 * c → Fails r x c 3 n n
 
-failed-mono : (r : Run) (x : Transfer r) (c j n n′ : ℕ) → n ≤ n′ → Failed r x c j n → Failed r x c j n′
+pub failed-mono : (r : Run) (x : Transfer r) (c j n n′ : ℕ) → n ≤ n′ → Failed r x c j n → Failed r x c j n′
 failed-mono r x c j n n′ h f = record { sent = f .sent; late = omega (arith, f .late, turns-mono r j n n′ h); unmatched = f .unmatched }
 
 pub fails-mono : (r : Run) (x : Transfer r) (c s n n′ top top′ : ℕ) → n ≤ n′ → top ≤ top′ → Fails r x c s n top → Fails r x c s n′ top′
@@ -107,21 +110,6 @@ wait-on r x c s l l′ n p t u = record {
     go m a b (yes v) = subst (λ (i : ℕ). ¬ Matches r x c i) (sym v) u
     go m a b (no v) = p .unmatched m a (omega arith)
 
-advanced-phase : (y : Slot) → (advanced y .phase ≡ ready) ⊎ (advanced y .phase ≡ done)
-advanced-phase y = go (decLt (y .progress + 8) (y .count))
-  where
-    go : Dec (y .progress + 8 < y .count) → (advanced y .phase ≡ ready) ⊎ (advanced y .phase ≡ done)
-    go (yes p) = inl (advanced-more y p .0)
-    go (no p) = inr (advanced-done y (omega arith) .0)
-
-advanced-sends : (y : Slot) → advanced y .sends ≡ 0
-unfolding advanced
-advanced-sends y = refl
-
-pub advanced-progress : (y : Slot) → advanced y .progress ≡ min (y .progress + 8) (y .count)
-unfolding advanced
-advanced-progress y = refl
-
 module _ (r : Run) (w : Lawful r) (x : Transfer r) where
   few : askCount (x .ask) ≤ 128
   few = openedAt r w x .law .few
@@ -141,157 +129,26 @@ module _ (r : Run) (w : Lawful r) (x : Transfer r) where
 
   -- the failed sends of a slot that is ready after aging, before this turn's send
   ready-fails : (n c : ℕ) → AskedSoFar r x n → r .calls n ≡ turn itsOwn → accepted r n ≡ true → aged (view r x n) .phase ≡ ready
-      → aged (view r x n) .progress ≡ 8 * c
-      → Fails r x c (aged (view r x n) .sends) (suc n) n
-  ready-fails n c h e a p q = go (agedBy (state r n .tickets) (view r x n) (okAt r w x n))
+      → view r x n .progress ≡ 8 * c → Fails r x c (view r x n .sends) (suc n) n
+  ready-fails n c h e a p q = go (agingAt r w x n)
     where
-      go : AgedBy (view r x n) → Fails r x c (aged (view r x n) .sends) (suc n) n
-      go (unaged u v) = rw u (fails-mono r x c (view r x n .sends) n (suc n) n n (omega arith) (omega arith)
-          (h .ifReady (ap (λ (y : Slot). y .phase) (sym u) ∙ p) c (ap (λ (y : Slot). y .progress) (sym u) ∙ q)))
-      go (waitsOn a b c d f) = other-phase (aged (view r x n) .phase) ready waiting p b (λ z. omega arith)
-      go (readyAgain u v b d f) =
-          let wk : WaitOk (state r n .tickets) (view r x n) = wait-ok (state r n .tickets) (view r x n) (okAt r w x n) (ap isWaiting u) in
-          let sc : view r x n .sends ≡ suc (view r x n .sends - 1) = omega (arith, wk .once) in
-          let pd : Pending r x c (view r x n .sends - 1) (view r x n .left) n = h .ifWaiting u c (view r x n .sends - 1) (sym f ∙ q) sc in
-          let fl : Fails r x c (suc (view r x n .sends - 1)) (suc n) n
-          = expire r x c (view r x n .sends - 1) n (subst (λ (l : ℕ). Pending r x c (view r x n .sends - 1) l n) v pd) e a in
-          subst (λ (s : ℕ). Fails r x c s (suc n) n) (sym (d ∙ sc)) fl
-      go (givesUp u v b d f g) = other-phase (aged (view r x n) .phase) ready gaveUp p d (λ z. omega arith)
-
-  asked-unchanged : (n : ℕ) → Held r x n → AskedSoFar r x n → view r x (suc n) ≡ view r x n → SamePart (slotOf r x) (buffer r n) (buffer r (suc n))
-      → accepted r n ≡ false
-      → ((f : Frame) → r .calls n ≡ frame itsOwn f → contentNumber (state r n .own) f ≡ 0 → awaits (state r n) f (slotOf r x) ≡ false)
-      → AskedSoFar r x (suc n)
-  asked-unchanged n h p a v e g = record {
-    asking = rw a (p .asking);
-    got = λ c l. part-got c n v (p .got c (rw a at l));
-    ifReady = λ q c u. rw a (fails-mono r x c (view r x n .sends) n (suc n) n (suc n) (omega arith) (omega arith)
-        (p .ifReady (rw a at q) c (rw a at u)));
-    ifWaiting = λ q c s u z. rw a (wait-on r x c s (view r x n .left) (view r x n .left) n
-        (p .ifWaiting (rw a at q) c s (rw a at u) (rw a at z))
-        (λ j l. ap (λ (k : ℕ). k + view r x n .left) (turns-same r j n e)) (unmatched-here c (rw a at q) (rw a at u)));
-    ifGaveUp = λ q c u. fails-mono r x c 3 n (suc n) n (suc n) (omega arith) (omega arith) (p .ifGaveUp (rw a at q) c (rw a at u));
-  }
-    where
-      unmatched-here : (c : ℕ) → view r x n .phase ≡ waiting → view r x n .progress ≡ 8 * c → ¬ Matches r x c n
-      unmatched-here c q u t =
-          let f = matches-ok r w x c n t in
-          true≢false (sym (awaits-true (state r n) (f .0) (slotOf r x) (matches-awaited r x c n h u (f .0) (f .1) q))
-          ∙ g (f .0) (f .1 .is) (f .1 .passes))
-
-  asked-aged : (n : ℕ) → AskedSoFar r x n → r .calls n ≡ turn itsOwn → accepted r n ≡ true → view r x (suc n) ≡ aged (view r x n)
-      → buffer r (suc n) ≡ buffer r n → AskedSoFar r x (suc n)
-  asked-aged n p e a c d = go (agedBy (state r n .tickets) (view r x n) (okAt r w x n))
-    where
-      asking : asks (view r x (suc n) .kind) ≡ true
-      asking = rw (c, aged-same (view r x n) .kind) (p .asking)
-
-      got : aged (view r x n) .progress ≡ view r x n .progress → (i : ℕ) → 8 * i < view r x (suc n) .progress → Got r x i (suc n)
-      got u i l = same-got i n d (p .got i (rw (c, u) at l))
-
-      ifReady : view r x (suc n) .phase ≡ ready → (i : ℕ) → view r x (suc n) .progress ≡ 8 * i
-          → Fails r x i (view r x (suc n) .sends) (suc n) (suc n)
-      ifReady q i u = rw c (fails-mono r x i (aged (view r x n) .sends) (suc n) (suc n) n (suc n) (omega arith) (omega arith)
-          (ready-fails n i p e a (rw c at q) (rw c at u)))
-
-      go : AgedBy (view r x n) → AskedSoFar r x (suc n)
-      go (unaged u v) = record {
-        asking = asking;
-        got = got (ap (λ (y : Slot). y .progress) u);
-        ifReady = ifReady;
-        ifWaiting = λ q i s z z′. absurd (false≢true (sym v ∙ ap isWaiting (ap (λ (y : Slot). y .phase) (sym (c ∙ u)) ∙ q)));
-        ifGaveUp = λ q i z. fails-mono r x i 3 n (suc n) n (suc n) (omega arith) (omega arith)
-            (p .ifGaveUp (rw (c, u) at q) i (rw (c, u) at z));
-      }
-      go (waitsOn u v b f g) = record {
-        asking = asking;
-        got = got g;
-        ifReady = λ q. other-phase (aged (view r x n) .phase) waiting ready v (rw c at q) (λ z. omega arith);
-        ifWaiting = λ q i s z z′. rw c (wait-on r x i s (view r x n .left) (aged (view r x n) .left) n
-            (p .ifWaiting u i s (sym g ∙ (rw c at z)) (sym f ∙ (rw c at z′)))
-            (λ j l. omega (arith, turns-more r j n a l, b)) (turn-unmatched r x i n e));
-        ifGaveUp = λ q. other-phase (aged (view r x n) .phase) waiting gaveUp v (rw c at q) (λ z. omega arith);
-      }
-      go (readyAgain u v b f g) = record {
-        asking = asking;
-        got = got g;
-        ifReady = ifReady;
-        ifWaiting = λ q. other-phase (aged (view r x n) .phase) ready waiting b (rw c at q) (λ z. omega arith);
-        ifGaveUp = λ q. other-phase (aged (view r x n) .phase) ready gaveUp b (rw c at q) (λ z. omega arith);
-      }
-      go (givesUp u v b f g h) = record {
-        asking = asking;
-        got = got h;
-        ifReady = λ q. other-phase (aged (view r x n) .phase) gaveUp ready f (rw c at q) (λ z. omega arith);
-        ifWaiting = λ q. other-phase (aged (view r x n) .phase) gaveUp waiting f (rw c at q) (λ z. omega arith);
-        ifGaveUp = λ q i z.
-            let pd : Pending r x i 2 (view r x n .left) n = p .ifWaiting u i 2 (sym h ∙ (rw c at z)) b in
-            fails-mono r x i 3 (suc n) (suc n) n (suc n) (omega arith) (omega arith) (expire r x i 2 n (subst (λ (l : ℕ). Pending r x i 2 l
-            n) v pd) e a);
-      }
-
-  asked-served : (n : ℕ) → Stands r x n → Held r x n → AskedSoFar r x n → r .calls n ≡ turn itsOwn → accepted r n ≡ true
-      → ReadyOk (state r n .tickets) (aged (view r x n))
-      → view r x (suc n) ≡ sentSlot (aged (view r x n)) → buffer r (suc n) ≡ buffer r n
-      → answer r n .sent ≡ some (sentFrame (state r n .own) (slotOf r x) (aged (view r x n)) (buffer r n)) → AskedSoFar r x (suc n)
-  asked-served n st h p e a o c d i = record {
-    asking = rw (c, sent-same (aged (view r x n)) .kind) isRead;
-    got = λ k l. same-got k n d (p .got k (omega (arith, l, progress, keeps)));
-    ifReady = λ q. other-phase (view r x (suc n) .phase) waiting ready phase q (λ z. omega arith);
-    ifWaiting = ifWaiting;
-    ifGaveUp = λ q. other-phase (view r x (suc n) .phase) waiting gaveUp phase q (λ z. omega arith);
-  }
-    where
-      y : Slot
-      y = aged (view r x n)
-
-      same : Same (view r x n) (aged (view r x n))
-      same = aged-same (view r x n)
-
-      isRead : asks (aged (view r x n) .kind) ≡ true
-      isRead = ap asks (same .kind) ∙ p .asking
-
-      sr : (sentSlot (aged (view r x n)) .phase ≡ waiting) × (sentSlot (aged (view r x n)) .progress ≡ aged (view r x n) .progress)
-          × (sentSlot (aged (view r x n)) .sends ≡ suc (aged (view r x n) .sends)) × (sentSlot (aged (view r x n)) .left ≡ 20)
-      sr = sent-read (aged (view r x n)) isRead
-
-      phase : view r x (suc n) .phase ≡ waiting
-      phase = ap (λ (y : Slot). y .phase) c ∙ sr .0
-
-      progress : view r x (suc n) .progress ≡ aged (view r x n) .progress
-      progress = ap (λ (y : Slot). y .progress) c ∙ sr .1
-
-      keeps : aged (view r x n) .progress ≡ view r x n .progress
-      keeps = aged-keeps (state r n .tickets) (view r x n) (okAt r w x n) .0
-
-      ifWaiting : view r x (suc n) .phase ≡ waiting → (k s : ℕ) → view r x (suc n) .progress ≡ 8 * k → view r x (suc n) .sends ≡ suc s
-          → Pending r x k s (view r x (suc n) .left) (suc n)
-      ifWaiting q k s u z = record {
-        j = n;
-        before = omega arith;
-        sent = record {
-          stands = st;
-          isRead = read-of (x .ask) (h .kind) (p .asking);
-          chunk = omega (arith, at, o .mid .below, same .count, h .count);
-          turned = a;
-          yields = i ∙ ap some (sends-request r w x k n (aged (view r x n)) isRead at (same .device ∙ h .device) (same .table
-              ∙ h .table) (same .offset ∙ h .offset) (same .count ∙ h .count));
-        };
-        clock = omega (arith, turns-none r n (suc n) (omega arith), ap (λ (y : Slot). y .left) c, sr .3);
-        unmatched = λ m l l′. absurd (omega arith);
-        earlier = subst (λ (t : ℕ). Fails r x k t (suc n) n) same-sends (ready-fails n k p e a (o .phase) at);
-      }
-        where
-          at : aged (view r x n) .progress ≡ 8 * k
-          at = sym progress ∙ u
-
-          same-sends : aged (view r x n) .sends ≡ s
-          same-sends = omega (arith, z, ap (λ (y : Slot). y .sends) c, sr .2)
+      go : Aging (view r x n) → Fails r x c (view r x n .sends) (suc n) n
+      go (unaged u v) = fails-mono r x c (view r x n .sends) n (suc n) n n (omega arith) (omega arith)
+          (h .ifReady (ap (λ (y : Slot). y .phase) (sym u) ∙ p) c q)
+      go (waitsOn u) = other-phase (u .phase) p refl
+      go (readyAgain u) =
+          let sc : view r x n .sends ≡ suc (view r x n .sends - 1) = omega (arith, u .was .once) in
+          let pd : Pending r x c (view r x n .sends - 1) (view r x n .left) n
+          = h .ifWaiting (u .was .phase) c (view r x n .sends - 1) q sc in
+          let fl : Fails r x c (suc (view r x n .sends - 1)) (suc n) n = expire r x c (view r x n .sends - 1) n
+          (subst (λ (l : ℕ). Pending r x c (view r x n .sends - 1) l n) (u .over) pd) e a in
+          subst (λ (s : ℕ). Fails r x c s (suc n) n) (sym sc) fl
+      go (givesUp u) = other-phase (u .phase) p refl
 
   -- a frame that the slot awaits is the reply to its chunk
   pub awaited-replied : (n : ℕ) (f : Frame) → Stands r x n → Held r x n → AskedSoFar r x n → r .calls n ≡ frame itsOwn f
-      → contentNumber (state r n .own) f ≡ 0 → AwaitsOk (state r n) f (slotOf r x) → (wk : WaitOk (state r n .tickets) (view r x n))
-      → Replied r x (wk .mid .chunk) n
+      → contentNumber (state r n .own) f ≡ 0 → AwaitsOk (state r n) f (slotOf r x) → (wk : WaitOk (view r x n))
+      → Replied r x (wk .partway .chunk) n
   awaited-replied n f st h p e cr aw wk = record {
     awaits = record {
       stands = st;
@@ -301,47 +158,150 @@ module _ (r : Run) (w : Lawful r) (x : Transfer r) where
       soon = omega (arith, pd .clock, wk .some);
       unmatched = pd .unmatched;
     };
-    matches = matches-true r w x (wk .mid .chunk) n f (awaited-matches r x (wk .mid .chunk) n h (wk .mid .at) f e cr aw);
+    matches = matches-true r w x (wk .partway .chunk) n f (awaited-matches r x (wk .partway .chunk) n h (wk .partway .at) f e cr aw);
   }
     where
-      pd : Pending r x (wk .mid .chunk) (view r x n .sends - 1) (view r x n .left) n
-      pd = p .ifWaiting (wk .phase) (wk .mid .chunk) (view r x n .sends - 1) (wk .mid .at) (omega (arith, wk .once))
+      pd : Pending r x (wk .partway .chunk) (view r x n .sends - 1) (view r x n .left) n
+      pd = p .ifWaiting (wk .phase) (wk .partway .chunk) (view r x n .sends - 1) (wk .partway .at) (omega (arith, wk .once))
 
-  asked-taken : (n : ℕ) (f : Frame) → Stands r x n → Held r x n → AskedSoFar r x n → r .calls n ≡ frame itsOwn f
-      → contentNumber (state r n .own) f ≡ 0
-      → AwaitsOk (state r n) f (slotOf r x) → WaitOk (state r n .tickets) (view r x n) → view r x (suc n) ≡ advanced (view r x n)
-      → buffer r (suc n) ≡ sets (buffer r n) (128 * slotOf r x + view r x n .progress) (content f) → AskedSoFar r x (suc n)
-  asked-taken n f st h p e cr aw wk c d = record {
-    asking = rw (c, advanced-same (view r x n) .kind) (p .asking);
-    got = λ k l. got k l (decLt (8 * k) (view r x n .progress));
-    ifReady = λ q k u. subst (λ (s : ℕ). Fails r x k s (suc n) (suc n)) (sym (ap (λ (y : Slot). y .sends) c ∙ advanced-sends (view r x n)))
-        tt;
-    ifWaiting = λ q. absurd (not-phase waiting (λ z. omega arith) (λ z. omega arith) q);
-    ifGaveUp = λ q. absurd (not-phase gaveUp (λ z. omega arith) (λ z. omega arith) q);
+  asked-begin : (b : ℕ) → Begins r x b → asks (view r x b .kind) ≡ true → AskedSoFar r x b
+  asked-begin b g a = record {
+    asking = a;
+    got = λ c l. absurd (omega (arith, l, g .progress));
+    ifReady = λ q c u. rw (g .sends) tt;
+    ifWaiting = λ q. other-phase (g .phase) q refl;
+    ifGaveUp = λ q. other-phase (g .phase) q refl;
+  }
+
+  asked-step : (n : ℕ) → Stands r x n → Held r x n → Changes r x n → AskedSoFar r x n → AskedSoFar r x (suc n)
+  asked-step n st h (unchanged v) p = record {
+    asking = rw (v .after) (p .asking);
+    got = λ c l. part-got c n (v .part) (p .got c (rw (v .after) at l));
+    ifReady = λ q c u. rw (v .after) (fails-mono r x c (view r x n .sends) n (suc n) n (suc n) (omega arith) (omega arith)
+        (p .ifReady (rw (v .after) at q) c (rw (v .after) at u)));
+    ifWaiting = λ q c s u z. rw (v .after) (wait-on r x c s (view r x n .left) (view r x n .left) n
+        (p .ifWaiting (rw (v .after) at q) c s (rw (v .after) at u) (rw (v .after) at z))
+        (λ j l. ap (λ (k : ℕ). k + view r x n .left) (turns-same r j n (v .noTurn))) (unmatched c (rw (v .after) at q) (rw (v .after) at u)));
+    ifGaveUp = λ q c u. fails-mono r x c 3 n (suc n) n (suc n) (omega arith) (omega arith)
+        (p .ifGaveUp (rw (v .after) at q) c (rw (v .after) at u));
   }
     where
-      not-phase : (t : ℕ) → ready ≢ t → done ≢ t → view r x (suc n) .phase ≡ t → ⊥
-      not-phase t a b q = go (advanced-phase (view r x n))
+      unmatched : (c : ℕ) → view r x n .phase ≡ waiting → view r x n .progress ≡ 8 * c → ¬ Matches r x c n
+      unmatched c q u t =
+          let f = matches-ok r w x c n t in
+          contradiction (awaits-true (state r n) (f .0) (slotOf r x) (matches-awaited r x c n h u (f .0) (f .1) q))
+          (v .unawaited (f .0) (f .1 .is) (f .1 .passes))
+  asked-step n st h (ages v) p = record {
+    asking = rw (change-same (ages v) .kind) (p .asking);
+    got = λ c l. same-got c n (v .kept) (p .got c (rw progress at l));
+    ifReady = λ q c u. subst (λ (s : ℕ). Fails r x c s (suc n) (suc n)) (sym sends)
+        (fails-mono r x c (view r x n .sends) (suc n) (suc n) n (suc n) (omega arith) (omega arith)
+        (ready-fails n c p (v .call) (v .turned) (sym phase ∙ q) (sym progress ∙ u)));
+    ifWaiting = ifWaiting;
+    ifGaveUp = ifGaveUp;
+  }
+    where
+      phase : view r x (suc n) .phase ≡ aged (view r x n) .phase
+      phase = ap (λ (y : Slot). y .phase) (v .after)
+
+      progress : view r x (suc n) .progress ≡ view r x n .progress
+      progress = ap (λ (y : Slot). y .progress) (v .after) ∙ aged-progress (view r x n)
+
+      sends : view r x (suc n) .sends ≡ view r x n .sends
+      sends = ap (λ (y : Slot). y .sends) (v .after) ∙ aged-sends (view r x n)
+
+      ifWaiting : view r x (suc n) .phase ≡ waiting → (c s : ℕ) → view r x (suc n) .progress ≡ 8 * c → view r x (suc n) .sends ≡ suc s
+          → Pending r x c s (view r x (suc n) .left) (suc n)
+      ifWaiting q c s u z =
+          let a = aged-waiting (view r x n) (okAt r w x n) (sym phase ∙ q) in
+          wait-on r x c s (view r x n .left) (view r x (suc n) .left) n
+          (p .ifWaiting (a .was .phase) c s (sym progress ∙ u) (sym sends ∙ z))
+          (λ j l. omega (arith, turns-more r j n (v .turned) l, a .left, ap (λ (y : Slot). y .left) (v .after)))
+          (turn-unmatched r x c n (v .call))
+
+      ifGaveUp : view r x (suc n) .phase ≡ gaveUp → (c : ℕ) → view r x (suc n) .progress ≡ 8 * c → Fails r x c 3 (suc n) (suc n)
+      ifGaveUp q c u = go (agingAt r w x n)
         where
-          z : advanced (view r x n) .phase ≡ t
-          z = ap (λ (y : Slot). y .phase) (sym c) ∙ q
+          go : Aging (view r x n) → Fails r x c 3 (suc n) (suc n)
+          go (unaged e f) = fails-mono r x c 3 n (suc n) n (suc n) (omega arith) (omega arith)
+              (p .ifGaveUp (ap (λ (y : Slot). y .phase) (sym e) ∙ sym phase ∙ q) c (sym progress ∙ u))
+          go (waitsOn a) = other-phase (a .phase) (sym phase ∙ q) refl
+          go (readyAgain a) = other-phase (a .phase) (sym phase ∙ q) refl
+          go (givesUp a) =
+              let pd : Pending r x c 2 (view r x n .left) n = p .ifWaiting (a .was .phase) c 2 (sym progress ∙ u) (a .third) in
+              fails-mono r x c 3 (suc n) (suc n) n (suc n) (omega arith) (omega arith)
+              (expire r x c 2 n (subst (λ (l : ℕ). Pending r x c 2 l n) (a .over) pd) (v .call) (v .turned))
+  asked-step n st h (served v) p = record {
+    asking = rw (change-same (served v) .kind) (p .asking);
+    got = λ c l. same-got c n (v .kept) (p .got c (rw progress at l));
+    ifReady = λ q. other-phase phase q refl;
+    ifWaiting = ifWaiting;
+    ifGaveUp = λ q. other-phase phase q refl;
+  }
+    where
+      same : Same (view r x n) (aged (view r x n))
+      same = aged-same (view r x n)
 
-          go : (advanced (view r x n) .phase ≡ ready) ⊎ (advanced (view r x n) .phase ≡ done) → ⊥
-          go (inl u) = other-phase _ ready t u z a
-          go (inr u) = other-phase _ done t u z b
+      asking : asks (aged (view r x n) .kind) ≡ true
+      asking = ap asks (same .kind) ∙ p .asking
+
+      sr : Requested (aged (view r x n))
+      sr = sent-read (aged (view r x n)) asking
+
+      phase : view r x (suc n) .phase ≡ waiting
+      phase = ap (λ (y : Slot). y .phase) (v .after) ∙ sr .phase
+
+      progress : view r x (suc n) .progress ≡ view r x n .progress
+      progress = ap (λ (y : Slot). y .progress) (v .after) ∙ sr .progress ∙ aged-progress (view r x n)
+
+      ifWaiting : view r x (suc n) .phase ≡ waiting → (c s : ℕ) → view r x (suc n) .progress ≡ 8 * c → view r x (suc n) .sends ≡ suc s
+          → Pending r x c s (view r x (suc n) .left) (suc n)
+      ifWaiting q c s u z = record {
+        j = n;
+        before = omega arith;
+        sent = record {
+          stands = st;
+          isRead = read-of (x .ask) (h .kind) (p .asking);
+          chunk = omega (arith, at, v .ready .partway .below, same .count, h .count);
+          turned = v .turned;
+          yields = v .yields ∙ ap some (sends-request r w x c n (aged (view r x n)) asking at (same .device ∙ h .device)
+              (same .table ∙ h .table) (same .offset ∙ h .offset) (same .count ∙ h .count));
+        };
+        clock = omega (arith, turns-none r n (suc n) (omega arith), ap (λ (y : Slot). y .left) (v .after), sr .left);
+        unmatched = λ m l l′. absurd (omega arith);
+        earlier = subst (λ (t : ℕ). Fails r x c t (suc n) n) same-sends
+            (ready-fails n c p (v .call) (v .turned) (v .ready .phase) (sym progress ∙ u));
+      }
+        where
+          at : aged (view r x n) .progress ≡ 8 * c
+          at = aged-progress (view r x n) ∙ sym progress ∙ u
+
+          same-sends : view r x n .sends ≡ s
+          same-sends = omega (arith, z, ap (λ (y : Slot). y .sends) (v .after), sr .sends, aged-sends (view r x n))
+  asked-step n st h (taken v) p = record {
+    asking = rw (change-same (taken v) .kind) (p .asking);
+    got = λ k l. got k l (decLt (8 * k) (view r x n .progress));
+    ifReady = λ q k u. subst (λ (s : ℕ). Fails r x k s (suc n) (suc n))
+        (sym (ap (λ (y : Slot). y .sends) (v .after) ∙ advanced-sends (view r x n))) tt;
+    ifWaiting = λ q. advanced-not (view r x n) waiting (sym phase ∙ q) refl refl;
+    ifGaveUp = λ q. advanced-not (view r x n) gaveUp (sym phase ∙ q) refl refl;
+  }
+    where
+      phase : view r x (suc n) .phase ≡ advanced (view r x n) .phase
+      phase = ap (λ (y : Slot). y .phase) (v .after)
 
       i : ℕ
-      i = wk .mid .chunk
+      i = v .waits .partway .chunk
 
-      at : view r x n .progress ≡ 8 * wk .mid .chunk
-      at = wk .mid .at
+      at : view r x n .progress ≡ 8 * v .waits .partway .chunk
+      at = v .waits .partway .at
 
-      replied : Replied r x (wk .mid .chunk) n
-      replied = awaited-replied n f st h p e cr aw wk
+      replied : Replied r x (v .waits .partway .chunk) n
+      replied = awaited-replied n (v .f) st h p (v .call) (v .passes) (v .awaited) (v .waits)
 
-      len : length (content f) ≡ lenOf r x (wk .mid .chunk)
-      len = content-length f (subst Shaped e (w .shaped n) .1)
-          (omega (arith, aw .len, len-eight (view r x n .count) (view r x n .progress))) ∙ (rw (h .count, at) at (aw .len))
+      len : length (content (v .f)) ≡ lenOf r x (v .waits .partway .chunk)
+      len = content-length (v .f) (subst Shaped (v .call) (w .shaped n) .1)
+          (omega (arith, v .awaited .len, len-eight (view r x n .count) (view r x n .progress))) ∙ (rw (h .count, at) at (v .awaited .len))
 
       got : (k : ℕ) → 8 * k < view r x (suc n) .progress → Dec (8 * k < view r x n .progress) → Got r x k (suc n)
       got k l (yes q) = record { m = g .m; before = omega (arith, g .before); replied = g .replied; kept = kept }
@@ -350,52 +310,38 @@ module _ (r : Run) (w : Lawful r) (x : Transfer r) where
           g = p .got k q
 
           kept : (j : ℕ) → j < lenOf r x k → getD (buffer r (suc n)) (place r x k + j) 0 ≡ getD (brought (r .calls (g .m))) j 0
-          kept j u = ap (λ (b : List ℕ). getD b (place r x k + j) 0) d
-              ∙ getD-sets-below (buffer r n) (128 * slotOf r x + view r x n .progress) (content f) (place r x k + j)
+          kept j u = ap (λ (b : List ℕ). getD b (place r x k + j) 0) (v .stored)
+              ∙ getD-sets-below (buffer r n) (128 * slotOf r x + view r x n .progress) (content (v .f)) (place r x k + j)
               (omega (arith, at, len-small (askCount (x .ask)) k j few u .1, q))
               ∙ g .kept j u
       got k l (no q) = record { m = n; before = omega arith; replied = subst (λ (t : ℕ). Replied r x t n) same replied; kept = kept }
         where
-          same : wk .mid .chunk ≡ k
-          same = omega (arith, at, l, ap (λ (y : Slot). y .progress) c, advanced-progress (view r x n))
+          same : v .waits .partway .chunk ≡ k
+          same = omega (arith, at, l, ap (λ (y : Slot). y .progress) (v .after), advanced-progress (view r x n))
 
           pl : place r x k ≡ 128 * slotOf r x + view r x n .progress
           pl = ap (λ (t : ℕ). 128 * slotOf r x + t) (sym (at ∙ ap (λ (t : ℕ). 8 * t) same))
 
           kept : (j : ℕ) → j < lenOf r x k → getD (buffer r (suc n)) (place r x k + j) 0 ≡ getD (brought (r .calls n)) j 0
           kept j u =
-              let ln : length (content f) ≡ lenOf r x k = len ∙ ap (lenOf r x) same in
-              ap (λ (b : List ℕ). getD b (place r x k + j) 0) d ∙ ap
-              (λ (t : ℕ). getD (sets (buffer r n) (128 * slotOf r x + view r x n .progress) (content f)) (t + j) 0) pl
-              ∙ getD-sets-in (buffer r n) (128 * slotOf r x + view r x n .progress) (content f) j
+              let ln : length (content (v .f)) ≡ lenOf r x k = len ∙ ap (lenOf r x) same in
+              ap (λ (b : List ℕ). getD b (place r x k + j) 0) (v .stored) ∙ ap
+              (λ (t : ℕ). getD (sets (buffer r n) (128 * slotOf r x + view r x n .progress) (content (v .f))) (t + j) 0) pl
+              ∙ getD-sets-in (buffer r n) (128 * slotOf r x + view r x n .progress) (content (v .f)) j
               (omega (
                 arith,
                 storage-sound r w n .1,
                 openedAt r w x .bound,
                 few,
                 len,
-                len-inside (askCount (x .ask)) (8 * wk .mid .chunk) (omega (arith, at, wk .mid .below, h .count)),
+                len-inside (askCount (x .ask)) (8 * v .waits .partway .chunk) (omega (arith, at, v .waits .partway .below, h .count)),
                 at,
               )) (omega (arith, ln))
-              ∙ ap (λ (t : Call). getD (brought t) j 0) (sym e)
+              ∙ ap (λ (t : Call). getD (brought t) j 0) (sym (v .call))
 
-  asked-begin : (b : ℕ) → Begins r x b → asks (view r x b .kind) ≡ true → AskedSoFar r x b
-  asked-begin b g a = record {
-    asking = a;
-    got = λ c l. absurd (omega (arith, l, g .progress));
-    ifReady = λ q c u. rw (g .sends) tt;
-    ifWaiting = λ q. other-phase (view r x b .phase) ready waiting (g .phase) q (λ z. omega arith);
-    ifGaveUp = λ q. other-phase (view r x b .phase) ready gaveUp (g .phase) q (λ z. omega arith);
-  }
-
-  asked-step : (n : ℕ) → Stands r x (suc n) → x .at < n → Held r x n → Move r x n → AskedSoFar r x n → AskedSoFar r x (suc n)
-  asked-step n s l h (stays a v c e f g) p = asked-unchanged n h p a v e g
-  asked-step n s l h (waits a v c d u) p = asked-aged n p a v c d
-  asked-step n s l h (served a v c d e g i) p = asked-served n (stands-before r w x n s l) h p a v c d e i
-  asked-step n s l h (gets f a c d e g i j m o) p = asked-taken n f (stands-before r w x n s l) h p a c d e g i
-
-  pub asked-so-far : (b : ℕ) → Begins r x b → asks (view r x b .kind) ≡ true → (n : ℕ) → b ≤ n → Stands r x n → AskedSoFar r x n
-  asked-so-far b g a = along-from r w x b (g .since) (AskedSoFar r x) (asked-begin b g a) (λ n s l. asked-step n s (omega (arith, g .since)))
+  asked-so-far : (b : ℕ) → Begins r x b → asks (view r x b .kind) ≡ true → (n : ℕ) → b ≤ n → Stands r x n → AskedSoFar r x n
+  asked-so-far b g a = along-from r w x b (g .since) (AskedSoFar r x) (asked-begin b g a)
+      (λ n s l. asked-step n (stands-before r w x n s (omega (arith, g .since))))
 
   -- a read begins to ask at its opening
   pub read-so-far : isWrite (x .ask) ≡ false → (n : ℕ) → Stands r x n → AskedSoFar r x n

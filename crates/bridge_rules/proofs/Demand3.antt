@@ -1,4 +1,4 @@
--- Demand 3 and the theorems on single calls, proved.
+-- Demand 3.
 use Prim.Native.Nat.{ℕ, _*_, _-_, _≤_, _<_}
 use mathlib.Core.Path.{_≡_, sym, ap, subst}
 use mathlib.Core.Logic.{_↔_, _⊎_, inl, inr}
@@ -7,56 +7,43 @@ use mathlib.Core.Bool.{true, false}
 use native.Mathlib.Omega.{arith}
 use native.Mathlib.Decide.{decLt}
 use lib.ListN.{length, getD, List·getD-eq-default}
-use Rattle.bridge_rules.specs.State.{Slot, free, ready, waiting, done, gaveUp}
+use Rattle.bridge_rules.specs.State.{done, gaveUp}
 use Rattle.bridge_rules.specs.Answers.{Answer}
 use Rattle.bridge_rules.specs.Opening.{isWrite}
 use Rattle.bridge_rules.specs.Call.{Call, status}
 use Rattle.bridge_rules.specs.Run.{Run, state, buffer, Lawful, Shaped, Transfer, Stands, turns, chunks, statusAt}
 use Rattle.bridge_rules.specs.Replies.{Replied, ThreeFailed, AllWritten}
 use Rattle.bridge_rules.specs.Demand3.{After, Claims, ReadClaims, runOf, Demand3}
-use Rattle.bridge_rules.specs.Calls.{Calls}
-use Rattle.bridge_rules.proofs.ReadWrite.{read-of}
-use Rattle.bridge_rules.proofs.Sound.{sound-numbers, SlotOk, okFree, okReady, okWaiting, okDone, okGaveUp}
-use Rattle.bridge_rules.proofs.Standing.{begins-open, okAt, openedAt, view, Held, held}
-use Rattle.bridge_rules.proofs.LedgerAgrees.{storage-sound}
+use Rattle.bridge_rules.proofs.KindTests.{read-of}
+use Rattle.bridge_rules.proofs.SlotOk.{GaveUpOk, gave-up-ok}
+use Rattle.bridge_rules.proofs.SoundRuns.{storage-sound}
+use Rattle.bridge_rules.proofs.Standing.{begins-open, okAt, openedAt, view, held}
 use Rattle.bridge_rules.proofs.Status.{done-is, gave-up-is, unfinished-is, unknown-ticket}
 use Rattle.bridge_rules.proofs.EndsInBound.{ended}
-use Rattle.bridge_rules.proofs.Aging.{other-phase}
-use Rattle.bridge_rules.proofs.AskedSoFar.{read-so-far, AskedSoFar, Got, Fails}
-use Rattle.bridge_rules.proofs.AfterSend.{reply-accepted, replied-once, replied-order, replied-done, failed-thrice}
+use Rattle.bridge_rules.proofs.AskedSoFar.{AskedSoFar, read-so-far, Got, Fails}
+use Rattle.bridge_rules.proofs.RepliesInOrder.{reply-accepted, replied-once, replied-order, replied-done, failed-thrice}
 use Rattle.bridge_rules.proofs.ShownBytes.{done-progress, hidden, write-hidden, shown-joined, shown-whole, all-got}
 use Rattle.bridge_rules.proofs.WrittenInOrder.{all-written-done, done-all-written}
 use Rattle.bridge_rules.proofs.SlotHolders.{places, alone, no-holder, known-holder}
 use Rattle.bridge_rules.proofs.TableBytes.{table-meanwhile, some-moment}
-use Rattle.bridge_rules.proofs.Keeps.{keeps-sound, reset-fresh, unsound-refused, refusals-keep}
-use Rattle.bridge_rules.proofs.NumbersInRuns.{opening-numbers, opens-exactly, numbers-in-runs}
-use Rattle.bridge_rules.proofs.TurnSends.{turn-sends, sends-for-transfers}
 
 module _ (r : Run) (w : Lawful r) (x : Transfer r) (n : ℕ) (s : Stands r x n) where
-  gaveUp→ : view r x n .phase ≡ gaveUp → ThreeFailed r x n
-  gaveUp→ e = go (okAt r w x n)
-    where
-      h : Held r x n
-      h = held r w x n s
-
-      go : SlotOk (state r n .tickets) (view r x n) → ThreeFailed r x n
-      go (okFree q) = other-phase (view r x n .phase) free gaveUp (ap (λ (y : Slot). y .phase) q) e (λ z. omega arith)
-      go (okReady q c m i v l) = other-phase (view r x n .phase) ready gaveUp q e (λ z. omega arith)
-      go (okWaiting q c m v i i′ l l′) = other-phase (view r x n .phase) waiting gaveUp q e (λ z. omega arith)
-      go (okDone q c p i l) = other-phase (view r x n .phase) done gaveUp q e (λ z. omega arith)
-      go (okGaveUp q c m v i l) =
-          let f : Fails r x (m .chunk) 3 n n = read-so-far r w x (read-of (x .ask) (h .kind) v) n s .ifGaveUp e (m .chunk) (m .at) in
-          record {
-            c = m .chunk;
-            j₁ = f .3 .3 .0;
-            j₂ = f .3 .0;
-            j₃ = f .0;
-            order₁ = f .3 .3 .1;
-            order₂ = f .3 .1;
-            first = f .3 .3 .2;
-            second = f .3 .2;
-            third = f .2;
-          }
+  three-failed : view r x n .phase ≡ gaveUp → ThreeFailed r x n
+  three-failed e =
+      let g : GaveUpOk (view r x n) = gave-up-ok (view r x n) (okAt r w x n) e in
+      let rd : isWrite (x .ask) ≡ false = read-of (x .ask) (held r w x n s .kind) (g .asking) in
+      let f : Fails r x (g .partway .chunk) 3 n n = read-so-far r w x rd n s .ifGaveUp e (g .partway .chunk) (g .partway .at) in
+      record {
+        c = g .partway .chunk;
+        j₁ = f .3 .3 .0;
+        j₂ = f .3 .0;
+        j₃ = f .0;
+        order₁ = f .3 .3 .1;
+        order₂ = f .3 .1;
+        first = f .3 .3 .2;
+        second = f .3 .2;
+        third = f .2;
+      }
 
   ends : 72 * chunks r x ≤ turns r (x .at) n → (statusAt r x n ≡ 0) ⊎ (statusAt r x n ≡ 16)
   ends e = go (ended r w x (x .at) (begins-open r w x) n (s .0) s e)
@@ -101,7 +88,7 @@ module _ (r : Run) (w : Lawful r) (x : Transfer r) (n : ℕ) (s : Stands r x n) 
     alone = λ y t. alone r w x y n s t;
     ends = λ e. ends (omega arith);
     otherwise = unfinished-is r w x n s;
-    gaveUp = (λ e. gaveUp→ (gave-up-is r w x n s .0 e), λ t. gave-up-is r w x n s .1 (failed-thrice r w x n s t));
+    gaveUp = (λ e. three-failed (gave-up-is r w x n s .0 e), λ t. gave-up-is r w x n s .1 (failed-thrice r w x n s t));
     read = reading;
     written = writing;
     shownOfWrite = write-hidden r w x n s;
@@ -127,17 +114,3 @@ listed own ho b lb cs sh = record { own = ho; buffer = lb; shaped = λ k. go k (
 
 pub demand3 : Demand3
 demand3 own ho b lb cs sh n l = after (runOf own b cs) (listed own ho b lb cs sh) n
-
-pub calls : Calls
-calls = record {
-  keepsSound = keeps-sound;
-  resetFresh = reset-fresh;
-  unsoundRefused = unsound-refused;
-  soundNumbers = sound-numbers;
-  refusalsKeep = refusals-keep;
-  turnSends = turn-sends;
-  sendsForTransfers = sends-for-transfers;
-  openingNumbers = opening-numbers;
-  opensExactly = opens-exactly;
-  numbersInRuns = numbers-in-runs;
-}

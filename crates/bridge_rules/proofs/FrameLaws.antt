@@ -13,7 +13,7 @@ use Rattle.bus_rules.specs.Request.{request}
 use Rattle.bridge_rules.specs.State.{Frame, Slot, asks, carries}
 use Rattle.bridge_rules.specs.Turn.{outgoing, sentFrame, readFrame, writeFrame, chunkLen}
 use Rattle.bus_rules.proofs.IdentLaws.{kind-of-id}
-use Rattle.bridge_rules.proofs.ReadWrite.{asks-alone}
+use Rattle.bridge_rules.proofs.KindTests.{asks-alone}
 
 -- a CMD is no REQ
 pub kinds-apart : (o f t tb o′ f′ t′ tb′ : ℕ) → o < 2048 → f < 16 → t < 16 → tb < 32 → o′ < 2048 → f′ < 16 → t′ < 16 → tb′ < 32

@@ -1,81 +1,29 @@
--- Runs: counting turns, every state is sound, and the ledger says what the state holds.
-use Prim.Native.Nat.{ℕ, zero, suc, _+_, _≤_, _<_}
+-- The ledger says what the state holds: its own number, last ticket and slots are the state's.
+use Prim.Native.Nat.{ℕ, zero, suc, _≤_, _<_}
 use mathlib.Core.Path.{_≡_, refl, sym, _∙_, ap, subst}
 use mathlib.Core.Logic.{_⊎_, inl, inr, _≢_}
 use mathlib.Core.List.{List, [], _∷_, map}
 use mathlib.Core.Option.{Option, none, some}
-use mathlib.Core.Bool.{Bool, true, false, cond, _&&_, true≢false}
+use mathlib.Core.Bool.{Bool, true, false, cond, _&&_}
 use native.Mathlib.Omega.{arith}
-use native.Mathlib.Decide.{ℕ-discrete, decLe}
+use native.Mathlib.Decide.{ℕ-discrete}
 use lib.ListN.{length, getD, set, replicate, length-set, length-map}
 use lib.Seq.{getD-set-same, getD-set-other}
-use lib.Dec.{ltb, eqb}
-use borrow.Author.Tests.{ne-eqb, eq-eqb, lt-ltb, le-ltb}
+use lib.Dec.{eqb}
+use borrow.Author.Tests.{ne-eqb, eq-eqb}
 use Rattle.bridge_rules.specs.State.{Bridge, Slot, blank, slot, fresh}
 use Rattle.bridge_rules.specs.Answers.{Answer, Result, plain}
 use Rattle.bridge_rules.specs.Opening.{opened}
-use Rattle.bridge_rules.specs.Turn.{aged, agedBridge, sendFor}
+use Rattle.bridge_rules.specs.Turn.{agedBridge, sendFor}
 use Rattle.bridge_rules.specs.Call.{Call, itsOwn, opening, turn, frame, status, bytes, close, reset, step}
-use Rattle.bridge_rules.specs.Run.{Run, storage, state, buffer, answer, Lawful, accepted, turns, Ledger, newLedger, firstGivable, noted, ledger}
-use Rattle.bridge_rules.proofs.Search.{cases, Lowest}
-use Rattle.bridge_rules.proofs.Sound.{Sound, aged-same, advanced-same, sent-same, slot-set-same, slot-set-other, no-ticket, has-ticket}
-use Rattle.bridge_rules.proofs.CallCases.{Kind, nothing, opens, sends, idles, takes, closes, resets, kind, kind-sound, fresh-sound}
-use Rattle.bridge_rules.proofs.CallCases.{fresh-slot, freeAt, isNoted, openResult, closeResult, opened-ticket}
-use Rattle.bridge_rules.proofs.SlotEffects.{Effect, still, ages, serves, taken, opensHere, closesHere, resetsHere, effect}
-
--- ── turns ──────────────────────────────────────────────────────────────────────────────────────────────────────────
-
-pub turns-same : (r : Run) (j n : ℕ) → accepted r n ≡ false → turns r j (suc n) ≡ turns r j n
-unfolding turns
-turns-same r j n e = rw e (go (ltb j n))
-  where
-    go : (b : Bool) → turns r j n + cond (b && false) 1 0 ≡ turns r j n
-    go true = omega arith
-    go false = omega arith
-
-pub turns-more : (r : Run) (j n : ℕ) → accepted r n ≡ true → j < n → turns r j (suc n) ≡ suc (turns r j n)
-unfolding turns
-turns-more r j n e l = rw (e, lt-ltb j n l) (omega arith)
-
-pub turns-none : (r : Run) (j n : ℕ) → n ≤ suc j → turns r j n ≡ 0
-unfolding turns
-turns-none r j zero h = refl
-turns-none r j (suc n) h = rw (turns-none r j n (omega arith), le-ltb j n (omega arith))
-
-pub turns-step : (r : Run) (j n : ℕ) → (turns r j n ≤ turns r j (suc n)) × (turns r j (suc n) ≤ suc (turns r j n))
-unfolding turns
-turns-step r j n = go (ltb j n && accepted r n)
-  where
-    go : (b : Bool) → (turns r j n ≤ turns r j n + cond b 1 0) × (turns r j n + cond b 1 0 ≤ suc (turns r j n))
-    go true = (omega arith, omega arith)
-    go false = (omega arith, omega arith)
-
-pub turns-mono : (r : Run) (j m n : ℕ) → m ≤ n → turns r j m ≤ turns r j n
-turns-mono r j m zero h = let e : m ≡ 0 = omega arith in rw e (omega arith)
-turns-mono r j m (suc n) h = go (turns-mono r j m n) (decLe m n)
-  where
-    go : (m ≤ n → turns r j m ≤ turns r j n) → Dec (m ≤ n) → turns r j m ≤ turns r j (suc n)
-    go ih (yes p) = omega (arith, ih p, turns-step r j n .0)
-    go ih (no p) = let e : m ≡ suc n = omega arith in rw e (omega arith)
-
--- ── every state is sound ───────────────────────────────────────────────────────────────────────────────────────────
-
-module _ (r : Run) (w : Lawful r) where
-  pub storage-sound : (n : ℕ) → Sound (state r n) × (length (buffer r n) ≡ 512)
-  unfolding storage
-  storage-sound zero = (fresh-sound (r .own) (w .own), w .buffer)
-  storage-sound (suc n) =
-      let h = storage-sound n in
-      kind-sound (state r n) (buffer r n) (r .calls n) (h .0) (h .1)
-      (kind (state r n) (buffer r n) (h .0) (h .1) (r .calls n) (w .shaped n))
-
-  pub kindAt : (n : ℕ) → Kind (state r n) (buffer r n) (r .calls n)
-  kindAt n = let h = storage-sound n in kind (state r n) (buffer r n) (h .0) (h .1) (r .calls n) (w .shaped n)
-
-  pub effectAt : (n k : ℕ) → k < 4 → Effect (state r n) (buffer r n) (r .calls n) k
-  effectAt n k l = effect (state r n) (buffer r n) (r .calls n) (storage-sound n .0) k l (kindAt n)
-
--- ── the ledger ─────────────────────────────────────────────────────────────────────────────────────────────────────
+use Rattle.bridge_rules.specs.Run.{Run, storage, state, buffer, answer, Lawful, Ledger, newLedger, firstGivable, noted, ledger}
+use Rattle.bridge_rules.proofs.Search.{cases, contradiction, Lowest}
+use Rattle.bridge_rules.proofs.SlotOk.{no-ticket, has-ticket}
+use Rattle.bridge_rules.proofs.SoundTest.{Sound}
+use Rattle.bridge_rules.proofs.SoundStates.{slot-set-same, slot-set-other, fresh-slot, opened-ticket}
+use Rattle.bridge_rules.proofs.CallCases.{CallCase, nothing, opens, sends, idles, takes, closes, resets, freeAt, isNoted, openResult, closeResult}
+use Rattle.bridge_rules.proofs.SlotEffects.{keeps, opensHere, closesHere, resetsHere, change-same}
+use Rattle.bridge_rules.proofs.SoundRuns.{storage-sound, caseAt, EffectAt, effectAt}
 
 -- the first 0 of a list
 first-zero : (l : List ℕ) (k : ℕ) → k < length l → getD l k 0 ≡ 0 → ((e : ℕ) → e < k → getD l e 0 ≢ 0) → firstGivable l ≡ k
@@ -93,13 +41,13 @@ pub record Agrees (g : Ledger) (s : Bridge) : Type 0 where
   pub each : (k : ℕ) → k < 4 → getD (g .tickets) k 0 ≡ slot s k .ticket
 
 noted-same : (g : Ledger) (t : Answer) (c : Call) → isNoted c ≡ false → noted g t c ≡ g
-noted-same g t (opening l a) e = absurd (true≢false e)
+noted-same g t (opening l a) e = contradiction refl e
 noted-same g t (turn l) e = refl
 noted-same g t (frame l f) e = refl
 noted-same g t (status u) e = refl
 noted-same g t (bytes l u) e = refl
-noted-same g t (close u) e = absurd (true≢false e)
-noted-same g t (reset o) e = absurd (true≢false e)
+noted-same g t (close u) e = contradiction refl e
+noted-same g t (reset o) e = contradiction refl e
 
 freed-at : (l : List ℕ) (u k : ℕ) → getD (map (λ v. cond (eqb v u) 0 v) l) k 0 ≡ cond (eqb (getD l k 0) u) 0 (getD l k 0)
 freed-at [] u k = go (eqb 0 u)
@@ -130,9 +78,9 @@ fresh-agrees o = record {
 pub lowest-agrees : (g : Ledger) (s : Bridge) (k : ℕ) → Sound s → Agrees g s → Lowest (freeAt s) k → firstGivable (g .tickets) ≡ k
 lowest-agrees g s k h a w =
     first-zero (g .tickets) k (omega (arith, a .four, w .bound)) (a .each k (w .bound)
-    ∙ no-ticket (s .tickets) (slot s k) (h .each k (w .bound)) (w .passes))
+    ∙ no-ticket (slot s k) (h .each k (w .bound)) (w .passes))
     (λ e l z. let q : e < 4 = omega (arith, w .bound) in omega
-    (arith, has-ticket (s .tickets) (slot s e) (h .each e q) (w .below e l), a .each e q, z))
+    (arith, has-ticket (slot s e) (h .each e q) (w .below e l), a .each e q, z))
 
 -- a send keeps the own number and the tickets
 send-keeps : (s : Bridge) (b : List ℕ) (o : Option ℕ) → (sendFor s b o .state .own ≡ s .own) × (sendFor s b o .state .tickets ≡ s .tickets)
@@ -146,22 +94,14 @@ aging-keeps s = (refl, refl)
 
 module _ (r : Run) (w : Lawful r) where
   -- a call that the ledger does not note keeps every slot's ticket
-  kept : (n k : ℕ) → k < 4 → isNoted (r .calls n) ≡ false → slot (state r (suc n)) k .ticket ≡ slot (state r n) k .ticket
-  unfolding storage
-  kept n k l u = go (effectAt r w n k l)
+  same-tickets : (n k : ℕ) → k < 4 → isNoted (r .calls n) ≡ false → slot (state r (suc n)) k .ticket ≡ slot (state r n) k .ticket
+  same-tickets n k l u = go (effectAt r w n k l)
     where
-      noted-call : (d : Call) → r .calls n ≡ d → isNoted d ≡ true → slot (state r (suc n)) k .ticket ≡ slot (state r n) k .ticket
-      noted-call d e p = absurd (true≢false (sym p ∙ ap isNoted (sym e) ∙ u))
-
-      go : Effect (state r n) (buffer r n) (r .calls n) k → slot (state r (suc n)) k .ticket ≡ slot (state r n) k .ticket
-      go (still a b c e f g) = ap (λ (x : Slot). x .ticket) a
-      go (ages a b c d f) = ap (λ (x : Slot). x .ticket) c ∙ aged-same (slot (state r n) k) .ticket
-      go (serves a b c d e g i) = ap (λ (x : Slot). x .ticket) d ∙ sent-same (aged (slot (state r n) k)) .ticket
-          ∙ aged-same (slot (state r n) k) .ticket
-      go (taken f a c d e g i j o p) = ap (λ (x : Slot). x .ticket) g ∙ advanced-same (slot (state r n) k) .ticket
-      go (opensHere a b c d e f g i j) = noted-call (opening itsOwn a) b refl
-      go (closesHere t a b c d) = noted-call (close t) a refl
-      go (resetsHere o a b c) = noted-call (reset o) a refl
+      go : EffectAt r n k → slot (state r (suc n)) k .ticket ≡ slot (state r n) k .ticket
+      go (keeps e) = change-same e .ticket
+      go (opensHere e) = contradiction (ap isNoted (e .call)) u
+      go (closesHere e) = contradiction (ap isNoted (e .call)) u
+      go (resetsHere e) = contradiction (ap isNoted (e .call)) u
 
   unnoted : (n : ℕ) → isNoted (r .calls n) ≡ false → ledger r (suc n) ≡ ledger r n
   unfolding ledger
@@ -182,7 +122,7 @@ module _ (r : Run) (w : Lawful r) where
 
   agrees-step : (n : ℕ) → Agrees (ledger r n) (state r n) → Agrees (ledger r (suc n)) (state r (suc n))
   unfolding storage
-  agrees-step n a = go (kindAt r w n)
+  agrees-step n a = go (caseAt r w n)
     where
       h : Sound (state r n)
       h = storage-sound r w n .0
@@ -199,7 +139,7 @@ module _ (r : Run) (w : Lawful r) where
         own = a .own ∙ sym o;
         lastTicket = a .lastTicket ∙ sym t;
         four = a .four;
-        each = λ k l. a .each k l ∙ sym (kept n k l u);
+        each = λ k l. a .each k l ∙ sym (same-tickets n k l u);
       })
 
       sent : (o : Option ℕ) → r .calls n ≡ turn itsOwn → step (state r n) (buffer r n) (r .calls n)
@@ -210,60 +150,66 @@ module _ (r : Run) (w : Lawful r) where
           let a = aging-keeps (state r n) in
           moves (ap isNoted e) (ap (λ (u : Result). u .state .own) z ∙ k .0 ∙ a .0) (ap (λ (u : Result). u .state .tickets) z ∙ k .1 ∙ a .1)
 
-      go : Kind (state r n) (buffer r n) (r .calls n) → Agrees (ledger r (suc n)) (state r (suc n))
-      go (nothing p q s t o u) = subst (Agrees (ledger r (suc n))) (sym p) (rw (same (cases (isNoted (r .calls n)))) a)
+      go : CallCase (state r n) (buffer r n) (r .calls n) → Agrees (ledger r (suc n)) (state r (suc n))
+      go (nothing u) = subst (Agrees (ledger r (suc n))) (sym (u .state)) (rw (same (cases (isNoted (r .calls n)))) a)
         where
           same : (isNoted (r .calls n) ≡ true) ⊎ (isNoted (r .calls n) ≡ false) → ledger r (suc n) ≡ ledger r n
-          same (inl v) = refused-same n (ap (λ (b : Bool). b && eqb (answer r n .number) 0) (sym v) ∙ o)
+          same (inl v) = refused-same n (ap (λ (b : Bool). b && eqb (answer r n .number) 0) (sym v) ∙ u .unnoted)
           same (inr v) = unnoted n v
-      go (opens b k e f g l t z) =
-          rw (noted-is n (openResult (state r n) (buffer r n) b k .answer) (opening itsOwn b) refl (answer-is z) e) (to z (record {
+      go (opens u) =
+          rw (noted-is n (openResult (state r n) (buffer r n) (u .ask) (u .k) .answer) (opening itsOwn (u .ask)) refl
+          (answer-is (u .result)) (u .call)) (to (u .result) (record {
             own = a .own;
             lastTicket = refl;
             four = length-set (ledger r n .tickets) (firstGivable (ledger r n .tickets)) (suc (state r n .tickets)) ∙ a .four;
             each = each;
           }))
         where
-          kk : firstGivable (ledger r n .tickets) ≡ k
-          kk = lowest-agrees (ledger r n) (state r n) k h a g
+          kk : firstGivable (ledger r n .tickets) ≡ u .k
+          kk = lowest-agrees (ledger r n) (state r n) (u .k) h a (u .lowest)
 
           s′ : Bridge
-          s′ = openResult (state r n) (buffer r n) b k .state
+          s′ = openResult (state r n) (buffer r n) (u .ask) (u .k) .state
+
+          new : Slot
+          new = opened (u .ask) (suc (state r n .tickets))
 
           each : (j : ℕ) → j < 4 → getD (set (ledger r n .tickets) (firstGivable (ledger r n .tickets)) (suc (state r n .tickets))) j 0
               ≡ slot s′ j .ticket
-          each j m = rw kk (pick (ℕ-discrete j k))
+          each j m = rw kk (pick (ℕ-discrete j (u .k)))
             where
-              pick : Dec (j ≡ k) → getD (set (ledger r n .tickets) k (suc (state r n .tickets))) j 0 ≡ slot s′ j .ticket
-              pick (yes p) = rw p (getD-set-same (ledger r n .tickets) k (suc (state r n .tickets)) 0 (omega (arith, a .four, g .bound))
-                  ∙ sym (ap (λ (x : Slot). x .ticket) (slot-set-same (state r n) s′ k (opened b (suc (state r n .tickets))) (h .four) refl
-                  (g .bound)) ∙ opened-ticket b (suc (state r n .tickets))))
-              pick (no p) = getD-set-other (ledger r n .tickets) k j (suc (state r n .tickets)) 0 p ∙ a .each j m
-                  ∙ sym (ap (λ (x : Slot). x .ticket) (slot-set-other (state r n) s′ k j (opened b (suc (state r n .tickets))) refl p))
-      go (sends k e f z) = sent (some k) e z
-      go (idles e f z) = sent none e z
-      go (takes f k e s l b z) = moves (ap isNoted e) (ap (λ (u : Result). u .state .own) z) (ap (λ (u : Result). u .state .tickets) z)
-      go (closes t k e l p q z) =
-          rw (noted-is n (plain 0) (close t) refl (answer-is z) e) (to z (record {
+              pick : Dec (j ≡ u .k) → getD (set (ledger r n .tickets) (u .k) (suc (state r n .tickets))) j 0 ≡ slot s′ j .ticket
+              pick (yes p) =
+                  rw p (getD-set-same (ledger r n .tickets) (u .k) (suc (state r n .tickets)) 0 (omega (arith, a .four, u .lowest .bound))
+                  ∙ sym (ap (λ (x : Slot). x .ticket) (slot-set-same (state r n) s′ (u .k) new (h .four) refl (u .lowest .bound))
+                  ∙ opened-ticket (u .ask) (suc (state r n .tickets))))
+              pick (no p) = getD-set-other (ledger r n .tickets) (u .k) j (suc (state r n .tickets)) 0 p ∙ a .each j m
+                  ∙ sym (ap (λ (x : Slot). x .ticket) (slot-set-other (state r n) s′ (u .k) j new refl p))
+      go (sends u) = sent (some (u .k)) (u .call) (u .result)
+      go (idles u) = sent none (u .call) (u .result)
+      go (takes u) = moves (ap isNoted (u .call)) (ap (λ (v : Result). v .state .own) (u .result))
+          (ap (λ (v : Result). v .state .tickets) (u .result))
+      go (closes u) =
+          rw (noted-is n (plain 0) (close (u .t)) refl (answer-is (u .result)) (u .call)) (to (u .result) (record {
             own = a .own;
             lastTicket = a .lastTicket;
-            four = length-map (ledger r n .tickets) (λ v. cond (eqb v t) 0 v) ∙ a .four;
-            each = λ j m. freed-at (ledger r n .tickets) t j ∙ rw (a .each j m) (pick j m (ℕ-discrete j k));
+            four = length-map (ledger r n .tickets) (λ v. cond (eqb v (u .t)) 0 v) ∙ a .four;
+            each = λ j m. freed-at (ledger r n .tickets) (u .t) j ∙ rw (a .each j m) (pick j m (ℕ-discrete j (u .k)));
           }))
         where
           s′ : Bridge
-          s′ = closeResult (state r n) (buffer r n) k .state
+          s′ = closeResult (state r n) (buffer r n) (u .k) .state
 
-          pick : (j : ℕ) → j < 4 → Dec (j ≡ k) → cond (eqb (slot (state r n) j .ticket) t) 0 (slot (state r n) j .ticket)
+          pick : (j : ℕ) → j < 4 → Dec (j ≡ u .k) → cond (eqb (slot (state r n) j .ticket) (u .t)) 0 (slot (state r n) j .ticket)
               ≡ slot s′ j .ticket
-          pick j m (yes u) = rw (u, eq-eqb (slot (state r n) k .ticket) t q)
-              (sym (ap (λ (x : Slot). x .ticket) (slot-set-same (state r n) s′ k blank (h .four) refl l)))
-          pick j m (no u) =
-              let d : slot (state r n) j .ticket ≢ t = λ v. h .apart k j l m (λ i. u (sym i))
-              (has-ticket (state r n .tickets) (slot (state r n) k) (h .each k l) p) (q ∙ sym v) in
-              rw (ne-eqb (slot (state r n) j .ticket) t d) (sym (ap (λ (x : Slot). x .ticket)
-              (slot-set-other (state r n) s′ k j blank refl u)))
-      go (resets o e l z) = rw (noted-is n (plain 0) (reset o) refl (answer-is z) e) (to z (fresh-agrees o))
+          pick j m (yes p) = rw (p, eq-eqb (slot (state r n) (u .k) .ticket) (u .t) (u .ticket))
+              (sym (ap (λ (x : Slot). x .ticket) (slot-set-same (state r n) s′ (u .k) blank (h .four) refl (u .bound))))
+          pick j m (no p) =
+              let d : slot (state r n) j .ticket ≢ u .t = λ v. h .apart (u .k) j (u .bound) m (λ i. p (sym i))
+              (has-ticket (slot (state r n) (u .k)) (h .each (u .k) (u .bound)) (u .held)) (u .ticket ∙ sym v) in
+              rw (ne-eqb (slot (state r n) j .ticket) (u .t) d) (sym (ap (λ (x : Slot). x .ticket)
+              (slot-set-other (state r n) s′ (u .k) j blank refl p)))
+      go (resets u) = rw (noted-is n (plain 0) (reset (u .o)) refl (answer-is (u .result)) (u .call)) (to (u .result) (fresh-agrees (u .o)))
 
   pub agrees : (n : ℕ) → Agrees (ledger r n) (state r n)
   unfolding storage ledger

@@ -29,6 +29,9 @@ pub record LawfulArgs (d t o n : ℕ) : Type 0 where
   pub few : n ≤ 128
   pub inside : o + n ≤ 2048
 
+abbrev pub LawfulAsk : Ask → Type 0
+LawfulAsk a = LawfulArgs (askDevice a) (askTable a) (askOffset a) (askCount a)
+
 pub args-lawful : (d t o n : ℕ) → askNumber d t o n ≡ 0 → LawfulArgs d t o n
 unfolding askNumber
 args-lawful d t o n e =
@@ -79,7 +82,7 @@ lent-ok s n e =
 -- ── openings ───────────────────────────────────────────────────────────────────────────────────────────────────────
 
 pub record OpenFacts (s : Bridge) (a : Ask) : Type 0 where
-  pub law : LawfulArgs (askDevice a) (askTable a) (askOffset a) (askCount a)
+  pub law : LawfulAsk a
   pub slotted : isNone (lowestFree s) ≡ false
   pub ticketed : s .tickets < 4294967295
 

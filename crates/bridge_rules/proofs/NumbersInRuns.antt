@@ -1,276 +1,46 @@
--- Each number is given exactly when the paper says.
-use Prim.Native.Nat.{ℕ, zero, suc, _+_, _^_, _≤_, _<_}
+-- In a run, each call's number is given exactly when the paper says, by the calls alone.
+use Prim.Native.Nat.{ℕ, suc, _^_, _≤_, _<_}
 use mathlib.Core.Path.{_≡_, refl, sym, _∙_, ap, subst}
 use mathlib.Core.Logic.{_↔_, _⊎_, inl, inr, _≢_}
 use mathlib.Core.List.{List}
 use mathlib.Core.Option.{none, some}
-use mathlib.Core.Bool.{Bool, true, false, cond, not, _&&_, _||_, false≢true, true≢false}
+use mathlib.Core.Bool.{true, false, not, true≢false}
 use native.Mathlib.Omega.{arith}
 use lib.ListN.{length}
 use lib.Dec.{leb, ltb, eqb}
-use borrow.Author.Tests.{eqb-true, eqb-false, eq-eqb, ne-eqb, lt-ltb, le-leb, ltb-true, ltb-false, leb-true}
+use borrow.Author.Tests.{ne-eqb}
 use Rattle.bus_rules.specs.Frames.{rsp, headNumber}
 use Rattle.bus_rules.specs.Ident.{idSpare, idTo, idKind}
 use Rattle.wire.specs.Order.{_if_else_, _orElse_}
 use Rattle.wire.specs.First.{First, Zero}
 use Rattle.wire.proofs.Orders.{if-zero, else-zero}
-use Rattle.bridge_rules.specs.State.{askNumber, Frame, waiting, nextReady, heldSlot, Bridge, free, slot, sound, isFree, isNone, lowestFree}
-use Rattle.bridge_rules.specs.Answers.{lentNumber, Result, unless, plain}
-use Rattle.bridge_rules.specs.Opening.{roomNumber, isWrite, Ask, askDevice, askTable, askOffset, askCount, openNumber, openOf}
+use Rattle.bridge_rules.specs.State.{Frame, Bridge, waiting, nextReady, heldSlot, slot, sound, isFree, isNone, lowestFree}
+use Rattle.bridge_rules.specs.Answers.{lentNumber, plain}
+use Rattle.bridge_rules.specs.Opening.{isWrite, Ask, openOf}
 use Rattle.bridge_rules.specs.Turn.{turnOf, agedBridge}
 use Rattle.bridge_rules.specs.Incoming.{frameOf, replyNumber, contentNumber, awaits, awaiting}
 use Rattle.bridge_rules.specs.Ending.{resetNumber, bytesOf, spanOf, bytesNumber, closeOf, closeNumber, resetOf}
 use Rattle.bridge_rules.specs.Call.{bytes, turn, frame, close, reset, Call, Lent, itsOwn, other, opening, step}
-use Rattle.bridge_rules.specs.Run.{ticket, Run, Lawful, Shaped, Transfer, Stands, slotOf, state, buffer, answer, accepted, ledger}
+use Rattle.bridge_rules.specs.Run.{ticket, Run, Lawful, Shaped, Transfer, Stands, slotOf, state, buffer, answer, ledger}
 use Rattle.bridge_rules.specs.Replies.{Replied}
-use Rattle.bridge_rules.specs.Calls.{FrameInRun, NumbersInRun, NumbersInRuns, OpeningNumber, OpeningNumbers, OpeningInRun, Acceptable, OpensExactly}
-use Rattle.bridge_rules.proofs.NumberLaws.{OpenFacts, open-facts, open-lent, lent-clear, lent-ten, open-later, open-ten, reply-later, reply-ten}
-use Rattle.bridge_rules.proofs.ReadWrite.{read-of}
-use Rattle.bridge_rules.proofs.CallCases.{WaitOk, wait-ok, awaits-ok, freeAt}
-use Rattle.bridge_rules.proofs.LedgerAgrees.{own-is, storage-sound, agrees}
+use Rattle.bridge_rules.specs.Calls.{FrameInRun, NumbersInRun, NumbersInRuns, OpeningInRun}
+use Rattle.bridge_rules.proofs.KindTests.{read-of}
+use Rattle.bridge_rules.proofs.NumberLaws.{lent-clear, lent-ten, open-later, open-ten, reply-later, reply-ten}
+use Rattle.bridge_rules.proofs.RefusalChains.{first-if, not-test, leb-test, ltb-test, eqb-test, if-orElse, zero-orElse, orElse-orElse}
+use Rattle.bridge_rules.proofs.OpeningNumbers.{later, Later, chain, full, unless-number, number-is}
+use Rattle.bridge_rules.proofs.RefusalsKeep.{sends-zero}
+use Rattle.bridge_rules.proofs.Search.{Lowest, lowest-some, lowest-none, option-cases}
+use Rattle.bridge_rules.proofs.AwaitsTest.{awaits-ok}
+use Rattle.bridge_rules.proofs.SlotOk.{WaitOk, wait-ok}
+use Rattle.bridge_rules.proofs.SoundTest.{sound-true}
+use Rattle.bridge_rules.proofs.SoundRuns.{storage-sound}
+use Rattle.bridge_rules.proofs.LedgerAgrees.{own-is, agrees}
 use Rattle.bridge_rules.proofs.Standing.{view, Held, held, okAt, held-slot, openedAt}
 use Rattle.bridge_rules.proofs.Status.{held-by}
-use Rattle.bridge_rules.proofs.SentRequests.{matches-ok}
+use Rattle.bridge_rules.proofs.Matching.{matches-ok}
 use Rattle.bridge_rules.proofs.AskedSoFar.{read-so-far, awaited-replied}
-use Rattle.bridge_rules.proofs.AfterSend.{reply-awaited}
+use Rattle.bridge_rules.proofs.RepliesInOrder.{reply-awaited}
 use Rattle.bridge_rules.proofs.SlotHolders.{no-holder, known-holder, occupied}
-use Rattle.bridge_rules.proofs.Keeps.{sends-zero}
-use Rattle.bridge_rules.proofs.Search.{cases, and-intro, and-true, Lowest, lowest-some, lowest-none, option-cases}
-use Rattle.bridge_rules.proofs.Sound.{sound-true}
-
--- one test of a chain of refusals
-first-if : (m : ℕ) (t : Bool) (k n : ℕ) (P : Type 0) (rest : ℕ → Type 0) → (t ≡ true) ↔ P → (t ≡ false → (k ≡ n) ↔ rest n)
-    → ((m if t else k) ≡ n) ↔ First P m rest n
-unfolding _if_else_
-first-if m true k n P rest d r = (λ e. inl (d .0 refl, sym e), back)
-  where
-    back : First P m rest n → m ≡ n
-    back (inl q) = sym (q .1)
-    back (inr q) = absurd (q .0 (d .0 refl))
-first-if m false k n P rest d r = (λ e. inr (λ p. false≢true (d .1 p), r refl .0 e), back)
-  where
-    back : First P m rest n → k ≡ n
-    back (inl q) = absurd (false≢true (d .1 (q .0)))
-    back (inr q) = r refl .1 (q .1)
-
--- tests and what they test
-not-test : (t : Bool) (P : Type 0) → (t ≡ true) ↔ P → (not t ≡ true) ↔ (¬ P)
-not-test true P d = (λ e. absurd (false≢true e), λ n. absurd (n (d .0 refl)))
-not-test false P d = (λ e p. false≢true (d .1 p), λ n. refl)
-
-and-test : (t u : Bool) (P Q : Type 0) → (t ≡ true) ↔ P → (u ≡ true) ↔ Q → ((t && u) ≡ true) ↔ (P × Q)
-and-test t u P Q d e = (λ h. let a = and-true t u h in (d .0 (a .0), e .0 (a .1)), λ p. and-intro t u (d .1 (p .0)) (e .1 (p .1)))
-
-leb-test : (a b : ℕ) → (leb a b ≡ true) ↔ (a ≤ b)
-leb-test a b = (leb-true a b, le-leb a b)
-
-ltb-test : (a b : ℕ) → (ltb a b ≡ true) ↔ (a < b)
-ltb-test a b = (ltb-true a b, lt-ltb a b)
-
-some-test : (a : ℕ) → (ltb 0 a ≡ true) ↔ (1 ≤ a)
-some-test a = (λ e. omega (arith, ltb-true 0 a e), λ l. lt-ltb 0 a (omega arith))
-
-eqb-test : (a b : ℕ) → (eqb a b ≡ true) ↔ (a ≡ b)
-eqb-test a b = (eqb-true a b, eq-eqb a b)
-
-sound-test : (t : Bool) → (not t ≡ true) ↔ (t ≡ false)
-sound-test true = (λ e. absurd (false≢true e), λ e. absurd (true≢false e))
-sound-test false = (λ e. refl, λ e. refl)
-
--- a refusal that goes before others
-if-orElse : (m : ℕ) (t : Bool) (k x : ℕ) → (((suc m) if t else k) orElse x) ≡ ((suc m) if t else (k orElse x))
-unfolding _if_else_ _orElse_
-if-orElse m true k x = refl
-if-orElse m false k x = refl
-
-zero-orElse : (x : ℕ) → (0 orElse x) ≡ x
-unfolding _orElse_
-zero-orElse x = refl
-
-orElse-orElse : (a b c : ℕ) → ((a orElse b) orElse c) ≡ (a orElse (b orElse c))
-unfolding _orElse_
-orElse-orElse zero b c = refl
-orElse-orElse (suc a) b c = refl
-
--- two tests of one number
-either : (m : ℕ) (t u : Bool) (k : ℕ) → (m if t else m if u else k) ≡ (m if (t || u) else k)
-unfolding _if_else_
-either m true u k = refl
-either m false u k = refl
-
--- one of two bounds is passed
-or-test : (t u : Bool) (P Q : Type 0) → (t ≡ true) ↔ (¬ P) → (u ≡ true) ↔ (¬ Q) → (t ≡ false → P) → (u ≡ false → Q)
-    → ((t || u) ≡ true) ↔ (¬ (P × Q))
-or-test true u P Q d e p q = (λ h z. d .0 refl (z .0), λ n. refl)
-or-test false true P Q d e p q = (λ h z. e .0 refl (z .1), λ n. refl)
-or-test false false P Q d e p q = (λ h. absurd (false≢true h), λ n. absurd (n (p refl, q refl)))
-
-over-test : (a b : ℕ) → (ltb a b ≡ true) ↔ (¬ (b ≤ a))
-over-test a b = (λ e l. omega (arith, ltb-true a b e), λ n. lt-ltb a b (omega arith))
-
-none-test : (a : ℕ) → (eqb a 0 ≡ true) ↔ (¬ (1 ≤ a))
-none-test a = (λ e l. omega (arith, eqb-true a 0 e), λ n. eq-eqb a 0 (omega arith))
-
-some-of : (a : ℕ) → eqb a 0 ≡ false → 1 ≤ a
-some-of a e = go (eqb-false a 0 e)
-  where
-    go : a ≢ 0 → 1 ≤ a
-    go h = omega arith
-
--- the numbers after 11 and 10, of which 12 and 13 are told in two ways
-abbrev later : Bridge → Ask → ℕ
-later s a = askNumber (askDevice a) (askTable a) (askOffset a) (askCount a) orElse roomNumber s
-
-abbrev Later : Ask → Type 0 → Type 0 → ℕ → Type 0
-Later a P Q =
-    First (¬ ((askDevice a ≤ 15) × (askTable a ≤ 31))) 7
-    (First (¬ ((1 ≤ askCount a) × (askCount a ≤ 128))) 9
-    (First (2048 < askOffset a + askCount a) 8
-    (First P 12
-    (First Q 13
-    Zero))))
-
-room-chain : (s : Bridge) (n : ℕ) (P Q : Type 0) → (isNone (lowestFree s) ≡ true) ↔ P → (4294967295 ≤ s .tickets) ↔ Q
-    → (roomNumber s ≡ n) ↔ First P 12 (First Q 13 Zero) n
-unfolding roomNumber
-room-chain s n P Q p q = first-if 12 (isNone (lowestFree s)) _ n P (First Q 13 Zero) p (λ z. first-if 13 _ 0 n Q Zero (
-  λ e. q .0 (omega (arith, leb-true _ (s .tickets) e)),
-  λ u. le-leb _ (s .tickets) (omega (arith, q .1 u)),
-) (λ z. (sym, sym)))
-
-args-chain : (d t o c x n : ℕ) (rest : ℕ → Type 0) → (x ≡ n) ↔ rest n
-    → ((askNumber d t o c orElse x) ≡ n)
-    ↔ First (¬ ((d ≤ 15) × (t ≤ 31))) 7 (First (¬ ((1 ≤ c) × (c ≤ 128))) 9 (First (2048 < o + c) 8 rest)) n
-unfolding askNumber
-args-chain d t o c x n rest r = (λ e. tests .0 (sym flat ∙ e), λ p. flat ∙ tests .1 p)
-  where
-    flat : (askNumber d t o c orElse x)
-        ≡ (7 if (ltb 15 d || ltb 31 t) else 9 if (eqb c 0 || ltb 128 c) else 8 if ltb 2048 (o + c) else x)
-    flat = rw (if-orElse, if-orElse, if-orElse, if-orElse, if-orElse, zero-orElse) (either 7 (ltb 15 d) (ltb 31 t) _
-        ∙ ap (λ (k : ℕ). 7 if (ltb 15 d || ltb 31 t) else k) (either 9 (eqb c 0) (ltb 128 c) _))
-
-    tests : ((7 if (ltb 15 d || ltb 31 t) else 9 if (eqb c 0 || ltb 128 c) else 8 if ltb 2048 (o + c) else x) ≡ n)
-        ↔ First (¬ ((d ≤ 15) × (t ≤ 31))) 7 (First (¬ ((1 ≤ c) × (c ≤ 128))) 9 (First (2048 < o + c) 8 rest)) n
-    tests = first-if 7 (ltb 15 d || ltb 31 t) _ n (¬ ((d ≤ 15) × (t ≤ 31)))
-        (First (¬ ((1 ≤ c) × (c ≤ 128))) 9 (First (2048 < o + c) 8 rest))
-        (or-test (ltb 15 d) (ltb 31 t) (d ≤ 15) (t ≤ 31) (over-test 15 d) (over-test 31 t) (ltb-false 15 d) (ltb-false 31 t))
-        (λ z. first-if 9 (eqb c 0 || ltb 128 c) _ n (¬ ((1 ≤ c) × (c ≤ 128))) (First (2048 < o + c) 8 rest)
-        (or-test (eqb c 0) (ltb 128 c) (1 ≤ c) (c ≤ 128) (none-test c) (over-test 128 c) (some-of c) (ltb-false 128 c))
-        (λ y. first-if 8 (ltb 2048 (o + c)) x n (2048 < o + c) rest (ltb-test 2048 (o + c)) (λ u. r)))
-
-chain : (s : Bridge) (a : Ask) (n : ℕ) (P Q : Type 0) → (isNone (lowestFree s) ≡ true) ↔ P → (4294967295 ≤ s .tickets) ↔ Q
-    → (later s a ≡ n) ↔ Later a P Q n
-chain s a n P Q p q = args-chain (askDevice a) (askTable a) (askOffset a) (askCount a) (roomNumber s) n (First P 12 (First Q 13 Zero))
-    (room-chain s n P Q p q)
-
-free-phase : (p : ℕ) → isFree p ≡ true → p ≡ free
-free-phase p e = eqb-true p free e
-
--- no free slot
-full : (s : Bridge) → (isNone (lowestFree s) ≡ true) ↔ ((k : ℕ) → k < 4 → isFree (slot s k .phase) ≡ false)
-unfolding lowestFree
-full s = go (option-cases (lowestFree s))
-  where
-    go : (lowestFree s ≡ none) ⊎ ((k : ℕ) × (lowestFree s ≡ some k))
-        → (isNone (lowestFree s) ≡ true) ↔ ((k : ℕ) → k < 4 → isFree (slot s k .phase) ≡ false)
-    go (inl z) = (λ e k l. lowest-none (freeAt s) z k l, λ f. ap isNone z)
-    go (inr (k, z)) =
-        let w : Lowest (freeAt s) k = lowest-some (freeAt s) k z in
-        (λ e. absurd (true≢false (sym e ∙ ap isNone z)), λ f. absurd (true≢false (sym (w .passes) ∙ f k (w .bound))))
-
-lowest-is : (s : Bridge) (k : ℕ) → lowestFree s ≡ some k → Lowest (freeAt s) k
-unfolding lowestFree
-lowest-is s k = lowest-some (freeAt s) k
-
-full-phases : (s : Bridge) → (isNone (lowestFree s) ≡ true) ↔ ((k : ℕ) → k < 4 → slot s k .phase ≢ free)
-full-phases s = (
-  λ e k l z. true≢false (sym (ap isFree z) ∙ full s .0 e k l),
-  λ f. full s .1 (λ k l. go k l (cases (isFree (slot s k .phase))) f),
-)
-  where
-    go : (k : ℕ) → k < 4 → (isFree (slot s k .phase) ≡ true) ⊎ (isFree (slot s k .phase) ≡ false)
-        → ((k : ℕ) → k < 4 → slot s k .phase ≢ free) → isFree (slot s k .phase) ≡ false
-    go k l (inl e) f = absurd (f k l (free-phase (slot s k .phase) e))
-    go k l (inr e) f = e
-
--- the number is the refusal
-unless-number : (n : ℕ) (r : Result) (s : Bridge) (b : List ℕ) → r .answer .number ≡ 0 → unless n r s b .answer .number ≡ n
-unless-number n r s b z = go (eqb n 0) refl
-  where
-    go : (t : Bool) → eqb n 0 ≡ t → cond t r (record { answer = plain n; state = s; buffer = b }) .answer .number ≡ n
-    go true e = z ∙ sym (eqb-true n 0 e)
-    go false e = refl
-
-number-is : (s : Bridge) (b : List ℕ) (a : Ask) → openOf s b a .answer .number ≡ openNumber s (length b) a
-unfolding openOf
-number-is s b a = unless-number (openNumber s (length b) a) _ s b refl
-
-pub opening-numbers : OpeningNumbers
-unfolding step openNumber lentNumber
-opening-numbers s b a n = (λ e. h .0 (sym (number-is s b a) ∙ e), λ p. number-is s b a ∙ h .1 p)
-  where
-    Full : Type 0
-    Full = (k : ℕ) → k < 4 → slot s k .phase ≢ free
-
-    Used : Type 0
-    Used = 4294967295 ≤ s .tickets
-
-    h : (openNumber s (length b) a ≡ n) ↔ OpeningNumber s b a n
-    h = (λ e. tests .0 (sym flat ∙ e), λ p. flat ∙ tests .1 p)
-      where
-        flat : openNumber s (length b) a ≡ (11 if not (sound s) else 10 if not (eqb (length b) 512) else later s a)
-        flat = rw (if-orElse, if-orElse, zero-orElse)
-
-        tests : ((11 if not (sound s) else 10 if not (eqb (length b) 512) else later s a) ≡ n) ↔ OpeningNumber s b a n
-        tests = first-if 11 (not (sound s)) _ n (sound s ≡ false) (First (length b ≢ 512) 10 (Later a Full Used)) (sound-test (sound s))
-            (λ y. first-if 10 (not (eqb (length b) 512)) (later s a) n (length b ≢ 512) (Later a Full Used)
-            (not-test (eqb (length b) 512) (length b ≡ 512) (eqb-test (length b) 512))
-            (λ z. chain s a n Full Used (full-phases s) (λ u. u, λ u. u)))
-
-pub opens-exactly : OpensExactly
-unfolding step
-opens-exactly s b a = (there, back)
-  where
-    there : openOf s b a .answer .number ≡ 0 → Acceptable s b a
-    there e =
-        let z : openNumber s (length b) a ≡ 0 = sym (number-is s b a) ∙ e in
-        let o : OpenFacts s a = open-facts s (length b) a z in
-        record {
-          accepts = open-lent s (length b) a z .0;
-          lent = open-lent s (length b) a z .1;
-          device = o .law .device;
-          table = o .law .table;
-          nonempty = omega (arith, o .law .some);
-          few = o .law .few;
-          inside = omega (arith, o .law .inside);
-          room = free-slot (option-cases (lowestFree s)) (o .slotted);
-          ticket = o .ticketed;
-        }
-      where
-        free-slot : (lowestFree s ≡ none) ⊎ ((k : ℕ) × (lowestFree s ≡ some k)) → isNone (lowestFree s) ≡ false
-            → (k : ℕ) × (k < 4) × (slot s k .phase ≡ free)
-        free-slot (inl y) q = absurd (true≢false (sym (ap isNone y) ∙ q))
-        free-slot (inr (k, y)) q = let w = lowest-is s k y in (k, w .bound, free-phase (slot s k .phase) (w .passes))
-
-    back : Acceptable s b a → openOf s b a .answer .number ≡ 0
-    back c = opening-numbers s b a 0 .1 (inr (
-      λ z. true≢false (sym (c .accepts) ∙ z),
-      inr (
-        λ z. z (c .lent),
-        inr (
-          λ z. z (c .device, c .table),
-          inr (
-            λ z. z (c .nonempty, c .few),
-            inr (
-              λ z. omega (arith, c .inside),
-              inr (λ z. z (c .room .0) (c .room .1) (c .room .2), inr (λ z. omega (arith, c .ticket), refl)),
-            ),
-          ),
-        ),
-      ),
-    ))
-
--- ── in a run ───────────────────────────────────────────────────────────────────────────────────────────────────────
 
 -- 10 by the buffer lent
 own-first : (k m : ℕ) (rest : ℕ → Type 0) → (k ≡ m) ↔ rest m → (k ≡ m) ↔ First (itsOwn ≢ itsOwn) 10 rest m
@@ -381,8 +151,8 @@ module _ (r : Run) (w : Lawful r) (n : ℕ) where
     is-reply : (k : ℕ) → k < 4 → awaits (state r n) f k ≡ true → (x : Transfer r) × (c : ℕ) × Replied r x c n
     is-reply k l a = go (occupied r w n k l (not-free (wk .phase)))
       where
-        wk : WaitOk (state r n .tickets) (slot (state r n) k)
-        wk = wait-ok (state r n .tickets) (slot (state r n) k) (storage-sound r w n .0 .each k l) (awaits-ok (state r n) f k a .waits)
+        wk : WaitOk (slot (state r n) k)
+        wk = wait-ok (slot (state r n) k) (storage-sound r w n .0 .each k l) (awaits-ok (state r n) f k a .waits)
 
         not-free : slot (state r n) k .phase ≡ waiting → isFree (slot (state r n) k .phase) ≡ false
         not-free p = ap isFree p
@@ -390,7 +160,7 @@ module _ (r : Run) (w : Lawful r) (n : ℕ) where
         go : (x : Transfer r) × Stands r x n × (slotOf r x ≡ k) → (x : Transfer r) × (c : ℕ) × Replied r x c n
         go (x, s, q) = (
           x,
-          wx .mid .chunk,
+          wx .partway .chunk,
           awaited-replied r w x n f s h (read-so-far r w x rd n s) e z
               (awaits-ok (state r n) f (slotOf r x) ax) wx,
         )
@@ -401,11 +171,11 @@ module _ (r : Run) (w : Lawful r) (n : ℕ) where
             h : Held r x n
             h = held r w x n s
 
-            wx : WaitOk (state r n .tickets) (view r x n)
-            wx = wait-ok (state r n .tickets) (view r x n) (okAt r w x n) (awaits-ok (state r n) f (slotOf r x) ax .waits)
+            wx : WaitOk (view r x n)
+            wx = wait-ok (view r x n) (okAt r w x n) (awaits-ok (state r n) f (slotOf r x) ax .waits)
 
             rd : isWrite (x .ask) ≡ false
-            rd = read-of (x .ask) (h .kind) (wx .isRead)
+            rd = read-of (x .ask) (h .kind) (wx .asking)
 
     no-reply : (isNone (awaiting (state r n) f) ≡ true) ↔ (¬ ((x : Transfer r) × (c : ℕ) × Replied r x c n))
     unfolding awaiting

@@ -9,7 +9,7 @@ use lib.ListN.{length, take, drop, getD, length-take, length-drop}
 use lib.Seq.{take-add, getD-take, getD-drop, drop-drop, ext-getD}
 use lib.Dec.{eqb}
 use borrow.Author.Tests.{eqb-true, eq-eqb, ne-eqb}
-use Rattle.bridge_rules.specs.State.{Bridge, Slot, free, ready, waiting, done, gaveUp, slot, asks, carries}
+use Rattle.bridge_rules.specs.State.{Bridge, done, slot, asks, carries}
 use Rattle.bridge_rules.specs.Answers.{plain, Answer}
 use Rattle.bridge_rules.specs.Opening.{isWrite, askCount}
 use Rattle.bridge_rules.specs.Turn.{chunkLen}
@@ -18,16 +18,15 @@ use Rattle.bridge_rules.specs.Call.{Call, itsOwn, frame}
 use Rattle.bridge_rules.specs.Run.{Run, state, buffer, Lawful, Shaped, Transfer, slotOf, Stands, chunks, lenOf, statusAt, shownAt}
 use Rattle.bridge_rules.specs.Replies.{place, Matches, Replied}
 use Rattle.bridge_rules.specs.Demand3.{brought, join, showing}
-use Rattle.bridge_rules.proofs.ReadWrite.{carries-of, carries-alone}
+use Rattle.bridge_rules.proofs.KindTests.{carries-of, carries-alone}
 use Rattle.bridge_rules.proofs.FrameLaws.{len-eight, len-inside, content-length}
-use Rattle.bridge_rules.proofs.Sound.{SlotOk, okFree, okReady, okWaiting, okDone, okGaveUp}
-use Rattle.bridge_rules.proofs.LedgerAgrees.{storage-sound}
-use Rattle.bridge_rules.proofs.Standing.{okAt, openedAt, view, Held, held}
+use Rattle.bridge_rules.proofs.SlotOk.{done-ok}
+use Rattle.bridge_rules.proofs.SoundRuns.{storage-sound}
+use Rattle.bridge_rules.proofs.Standing.{okAt, openedAt, view, held}
 use Rattle.bridge_rules.proofs.Status.{shown-is, done-is}
-use Rattle.bridge_rules.proofs.Aging.{other-phase}
-use Rattle.bridge_rules.proofs.SentRequests.{matches-ok}
+use Rattle.bridge_rules.proofs.Matching.{matches-ok}
 use Rattle.bridge_rules.proofs.AskedSoFar.{AskedSoFar, Got}
-use Rattle.bridge_rules.proofs.AfterSend.{replied-once}
+use Rattle.bridge_rules.proofs.RepliesInOrder.{replied-once}
 
 chunk-sum : (count p : ℕ) → 8 * p < count → (min (8 * suc p) count ≡ 8 * p + chunkLen count (8 * p)) × (min (8 * p) count ≡ 8 * p)
 unfolding chunkLen
@@ -85,17 +84,7 @@ module _ (r : Run) (w : Lawful r) (x : Transfer r) where
   hidden n s h = shown-is r w x n s ∙ rw (ne-eqb (statusAt r x n) 0 h)
 
   pub done-progress : (n : ℕ) → Stands r x n → view r x n .phase ≡ done → view r x n .progress ≡ askCount (x .ask)
-  done-progress n s e = go (okAt r w x n)
-    where
-      h : Held r x n
-      h = held r w x n s
-
-      go : SlotOk (state r n .tickets) (view r x n) → view r x n .progress ≡ askCount (x .ask)
-      go (okFree q) = other-phase (view r x n .phase) free done (ap (λ (y : Slot). y .phase) q) e (λ z. omega arith)
-      go (okReady q c m i v l) = other-phase (view r x n .phase) ready done q e (λ z. omega arith)
-      go (okWaiting q c m v i i′ l l′) = other-phase (view r x n .phase) waiting done q e (λ z. omega arith)
-      go (okDone q c p i l) = p ∙ h .count
-      go (okGaveUp q c m v i l) = other-phase (view r x n .phase) gaveUp done q e (λ z. omega arith)
+  done-progress n s e = done-ok (view r x n) (okAt r w x n) e .whole ∙ held r w x n s .count
 
   pub write-hidden : (n : ℕ) → Stands r x n → isWrite (x .ask) ≡ true → shownAt r x n ≡ plain (statusAt r x n)
   write-hidden n s e = shown-is r w x n s ∙ go (eqb (statusAt r x n) 0) refl

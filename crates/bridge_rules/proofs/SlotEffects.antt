@@ -1,30 +1,37 @@
 -- What a call does to one slot and its part of the buffer.
-use Prim.Native.Nat.{ℕ, zero, suc, _+_, _*_, _%_, _-_, _≤_, _<_}
+use Prim.Native.Nat.{ℕ, suc, _+_, _*_, _%_, _-_, _≤_, _<_}
 use mathlib.Core.Path.{_≡_, refl, sym, _∙_, ap}
 use mathlib.Core.Logic.{_⊎_, inl, inr, _≢_}
-use mathlib.Core.List.{List, [], _∷_}
+use mathlib.Core.List.{List}
 use mathlib.Core.Option.{none, some}
-use mathlib.Core.Bool.{Bool, true, false, _&&_, true≢false}
+use mathlib.Core.Bool.{Bool, true, false, _&&_}
 use native.Mathlib.Omega.{arith}
 use native.Mathlib.Decide.{ℕ-discrete, decLt}
-use lib.ListN.{length, getD, set, length-set}
-use lib.Seq.{getD-set-same, getD-set-other, sets}
+use lib.ListN.{length, set}
+use lib.Seq.{sets}
 use lib.Dec.{eqb}
 use Rattle.bus_rules.specs.Frames.{content}
 use Rattle.bus_rules.specs.Ident.{idOffset}
 use Rattle.bridge_rules.specs.State.{Frame, Bridge, Slot, blank, slot, isReady, isFree, lowestFree}
-use Rattle.bridge_rules.specs.Answers.{Result}
+use Rattle.bridge_rules.specs.Answers.{Answer, Result}
 use Rattle.bridge_rules.specs.Opening.{Ask, read, write, askGiven, opened}
 use Rattle.bridge_rules.specs.Turn.{aged, advanced, sentSlot, sentFrame, agedBridge, sendFor}
 use Rattle.bridge_rules.specs.Incoming.{awaits, contentNumber}
 use Rattle.bridge_rules.specs.Call.{Call, itsOwn, opening, turn, frame, close, reset, step}
 use Rattle.bridge_rules.specs.Run.{isTurn}
+use Rattle.bridge_rules.proofs.NumberLaws.{LawfulAsk}
 use Rattle.bridge_rules.proofs.FrameLaws.{len-inside, content-short}
-use Rattle.bridge_rules.proofs.Search.{cases}
-use Rattle.bridge_rules.proofs.Sound.{Sound, ReadyOk, ready-ok, slot-set-same, slot-set-other}
-use Rattle.bridge_rules.proofs.CallCases.{Kind, nothing, opens, sends, idles, takes, closes, resets, LawfulAsk, freeAt, readyAt, slot-aged}
-use Rattle.bridge_rules.proofs.CallCases.{aged-sound, fresh-slot, WaitOk, wait-ok, AwaitsOk, awaits-ok, isOpening, openResult, takeResult}
-use Rattle.bridge_rules.proofs.CallCases.{closeResult}
+use Rattle.bridge_rules.proofs.Search.{cases, contradiction}
+use Rattle.bridge_rules.proofs.BufferParts.{SamePart, sets-elsewhere}
+use Rattle.bridge_rules.proofs.AwaitsTest.{AwaitsOk, awaits-ok}
+use Rattle.bridge_rules.proofs.SlotOk.{ReadyOk, ready-ok, WaitOk, wait-ok}
+use Rattle.bridge_rules.proofs.SlotChanges.{Same, same-refl, same-trans, same-eq, aged-same, advanced-same, sent-same}
+use Rattle.bridge_rules.proofs.SoundTest.{Sound}
+use Rattle.bridge_rules.proofs.SoundStates.{slot-set-same, slot-set-other, slot-aged, aged-sound, fresh-slot}
+use Rattle.bridge_rules.proofs.CallCases.{CallCase, nothing, opens, sends, idles, takes, closes, resets, SendsSlot, TakesReply, other-call}
+use Rattle.bridge_rules.proofs.CallCases.{readyAt, freeAt, openResult, takeResult, closeResult}
+
+-- ── the search's order ─────────────────────────────────────────────────────────────────────────────────────────────
 
 -- how many slots are looked at before slot k
 unfoldable pub distance : ℕ → ℕ → ℕ
@@ -39,74 +46,119 @@ unfolding distance
 distance-is last k h l = omega arith
 
 -- the slot served at distance d comes before k: then k is nearer
-pub distance-less : (last k d : ℕ) → last ≤ 3 → k < 4 → d < distance last k → distance ((suc last + d) % 4) k < distance last k
+distance-less : (last k d : ℕ) → last ≤ 3 → k < 4 → d < distance last k → distance ((suc last + d) % 4) k < distance last k
 unfolding distance
 distance-less last k d h l e = omega arith
 
--- ── stores ─────────────────────────────────────────────────────────────────────────────────────────────────────────
-
-pub getD-sets-below : (l : List ℕ) (i : ℕ) (vs : List ℕ) (j : ℕ) → j < i → getD (sets l i vs) j 0 ≡ getD l j 0
-getD-sets-below l i [] j h = refl
-getD-sets-below l i (a ∷ vs) j h = getD-sets-below (set l i a) (suc i) vs j (omega arith) ∙ getD-set-other l i j a 0 (λ z. omega arith)
-
-pub getD-sets-above : (l : List ℕ) (i : ℕ) (vs : List ℕ) (j : ℕ) → i + length vs ≤ j → getD (sets l i vs) j 0 ≡ getD l j 0
-getD-sets-above l i [] j h = refl
-getD-sets-above l i (a ∷ vs) j h = getD-sets-above (set l i a) (suc i) vs j (omega arith) ∙ getD-set-other l i j a 0 (λ z. omega arith)
-
-pub getD-sets-in : (l : List ℕ) (i : ℕ) (vs : List ℕ) (e : ℕ) → i + length vs ≤ length l → e < length vs
-    → getD (sets l i vs) (i + e) 0 ≡ getD vs e 0
-getD-sets-in l i [] e h m = absurd (omega arith)
-getD-sets-in l i (a ∷ vs) zero h m =
-    let z : i + 0 ≡ i = omega arith in
-    rw z (getD-sets-below (set l i a) (suc i) vs i (omega arith) ∙ getD-set-same l i a 0 (omega arith))
-getD-sets-in l i (a ∷ vs) (suc e) h m =
-    let z : i + suc e ≡ suc i + e = omega arith in
-    rw z (getD-sets-in (set l i a) (suc i) vs e (omega (arith, length-set l i a)) (omega arith))
-
--- slot k's part of the buffer is the same
-abbrev pub SamePart : ℕ → List ℕ → List ℕ → Type 0
-SamePart k b b′ = (i : ℕ) → i < 128 → getD b′ (128 * k + i) 0 ≡ getD b (128 * k + i) 0
-
-sets-elsewhere : (k j : ℕ) (b vs : List ℕ) (p : ℕ) → k ≢ j → p + length vs ≤ 128 → SamePart k b (sets b (128 * j + p) vs)
-sets-elsewhere k j b vs p d h i l = go (decLt k j)
-  where
-    go : Dec (k < j) → getD (sets b (128 * j + p) vs) (128 * k + i) 0 ≡ getD b (128 * k + i) 0
-    go (yes q) = getD-sets-below b (128 * j + p) vs (128 * k + i) (omega arith)
-    go (no q) = let r : j < k = omega arith in getD-sets-above b (128 * j + p) vs (128 * k + i) (omega arith)
-
 -- ── effects ────────────────────────────────────────────────────────────────────────────────────────────────────────
+
+-- call c on state s and buffer b leaves s′ and b′ and answers a; t says whether it is an accepted turn. Of slot k:
+module _ (s s′ : Bridge) (b b′ : List ℕ) (c : Call) (a : Answer) (t : Bool) (k : ℕ) where
+  -- nothing changed
+  pub record Unchanged : Type 0 where
+    pub after : slot s′ k ≡ slot s k
+    pub part : SamePart k b b′
+    pub last : s′ .last ≡ s .last
+    pub noTurn : t ≡ false
+    pub silent : a .sent ≡ none
+    pub unawaited : (f : Frame) → c ≡ frame itsOwn f → contentNumber (s .own) f ≡ 0 → awaits s f k ≡ false
+
+  -- a turn that sent nothing
+  pub record Silent : Type 0 where
+    pub silent : a .sent ≡ none
+    pub unready : isReady (aged (slot s k) .phase) ≡ false
+    pub last : s′ .last ≡ s .last
+
+  -- a turn that served another slot
+  pub record ServedOther : Type 0 where
+    pub j : ℕ
+    pub bound : j < 4
+    pub apart : j ≢ k
+    pub ready : ReadyOk (aged (slot s j))
+    pub yields : a .sent ≡ some (sentFrame (s .own) j (aged (slot s j)) b)
+    pub last : s′ .last ≡ j
+    pub nearer : isReady (aged (slot s k) .phase) ≡ true → distance j k < distance (s .last) k
+
+  -- a turn aged it and did not serve it
+  pub record Aged : Type 0 where
+    pub call : c ≡ turn itsOwn
+    pub turned : t ≡ true
+    pub after : slot s′ k ≡ aged (slot s k)
+    pub kept : b′ ≡ b
+    pub unserved : Silent ⊎ ServedOther
+
+  -- a turn served it
+  pub record Served : Type 0 where
+    pub call : c ≡ turn itsOwn
+    pub turned : t ≡ true
+    pub ready : ReadyOk (aged (slot s k))
+    pub after : slot s′ k ≡ sentSlot (aged (slot s k))
+    pub kept : b′ ≡ b
+    pub last : s′ .last ≡ k
+    pub yields : a .sent ≡ some (sentFrame (s .own) k (aged (slot s k)) b)
+
+  -- a frame was the reply that it awaited
+  pub record Taken : Type 0 where
+    pub f : Frame
+    pub call : c ≡ frame itsOwn f
+    pub passes : contentNumber (s .own) f ≡ 0
+    pub awaited : AwaitsOk s f k
+    pub waits : WaitOk (slot s k)
+    pub after : slot s′ k ≡ advanced (slot s k)
+    pub stored : b′ ≡ sets b (128 * k + slot s k .progress) (content f)
+    pub last : s′ .last ≡ s .last
+    pub noTurn : t ≡ false
+    pub silent : a .sent ≡ none
+
+  pub record OpensHere : Type 0 where
+    pub ask : Ask
+    pub call : c ≡ opening itsOwn ask
+    pub found : lowestFree s ≡ some k
+    pub free : isFree (slot s k .phase) ≡ true
+    pub number : a .number ≡ 0
+
+  pub record ClosesHere : Type 0 where
+    pub ticket : ℕ
+    pub call : c ≡ close ticket
+    pub number : a .number ≡ 0
+    pub has : slot s k .ticket ≡ ticket
+    pub after : slot s′ k ≡ blank
+
+  pub record ResetsHere : Type 0 where
+    pub o : ℕ
+    pub call : c ≡ reset o
+    pub number : a .number ≡ 0
+    pub after : slot s′ k ≡ blank
+
+-- its transfer stays
+pub data Change (s s′ : Bridge) (b b′ : List ℕ) (c : Call) (a : Answer) (t : Bool) (k : ℕ) : Type 0 where
+  unchanged : Unchanged s s′ b b′ c a t k → Change s s′ b b′ c a t k
+  ages : Aged s s′ b b′ c a t k → Change s s′ b b′ c a t k
+  served : Served s s′ b b′ c a t k → Change s s′ b b′ c a t k
+  taken : Taken s s′ b b′ c a t k → Change s s′ b b′ c a t k
+
+-- or it begins or ends
+pub data Effect (s s′ : Bridge) (b b′ : List ℕ) (c : Call) (a : Answer) (t : Bool) (k : ℕ) : Type 0 where
+  keeps : Change s s′ b b′ c a t k → Effect s s′ b b′ c a t k
+  opensHere : OpensHere s s′ b b′ c a t k → Effect s s′ b b′ c a t k
+  closesHere : ClosesHere s s′ b b′ c a t k → Effect s s′ b b′ c a t k
+  resetsHere : ResetsHere s s′ b b′ c a t k → Effect s s′ b b′ c a t k
+
+pub change-same : {s s′ : Bridge} {b b′ : List ℕ} {c : Call} {a : Answer} {t : Bool} {k : ℕ} → Change s s′ b b′ c a t k
+    → Same (slot s k) (slot s′ k)
+change-same {s} {s′} {b} {b′} {c} {a} {t} {k} (unchanged u) = same-eq (same-refl (slot s k)) (u .after)
+change-same {s} {s′} {b} {b′} {c} {a} {t} {k} (ages u) = same-eq (aged-same (slot s k)) (u .after)
+change-same {s} {s′} {b} {b′} {c} {a} {t} {k} (served u) =
+    same-eq (same-trans (aged-same (slot s k)) (sent-same (aged (slot s k)))) (u .after)
+change-same {s} {s′} {b} {b′} {c} {a} {t} {k} (taken u) = same-eq (advanced-same (slot s k)) (u .after)
+
+-- ── every call has one of them ─────────────────────────────────────────────────────────────────────────────────────
 
 abbrev pub turnedBy : Bridge → List ℕ → Call → Bool
 turnedBy s b c = isTurn c && eqb (step s b c .answer .number) 0
 
--- a turn that did not serve slot k
-pub data Unserved (s : Bridge) (b : List ℕ) (c : Call) (k : ℕ) : Type 0 where
-  idle : step s b c .answer .sent ≡ none → isReady (aged (slot s k) .phase) ≡ false → step s b c .state .last ≡ s .last → Unserved s b c k
-  elsewhere : (j : ℕ) → j < 4 → j ≢ k → ReadyOk (s .tickets) (aged (slot s j))
-      → step s b c .answer .sent ≡ some (sentFrame (s .own) j (aged (slot s j)) b)
-      → step s b c .state .last ≡ j → (isReady (aged (slot s k) .phase) ≡ true → distance j k < distance (s .last) k) → Unserved s b c k
-
-pub data Effect (s : Bridge) (b : List ℕ) (c : Call) (k : ℕ) : Type 0 where
-  still : slot (step s b c .state) k ≡ slot s k → SamePart k b (step s b c .buffer) → step s b c .state .last ≡ s .last
-      → turnedBy s b c ≡ false → step s b c .answer .sent ≡ none
-      → ((f : Frame) → c ≡ frame itsOwn f → contentNumber (s .own) f ≡ 0 → awaits s f k ≡ false) → Effect s b c k
-  ages : c ≡ turn itsOwn → turnedBy s b c ≡ true → slot (step s b c .state) k ≡ aged (slot s k) → step s b c .buffer ≡ b
-      → Unserved s b c k → Effect s b c k
-  serves : c ≡ turn itsOwn → turnedBy s b c ≡ true → ReadyOk (s .tickets) (aged (slot s k))
-      → slot (step s b c .state) k ≡ sentSlot (aged (slot s k)) → step s b c .buffer ≡ b
-      → step s b c .state .last ≡ k
-      → step s b c .answer .sent ≡ some (sentFrame (s .own) k (aged (slot s k)) b) → Effect s b c k
-  taken : (f : Frame) → c ≡ frame itsOwn f → contentNumber (s .own) f ≡ 0 → AwaitsOk s f k → WaitOk (s .tickets) (slot s k)
-      → slot (step s b c .state) k ≡ advanced (slot s k) → step s b c .buffer ≡ sets b (128 * k + slot s k .progress) (content f)
-      → step s b c .state .last ≡ s .last → turnedBy s b c ≡ false → step s b c .answer .sent ≡ none
-      → Effect s b c k
-  opensHere : (a : Ask) → c ≡ opening itsOwn a → lowestFree s ≡ some k → isFree (slot s k .phase) ≡ true → LawfulAsk a
-      → slot (step s b c .state) k ≡ opened a (suc (s .tickets))
-      → step s b c .buffer ≡ sets b (128 * k) (askGiven a) → step s b c .answer .ticket ≡ suc (s .tickets) → step s b c .answer .number ≡ 0
-      → Effect s b c k
-  closesHere : (t : ℕ) → c ≡ close t → step s b c .answer .number ≡ 0 → slot s k .ticket ≡ t → slot (step s b c .state) k ≡ blank
-      → Effect s b c k
-  resetsHere : (o : ℕ) → c ≡ reset o → step s b c .answer .number ≡ 0 → slot (step s b c .state) k ≡ blank → Effect s b c k
+abbrev pub EffectOf : Bridge → List ℕ → Call → ℕ → Type 0
+EffectOf s b c k = Effect s (step s b c .state) b (step s b c .buffer) c (step s b c .answer) (turnedBy s b c) k
 
 given-short : (a : Ask) → LawfulAsk a → 0 + length (askGiven a) ≤ 128
 given-short (read d t o n) w = omega arith
@@ -117,95 +169,169 @@ module _ (s : Bridge) (b : List ℕ) (c : Call) (h : Sound s) (k : ℕ) (l : k <
       → slot (step s b c .state) k ≡ slot s k
   same-slot z j y e q d = rw e (slot-set-other s (z .state) j k y q (λ u. d (sym u)))
 
-  no-frame : isOpening c ≡ true → (f : Frame) → c ≡ frame itsOwn f → ⊥
-  no-frame p f e = true≢false (sym p ∙ ap isOpening e)
+  ready-at : (i : ℕ) → i < 4 → readyAt (agedBridge s) i ≡ true → ReadyOk (aged (slot s i))
+  ready-at i m r = rw (slot-aged s i) at (ready-ok (slot (agedBridge s) i) (aged-sound s h .each i m) r)
 
-  pub effect : Kind s b c → Effect s b c k
+  -- slot k is looked at in a turn
+  looked-at : readyAt (agedBridge s) ((suc (s .last) + distance (s .last) k) % 4) ≡ isReady (aged (slot s k) .phase)
+  looked-at = rw (distance-is (s .last) k (h .last) l, slot-aged s k) refl
+
+  -- a slot served before k: k is nearer
+  nearer : (u : SendsSlot s b c) → u .k ≢ k → isReady (aged (slot s k) .phase) ≡ true → distance (u .k) k < distance (s .last) k
+  nearer u p r = less (decLt (u .found .d) (distance (s .last) k)) (ℕ-discrete (u .found .d) (distance (s .last) k))
+    where
+      less : Dec (u .found .d < distance (s .last) k) → Dec (u .found .d ≡ distance (s .last) k) → distance (u .k) k < distance (s .last) k
+      less (yes q) e = rw (u .found .is) (distance-less (s .last) k (u .found .d) (h .last) l q)
+      less (no q) (yes e) =
+          absurd (p (u .found .is ∙ ap (λ (n : ℕ). (suc (s .last) + n) % 4) e ∙ distance-is (s .last) k (h .last) l))
+      less (no q) (no e) = contradiction (looked-at ∙ r) (u .found .skipped (distance (s .last) k) (omega arith))
+
+  -- no other slot awaits the frame that slot j takes
+  only-one : (u : TakesReply s b c) → u .k ≢ k → (g : Frame) → c ≡ frame itsOwn g → awaits s g k ≡ false
+  only-one u p g q = go (cases (awaits s g k))
+    where
+      go : (awaits s g k ≡ true) ⊎ (awaits s g k ≡ false) → awaits s g k ≡ false
+      go (inr z) = z
+      go (inl z) =
+          let same : u .f ≡ g = let e : frame itsOwn (u .f) ≡ frame itsOwn g = sym (u .call) ∙ q in cc in
+          let aj : AwaitsOk s (u .f) (u .k) = awaits-ok s (u .f) (u .k) (u .awaited) in
+          let ak : AwaitsOk s g k = awaits-ok s g k z in
+          let wj : WaitOk (slot s (u .k)) = wait-ok (slot s (u .k)) (h .each (u .k) (u .bound)) (aj .waits) in
+          let wk : WaitOk (slot s k) = wait-ok (slot s k) (h .each k l) (ak .waits) in
+          let pl : 128 * u .k + slot s (u .k) .progress ≡ 128 * k + slot s k .progress = sym (aj .place)
+          ∙ ap (λ (x : Frame). idOffset (x .id)) same ∙ ak .place in
+          absurd (p (omega (arith, pl, wk .partway .below, wk .held .args .few, wj .partway .below, wj .held .args .few)))
+
+  pub effect : CallCase s b c → EffectOf s b c k
   unfolding sendFor agedBridge
-  effect (nothing p q r t o w) = still (ap (λ (x : Bridge). slot x k) p) (λ i m. rw q) (ap (λ (x : Bridge). x .last) p)
-      t r (λ f e g. w f e g k l)
-  effect (opens a j e f g w t z) = go (ℕ-discrete j k)
+  effect (nothing u) = keeps (unchanged (record {
+    after = ap (λ (x : Bridge). slot x k) (u .state);
+    part = λ i m. rw (u .buffer);
+    last = ap (λ (x : Bridge). x .last) (u .state);
+    noTurn = u .noTurn;
+    silent = u .silent;
+    unawaited = λ f e g. u .unawaited f e g k l;
+  }))
+  effect (opens u) = go (ℕ-discrete (u .k) k)
     where
-      go : Dec (j ≡ k) → Effect s b c k
-      go (yes p) = opensHere a e (f ∙ ap some p) (ap (freeAt s) (sym p)
-          ∙ g .passes) w (rw z (slot-set-same s _ k _ (h .four) (ap (λ (i : ℕ). set (s .slots) i (opened a (suc (s .tickets)))) p) l))
-          (rw (z, p)) (rw z) (rw z)
-      go (no p) = still (same-slot (openResult s b a j) j (opened a (suc (s .tickets))) z refl p)
-          (rw z (let u : 128 * j ≡ 128 * j + 0 = omega arith in rw u (sets-elsewhere k j b (askGiven a) 0 (λ v. p (sym v)) (given-short a w))))
-          (rw z) (rw e) (rw z) (λ f q. absurd (no-frame (ap isOpening e) f q))
-  effect (sends j e f z) = go (ℕ-discrete j k)
+      go : Dec (u .k ≡ k) → EffectOf s b c k
+      go (yes p) = opensHere (record {
+        ask = u .ask;
+        call = u .call;
+        found = u .found ∙ ap some p;
+        free = ap (freeAt s) (sym p) ∙ u .lowest .passes;
+        number = rw (u .result);
+      })
+      go (no p) = keeps (unchanged (record {
+        after = same-slot (openResult s b (u .ask) (u .k)) (u .k) (opened (u .ask) (suc (s .tickets))) (u .result) refl p;
+        part = rw (u .result) (let e : 128 * u .k ≡ 128 * u .k + 0 = omega arith in
+            rw e (sets-elsewhere k (u .k) b (askGiven (u .ask)) 0 (λ v. p (sym v)) (given-short (u .ask) (u .lawful))));
+        last = rw (u .result);
+        noTurn = rw (u .call);
+        silent = rw (u .result);
+        unawaited = λ f q. other-call (u .call) q refl;
+      }))
+  effect (sends u) = go (ℕ-discrete (u .k) k)
     where
-      bound : j < 4
-      bound = omega (arith, f .is)
+      bound : u .k < 4
+      bound = omega (arith, u .found .is)
 
-      ready : (i : ℕ) → i < 4 → readyAt (agedBridge s) i ≡ true → ReadyOk (s .tickets) (aged (slot s i))
-      ready i m r = rw (slot-aged s i) at (ready-ok (s .tickets) (slot (agedBridge s) i) (aged-sound s h .each i m) r)
-
-      go : Dec (j ≡ k) → Effect s b c k
-      go (yes p) = serves e (rw (z, e)) (ready k l (ap (readyAt (agedBridge s)) (sym p) ∙ f .passes))
-          (rw z (slot-set-same (agedBridge s) _ k _ (aged-sound s h .four)
-          (ap (λ (i : ℕ). set (agedBridge s .slots) i (sentSlot (slot (agedBridge s) i))) p) l) ∙ ap sentSlot (slot-aged s k))
-          (rw z) (rw z p) (rw (z, p, slot-aged s k))
-      go (no p) = ages e (rw (z, e)) (rw z (slot-set-other (agedBridge s) _ j k _ refl (λ u. p (sym u))) ∙ slot-aged s k) (rw z)
-          (elsewhere j bound p (ready j bound (f .passes)) (rw (z, slot-aged s j)) (rw z) nearer)
-        where
-          nearer : isReady (aged (slot s k) .phase) ≡ true → distance j k < distance (s .last) k
-          nearer r = less (decLt (f .d) (distance (s .last) k))
-            where
-              at-k : readyAt (agedBridge s) ((suc (s .last) + distance (s .last) k) % 4) ≡ true
-              at-k = rw (distance-is (s .last) k (h .last) l, slot-aged s k) r
-
-              less : Dec (f .d < distance (s .last) k) → distance j k < distance (s .last) k
-              less (yes q) = rw (f .is) (distance-less (s .last) k (f .d) (h .last) l q)
-              less (no q) = eqd (ℕ-discrete (f .d) (distance (s .last) k))
-                where
-                  eqd : Dec (f .d ≡ distance (s .last) k) → distance j k < distance (s .last) k
-                  eqd (yes u) = absurd (p (f .is ∙ ap (λ (n : ℕ). (suc (s .last) + n) % 4) u ∙ distance-is (s .last) k (h .last) l))
-                  eqd (no u) = absurd (true≢false (sym at-k ∙ f .skipped (distance (s .last) k) (omega arith)))
-  effect (idles e f z) = ages e (rw (z, e)) (rw z (slot-aged s k)) (rw z) (idle (rw z) unready (rw z))
+      go : Dec (u .k ≡ k) → EffectOf s b c k
+      go (yes p) = keeps (served (record {
+        call = u .call;
+        turned = rw (u .result, u .call);
+        ready = ready-at k l (ap (readyAt (agedBridge s)) (sym p) ∙ u .found .passes);
+        after = rw (u .result) (slot-set-same (agedBridge s) _ k _ (aged-sound s h .four)
+            (ap (λ (i : ℕ). set (agedBridge s .slots) i (sentSlot (slot (agedBridge s) i))) p) l) ∙ ap sentSlot (slot-aged s k);
+        kept = rw (u .result);
+        last = rw (u .result) p;
+        yields = rw (u .result, p, slot-aged s k);
+      }))
+      go (no p) = keeps (ages (record {
+        call = u .call;
+        turned = rw (u .result, u .call);
+        after = rw (u .result) (slot-set-other (agedBridge s) _ (u .k) k _ refl (λ e. p (sym e))) ∙ slot-aged s k;
+        kept = rw (u .result);
+        unserved = inr (record {
+          j = u .k;
+          bound = bound;
+          apart = p;
+          ready = ready-at (u .k) bound (u .found .passes);
+          yields = rw (u .result, slot-aged s (u .k));
+          last = rw (u .result);
+          nearer = nearer u p;
+        });
+      }))
+  effect (idles u) = keeps (ages (record {
+    call = u .call;
+    turned = rw (u .result, u .call);
+    after = rw (u .result) (slot-aged s k);
+    kept = rw (u .result);
+    unserved = inl (record {
+      silent = rw (u .result);
+      unready = sym looked-at ∙ u .unready (distance (s .last) k) (omega (arith, distance-small (s .last) k));
+      last = rw (u .result);
+    });
+  }))
+  effect (takes u) = go (ℕ-discrete (u .k) k)
     where
-      unready : isReady (aged (slot s k) .phase) ≡ false
-      unready =
-          let q : readyAt (agedBridge s) ((suc (s .last) + distance (s .last) k) % 4) ≡ false
-          = f (distance (s .last) k) (omega (arith, distance-small (s .last) k)) in
-          rw (distance-is (s .last) k (h .last) l, slot-aged s k) at q
-  effect (takes f j e r m a z) = go (ℕ-discrete j k)
-    where
-      w : WaitOk (s .tickets) (slot s j)
-      w = wait-ok (s .tickets) (slot s j) (h .each j m) (awaits-ok s f j a .waits)
+      aw : AwaitsOk s (u .f) (u .k)
+      aw = awaits-ok s (u .f) (u .k) (u .awaited)
 
-      go : Dec (j ≡ k) → Effect s b c k
-      go (yes p) = taken f e r (rw p at (awaits-ok s f j a)) (rw p at w)
-          (rw z (slot-set-same s _ k _ (h .four) (ap (λ (i : ℕ). set (s .slots) i (advanced (slot s i))) p) l)) (rw (z, p)) (rw z)
-          (rw e) (rw z)
-      go (no p) = still (same-slot (takeResult s b f j) j (advanced (slot s j)) z refl p)
-          (rw z (sets-elsewhere k j b (content f) (slot s j .progress) (λ v. p (sym v)) short))
-          (rw z) (rw e) (rw z) (λ g q u. only g q (cases (awaits s g k)))
-        where
-          short : slot s j .progress + length (content f) ≤ 128
-          short = omega (
-            arith,
-            content-short f,
-            awaits-ok s f j a .len,
-            len-inside (slot s j .count) (slot s j .progress) (w .mid .below),
-            w .common .few,
-          )
+      w : WaitOk (slot s (u .k))
+      w = wait-ok (slot s (u .k)) (h .each (u .k) (u .bound)) (awaits-ok s (u .f) (u .k) (u .awaited) .waits)
 
-          only : (g : Frame) → c ≡ frame itsOwn g → (awaits s g k ≡ true) ⊎ (awaits s g k ≡ false) → awaits s g k ≡ false
-          only g q (inr u) = u
-          only g q (inl u) =
-              let same : f ≡ g = cc in
-              let ak : AwaitsOk s g k = awaits-ok s g k u in
-              let wk : WaitOk (s .tickets) (slot s k) = wait-ok (s .tickets) (slot s k) (h .each k l) (ak .waits) in
-              let aj : AwaitsOk s f j = awaits-ok s f j a in
-              let pl : 128 * j + slot s j .progress ≡ 128 * k + slot s k .progress = sym (aj .place)
-              ∙ ap (λ (x : Frame). idOffset (x .id)) same ∙ ak .place in
-              absurd (p (omega (arith, pl, wk .mid .below, wk .common .few, w .mid .below, w .common .few)))
-  effect (closes t j e m p q z) = go (ℕ-discrete j k)
+      short : slot s (u .k) .progress + length (content (u .f)) ≤ 128
+      short = omega (
+        arith,
+        content-short (u .f),
+        aw .len,
+        len-inside (slot s (u .k) .count) (slot s (u .k) .progress) (w .partway .below),
+        w .held .args .few,
+      )
+
+      go : Dec (u .k ≡ k) → EffectOf s b c k
+      go (yes p) = keeps (taken (record {
+        f = u .f;
+        call = u .call;
+        passes = u .passes;
+        awaited = rw p at aw;
+        waits = rw p at w;
+        after = rw (u .result) (slot-set-same s _ k _ (h .four) (ap (λ (i : ℕ). set (s .slots) i (advanced (slot s i))) p) l);
+        stored = rw (u .result, p);
+        last = rw (u .result);
+        noTurn = rw (u .call);
+        silent = rw (u .result);
+      }))
+      go (no p) = keeps (unchanged (record {
+        after = same-slot (takeResult s b (u .f) (u .k)) (u .k) (advanced (slot s (u .k))) (u .result) refl p;
+        part = rw (u .result) (sets-elsewhere k (u .k) b (content (u .f)) (slot s (u .k) .progress) (λ v. p (sym v)) short);
+        last = rw (u .result);
+        noTurn = rw (u .call);
+        silent = rw (u .result);
+        unawaited = λ g q z. only-one u p g q;
+      }))
+  effect (closes u) = go (ℕ-discrete (u .k) k)
     where
-      go : Dec (j ≡ k) → Effect s b c k
-      go (yes u) = closesHere t e (rw z) (ap (λ (i : ℕ). slot s i .ticket) (sym u)
-          ∙ q) (rw z (slot-set-same s _ k _ (h .four) (ap (λ (i : ℕ). set (s .slots) i blank) u) l))
-      go (no u) = still (same-slot (closeResult s b j) j blank z refl u) (λ i m. rw z) (rw z) (rw e) (rw z)
-          (λ f q. absurd (let x : _≡_ {A = ℕ} 0 1 = cc in omega arith))
-  effect (resets o e m z) = resetsHere o e (rw z) (rw z (fresh-slot o k))
+      go : Dec (u .k ≡ k) → EffectOf s b c k
+      go (yes p) = closesHere (record {
+        ticket = u .t;
+        call = u .call;
+        number = rw (u .result);
+        has = ap (λ (i : ℕ). slot s i .ticket) (sym p) ∙ u .ticket;
+        after = rw (u .result) (slot-set-same s _ k _ (h .four) (ap (λ (i : ℕ). set (s .slots) i blank) p) l);
+      })
+      go (no p) = keeps (unchanged (record {
+        after = same-slot (closeResult s b (u .k)) (u .k) blank (u .result) refl p;
+        part = λ i m. rw (u .result);
+        last = rw (u .result);
+        noTurn = rw (u .call);
+        silent = rw (u .result);
+        unawaited = λ f q. other-call (u .call) q refl;
+      }))
+  effect (resets u) = resetsHere (record {
+    o = u .o;
+    call = u .call;
+    number = rw (u .result);
+    after = rw (u .result) (fresh-slot (u .o) k);
+  })

@@ -1,28 +1,31 @@
--- Slots by the calls alone: a slot is held exactly by a transfer that stands.
+-- A slot is held exactly by a transfer that stands; so a ticket and a sent frame are a standing transfer's.
 use Prim.Native.Nat.{ℕ, zero, suc, _<_}
 use mathlib.Core.Path.{_≡_, refl, sym, _∙_, ap, subst}
 use mathlib.Core.Logic.{_⊎_, inl, inr, _≢_}
 use mathlib.Core.List.{List}
 use mathlib.Core.Option.{none, some}
-use mathlib.Core.Bool.{Bool, true, false, cond, not, _&&_, true≢false}
+use mathlib.Core.Bool.{Bool, true, false, cond, not, _&&_}
 use native.Mathlib.Omega.{arith}
 use native.Mathlib.Decide.{ℕ-discrete, decLt}
 use lib.Dec.{ltb, eqb}
 use borrow.Author.Tests.{eqb-true, not-true}
 use Rattle.wire.specs.Order.{_if_else_}
-use Rattle.bridge_rules.specs.State.{Frame, Bridge, Slot, free, ready, blank, slot, fresh, isFree, isWaiting, lowestFree, heldSlot, sound}
+use Rattle.bridge_rules.specs.State.{Frame, Bridge, Slot, free, blank, slot, fresh, isFree, isWaiting, lowestFree, heldSlot, sound}
 use Rattle.bridge_rules.specs.Answers.{Result}
 use Rattle.bridge_rules.specs.Turn.{aged, sentFrame, agedBridge, sendFor}
 use Rattle.bridge_rules.specs.Ending.{closeNumber, closeOf, resetOf, resetNumber}
-use Rattle.bridge_rules.specs.Call.{Call, itsOwn, opening, frame, close, reset, step}
+use Rattle.bridge_rules.specs.Call.{Call, itsOwn, close, reset, step}
 use Rattle.bridge_rules.specs.Run.{ledger, Run, storage, state, buffer, answer, Lawful, Transfer, ticket, slotOf, Closing, Stands, accepted, isTurn}
 use Rattle.bridge_rules.specs.Demand3.{Places}
-use Rattle.bridge_rules.proofs.Search.{some-eq, none-some, cases, Lowest, lowest-some, and-true, option-cases}
-use Rattle.bridge_rules.proofs.Sound.{held-free, Sound, sound-true, slot-set-same, ReadyOk, ready-ok, aged-other, aged-same}
-use Rattle.bridge_rules.proofs.CallCases.{Kind, nothing, opens, sends, idles, takes, closes, resets, heldBy, slot-aged, aged-sound}
-use Rattle.bridge_rules.proofs.CallCases.{fresh-slot, freeAt, closeResult}
-use Rattle.bridge_rules.proofs.SlotEffects.{Effect, still, ages, serves, taken, opensHere, closesHere, resetsHere}
-use Rattle.bridge_rules.proofs.LedgerAgrees.{storage-sound, kindAt, effectAt, agrees, lowest-agrees}
+use Rattle.bridge_rules.proofs.Search.{some-eq, none-some, cases, contradiction, Lowest, lowest-some, and-true, option-cases}
+use Rattle.bridge_rules.proofs.SlotOk.{ReadyOk, ready-ok, held-free}
+use Rattle.bridge_rules.proofs.SlotChanges.{aged-other, aged-same}
+use Rattle.bridge_rules.proofs.SoundTest.{Sound, sound-true}
+use Rattle.bridge_rules.proofs.SoundStates.{slot-set-same, slot-aged, aged-sound, fresh-slot}
+use Rattle.bridge_rules.proofs.CallCases.{CallCase, nothing, opens, sends, idles, takes, closes, resets, heldBy, freeAt, closeResult}
+use Rattle.bridge_rules.proofs.SlotEffects.{unchanged, ages, served, taken, keeps, opensHere, closesHere, resetsHere}
+use Rattle.bridge_rules.proofs.SoundRuns.{storage-sound, caseAt, EffectAt, effectAt}
+use Rattle.bridge_rules.proofs.LedgerAgrees.{agrees, lowest-agrees}
 use Rattle.bridge_rules.proofs.Standing.{held-slot, openedAt, view, held}
 use Rattle.bridge_rules.proofs.Status.{held-by}
 
@@ -61,8 +64,8 @@ module _ (r : Run) (w : Lawful r) where
   goes-on n k f (y, s, e) = (y, (omega (arith, s .0), λ m a b. stay m a b (ℕ-discrete m n)), e)
     where
       stay : (m : ℕ) → y .at < m → m < suc n → Dec (m ≡ n) → ¬ Closing r y m
-      stay m a b (yes p) d = true≢false (sym (ended-frees y n s (subst (Closing r y) p d))
-          ∙ subst (λ (i : ℕ). isFree (slot (state r (suc n)) i .phase) ≡ false) (sym e) f)
+      stay m a b (yes p) d = contradiction (ended-frees y n s (subst (Closing r y) p d))
+          (subst (λ (i : ℕ). isFree (slot (state r (suc n)) i .phase) ≡ false) (sym e) f)
       stay m a b (no p) d = s .1 m a (omega arith) d
 
   free-ages : (y : Slot) → isFree (y .phase) ≡ true → aged y ≡ y
@@ -70,34 +73,38 @@ module _ (r : Run) (w : Lawful r) where
 
   pub occupied : (n k : ℕ) → k < 4 → isFree (slot (state r n) k .phase) ≡ false → Occupied n k
   unfolding storage slotOf lowestFree
-  occupied zero k l f = absurd (true≢false (sym (ap (λ (y : Slot). isFree (y .phase)) (fresh-slot (r .own) k)) ∙ f))
+  occupied zero k l f = contradiction (ap (λ (y : Slot). isFree (y .phase)) (fresh-slot (r .own) k)) f
   occupied (suc n) k l f = go (occupied n k l) (effectAt r w n k l) (cases (isFree (slot (state r n) k .phase)))
     where
-      go : (isFree (slot (state r n) k .phase) ≡ false → Occupied n k) → Effect (state r n) (buffer r n) (r .calls n) k
+      -- it was not free before
+      was-free : slot (state r (suc n)) k ≡ slot (state r n) k → isFree (slot (state r n) k .phase) ≡ true → Occupied (suc n) k
+      was-free e q = contradiction (ap (λ (y : Slot). isFree (y .phase)) e ∙ q) f
+
+      -- a call that leaves it free
+      freed : slot (state r (suc n)) k ≡ blank → Occupied (suc n) k
+      freed e = contradiction (ap (λ (y : Slot). isFree (y .phase)) e) f
+
+      go : (isFree (slot (state r n) k .phase) ≡ false → Occupied n k) → EffectAt r n k
           → (isFree (slot (state r n) k .phase) ≡ true) ⊎ (isFree (slot (state r n) k .phase) ≡ false) → Occupied (suc n) k
-      go ih e (inr q) = held-on e
-        where
-          held-on : Effect (state r n) (buffer r n) (r .calls n) k → Occupied (suc n) k
-          held-on e = goes-on n k f (ih q)
-      go ih (still a b c e g i) (inl q) = absurd (true≢false (sym (ap (λ (y : Slot). isFree (y .phase)) a ∙ q) ∙ f))
-      go ih (ages a b c d g) (inl q) =
-          absurd (true≢false (sym (ap (λ (y : Slot). isFree (y .phase)) (c ∙ free-ages (slot (state r n) k) q) ∙ q) ∙ f))
-      go ih (serves a b c d e i j) (inl q) =
-          absurd (true≢false (sym q ∙ ap (λ (y : Slot). isFree (y .phase)) (sym (free-ages (slot (state r n) k) q)) ∙ ap isFree (c .phase)))
-      go ih (taken g a c d e i j k o p) (inl q) = absurd (true≢false (sym q ∙ ap isFree (e .phase)))
-      go ih (opensHere a b c d e g i j m) (inl q) = (
-        record { at = n; lent = itsOwn; ask = a; call = b; accepted = m },
-        (omega arith, λ t u v. absurd (omega arith)),
-        lowest-agrees (ledger r n) (state r n) k (storage-sound r w n .0) (agrees r w n) (lowest-some (freeAt (state r n)) k c),
+      go ih e (inr q) = goes-on n k f (ih q)
+      go ih (keeps (unchanged u)) (inl q) = was-free (u .after) q
+      go ih (keeps (ages u)) (inl q) = was-free (u .after ∙ free-ages (slot (state r n) k) q) q
+      go ih (keeps (served u)) (inl q) = contradiction q
+          (ap (λ (y : Slot). isFree (y .phase)) (sym (free-ages (slot (state r n) k) q)) ∙ ap isFree (u .ready .phase))
+      go ih (keeps (taken u)) (inl q) = contradiction q (ap isFree (u .waits .phase))
+      go ih (opensHere u) (inl q) = (
+        record { at = n; lent = itsOwn; ask = u .ask; call = u .call; accepted = u .number },
+        (omega arith, λ t a b. absurd (omega arith)),
+        lowest-agrees (ledger r n) (state r n) k (storage-sound r w n .0) (agrees r w n) (lowest-some (freeAt (state r n)) k (u .found)),
       )
-      go ih (closesHere t a b c d) (inl q) = absurd (true≢false (sym (ap (λ (y : Slot). isFree (y .phase)) d) ∙ f))
-      go ih (resetsHere o a b c) (inl q) = absurd (true≢false (sym (ap (λ (y : Slot). isFree (y .phase)) c) ∙ f))
+      go ih (closesHere u) (inl q) = freed (u .after)
+      go ih (resetsHere u) (inl q) = freed (u .after)
 
   pub places : (x : Transfer r) → Places r x
   places x = record {
     bound = openedAt r w x .bound;
-    apart = λ y s e. true≢false (sym (lw .passes)
-        ∙ subst (λ (k : ℕ). isFree (slot (state r (x .at)) k .phase) ≡ false) e (held-slot r w y (x .at) s));
+    apart = λ y s e. contradiction (lw .passes)
+        (subst (λ (k : ℕ). isFree (slot (state r (x .at)) k .phase) ≡ false) e (held-slot r w y (x .at) s));
     lowest = λ k l. occupied (x .at) k (omega (arith, lw .bound)) (lw .below k l);
   }
     where
@@ -161,50 +168,46 @@ module _ (r : Run) (w : Lawful r) where
   pub record Sender (j : ℕ) (f : Frame) : Type 0 where
     pub y : Transfer r
     pub stands : Stands r y j
-    pub ready : ReadyOk (state r j .tickets) (aged (view r y j))
+    pub ready : ReadyOk (aged (view r y j))
     pub served : state r (suc j) .last ≡ slotOf r y
     pub is : f ≡ sentFrame (state r j .own) (slotOf r y) (aged (view r y j)) (buffer r j)
 
   pub sender : (j : ℕ) (f : Frame) → accepted r j ≡ true → answer r j .sent ≡ some f → Sender j f
   unfolding storage accepted sendFor agedBridge
-  sender j f a q = go (kindAt r w j)
+  sender j f a q = go (caseAt r w j)
     where
-      s : Bridge
-      s = state r j
+      not-turn : {d : Call} → r .calls j ≡ d → isTurn d ≡ false → Sender j f
+      not-turn {d} e p = contradiction a (ap (λ (b : Bool). b && eqb (answer r j .number) 0) (ap isTurn e ∙ p))
 
-      not-turn : (d : Call) → r .calls j ≡ d → isTurn d ≡ false → Sender j f
-      not-turn d e p = absurd (true≢false (sym a ∙ ap (λ (c : Call). isTurn c && eqb (answer r j .number) 0) e
-          ∙ ap (λ (b : Bool). b && eqb (answer r j .number) 0) p))
-
-      go : Kind (state r j) (buffer r j) (r .calls j) → Sender j f
-      go (nothing b c d t o u) = none-some (sym d ∙ q)
-      go (opens b k e g i l t z) = not-turn (opening itsOwn b) e refl
-      go (sends k e g z) = from-slot (occupied j k bound full)
+      go : CallCase (state r j) (buffer r j) (r .calls j) → Sender j f
+      go (nothing u) = none-some (sym (u .silent) ∙ q)
+      go (opens u) = not-turn (u .call) refl
+      go (sends u) = from-slot (occupied j (u .k) bound full)
         where
-          bound : k < 4
-          bound = omega (arith, g .is)
+          bound : u .k < 4
+          bound = omega (arith, u .found .is)
 
-          ready : ReadyOk (state r j .tickets) (aged (slot (state r j) k))
-          ready = rw (slot-aged (state r j) k) at (ready-ok (state r j .tickets) (slot (agedBridge (state r j)) k)
-              (aged-sound (state r j) (storage-sound r w j .0) .each k bound) (g .passes))
+          ready : ReadyOk (aged (slot (state r j) (u .k)))
+          ready = rw (slot-aged (state r j) (u .k)) at (ready-ok (slot (agedBridge (state r j)) (u .k))
+              (aged-sound (state r j) (storage-sound r w j .0) .each (u .k) bound) (u .found .passes))
 
-          full : isFree (slot (state r j) k .phase) ≡ false
-          full = held-free (state r j .tickets) (slot (state r j) k) (storage-sound r w j .0 .each k bound)
-              (omega (arith, ready .common .ticket, aged-same (slot (state r j) k) .ticket))
+          full : isFree (slot (state r j) (u .k) .phase) ≡ false
+          full = held-free (slot (state r j) (u .k)) (storage-sound r w j .0 .each (u .k) bound)
+              (omega (arith, ready .held .ticket, aged-same (slot (state r j) (u .k)) .ticket))
 
-          sent : f ≡ sentFrame (state r j .own) k (aged (slot (state r j) k)) (buffer r j)
-          sent = some-eq (sym q ∙ ap (λ (u : Result). u .answer .sent) z)
-              ∙ ap (λ (x : Slot). sentFrame (state r j .own) k x (buffer r j)) (slot-aged (state r j) k)
+          sent : f ≡ sentFrame (state r j .own) (u .k) (aged (slot (state r j) (u .k))) (buffer r j)
+          sent = some-eq (sym q ∙ ap (λ (v : Result). v .answer .sent) (u .result))
+              ∙ ap (λ (x : Slot). sentFrame (state r j .own) (u .k) x (buffer r j)) (slot-aged (state r j) (u .k))
 
-          from-slot : Occupied j k → Sender j f
+          from-slot : Occupied j (u .k) → Sender j f
           from-slot (y, t, i) = record {
             y = y;
             stands = t;
             ready = rw (← i) at ready;
-            served = ap (λ (u : Result). u .state .last) z ∙ sym i;
+            served = ap (λ (v : Result). v .state .last) (u .result) ∙ sym i;
             is = rw (← i) at sent;
           }
-      go (idles e g z) = none-some (sym (ap (λ (u : Result). u .answer .sent) z) ∙ q)
-      go (takes g k e b l c z) = not-turn (frame itsOwn g) e refl
-      go (closes t k e l b c z) = not-turn (close t) e refl
-      go (resets o e l z) = not-turn (reset o) e refl
+      go (idles u) = none-some (sym (ap (λ (v : Result). v .answer .sent) (u .result)) ∙ q)
+      go (takes u) = not-turn (u .call) refl
+      go (closes u) = not-turn (u .call) refl
+      go (resets u) = not-turn (u .call) refl

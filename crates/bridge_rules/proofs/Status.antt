@@ -18,17 +18,18 @@ use Rattle.bridge_rules.specs.Call.{itsOwn, status, bytes, step}
 use Rattle.bridge_rules.specs.Run.{Run, state, buffer, Lawful, Transfer, ticket, slotOf, Stands, statusAt, shownAt}
 use Rattle.bridge_rules.specs.Demand3.{showing}
 use Rattle.bridge_rules.proofs.Search.{cases, Lowest, lowest-some, lowest-none, and-true}
-use Rattle.bridge_rules.proofs.Sound.{held-free, Sound, sound-true}
+use Rattle.bridge_rules.proofs.SlotOk.{held-free}
+use Rattle.bridge_rules.proofs.SoundTest.{Sound, sound-true}
 use Rattle.bridge_rules.proofs.CallCases.{heldBy}
-use Rattle.bridge_rules.proofs.LedgerAgrees.{storage-sound}
+use Rattle.bridge_rules.proofs.SoundRuns.{storage-sound}
 use Rattle.bridge_rules.proofs.Standing.{openedAt, view, held}
 
-holder : (s : Bridge) (k t : ℕ) → Sound s → k < 4 → slot s k .ticket ≡ t → 0 < t → (o : Option ℕ) → heldSlot s t ≡ o → o ≡ some k
+held-by-ticket : (s : Bridge) (k t : ℕ) → Sound s → k < 4 → slot s k .ticket ≡ t → 0 < t → (o : Option ℕ) → heldSlot s t ≡ o → o ≡ some k
 unfolding heldSlot
-holder s k t h l e p none q =
-    let f : isFree (slot s k .phase) ≡ false = held-free (s .tickets) (slot s k) (h .each k l) (omega arith) in
+held-by-ticket s k t h l e p none q =
+    let f : isFree (slot s k .phase) ≡ false = held-free (slot s k) (h .each k l) (omega arith) in
     absurd (false≢true (sym (lowest-none (heldBy s t) q k l) ∙ rw (f, eq-eqb (slot s k .ticket) t e)))
-holder s k t h l e p (some j) q = go (ℕ-discrete j k)
+held-by-ticket s k t h l e p (some j) q = go (ℕ-discrete j k)
   where
     w : Lowest (heldBy s t) j
     w = lowest-some (heldBy s t) j q
@@ -109,7 +110,7 @@ phase-other p a b = go (number-cases p)
 
 module _ (r : Run) (w : Lawful r) (x : Transfer r) where
   pub held-by : (n : ℕ) → Stands r x n → heldSlot (state r n) (ticket r x) ≡ some (slotOf r x)
-  held-by n s = holder (state r n) (slotOf r x) (ticket r x) (storage-sound r w n .0) (openedAt r w x .bound) (held r w x n s .ticket)
+  held-by n s = held-by-ticket (state r n) (slotOf r x) (ticket r x) (storage-sound r w n .0) (openedAt r w x .bound) (held r w x n s .ticket)
       (omega (arith, openedAt r w x .ticketed)) _ refl
 
   number-is : (n : ℕ) → Stands r x n → ticketNumber (state r n) (ticket r x) ≡ phaseNumber (view r x n .phase)

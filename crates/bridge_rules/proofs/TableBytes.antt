@@ -22,17 +22,20 @@ use Rattle.bridge_rules.specs.Replies.{Sent, Replied}
 use Rattle.bridge_rules.specs.Device.{Arrives, Timeline, range, Own, NotAfter, Meanwhile, Arrivals, Unwritten, Premises}
 use Rattle.bridge_rules.specs.Demand3.{brought, showing}
 use Rattle.bridge_rules.specs.Corollaries.{SinceTaken}
-use Rattle.bridge_rules.proofs.ReadWrite.{read-of}
+use Rattle.bridge_rules.proofs.KindTests.{read-of}
 use Rattle.bus_rules.proofs.IdentLaws.{offset-of-id, kind-of-id, table-of-id}
 use Rattle.bus_rules.proofs.Ranges.{range-part, range-whole, range-short}
 use Rattle.bus_rules.proofs.Replies.{command-unanswered, request-answered, answerer-own, answerer-unchanged, request-read}
 use Rattle.bridge_rules.proofs.FrameLaws.{len-eight, len-inside, id-of, content-of, read-is}
 use Rattle.bridge_rules.proofs.FrameLaws.{write-is}
-use Rattle.bridge_rules.proofs.Sound.{ReadyOk, Same, aged-same}
-use Rattle.bridge_rules.proofs.LedgerAgrees.{storage-sound, own-is}
+use Rattle.bridge_rules.proofs.SlotOk.{ReadyOk}
+use Rattle.bridge_rules.proofs.SlotChanges.{Same, aged-same}
+use Rattle.bridge_rules.proofs.SoundRuns.{storage-sound}
+use Rattle.bridge_rules.proofs.LedgerAgrees.{own-is}
 use Rattle.bridge_rules.proofs.Standing.{view, Held, held, openedAt}
 use Rattle.bridge_rules.proofs.Status.{done-is}
-use Rattle.bridge_rules.proofs.SentRequests.{sends-request, MatchesOk, matches-ok, same-place, chunk-small}
+use Rattle.bridge_rules.proofs.SentRequests.{sends-request, same-place, chunk-small}
+use Rattle.bridge_rules.proofs.Matching.{MatchesOk, matches-ok}
 use Rattle.bridge_rules.proofs.AskedSoFar.{AskedSoFar, Got}
 use Rattle.bridge_rules.proofs.ShownBytes.{join-all, shown-part, shown-done, all-got}
 use Rattle.bridge_rules.proofs.SlotHolders.{same-slot, Sender, sender}
@@ -46,12 +49,12 @@ record Answered (d : Device) (own k : ℕ) (y : Slot) (g : Frame) : Type 0 where
   offset : idOffset (g .id) ≡ 128 * k + y .progress
   bytes : content g ≡ rangeOf d (y .table) (y .offset + y .progress) (chunkLen (y .count) (y .progress))
 
-answered : (d : Device) (own k t : ℕ) (y : Slot) (b : List ℕ) (g : Frame) → k < 4 → own ≤ 15 → ReadyOk t y
+answered : (d : Device) (own k : ℕ) (y : Slot) (b : List ℕ) (g : Frame) → k < 4 → own ≤ 15 → ReadyOk y
     → asks (y .kind) ≡ true → serveOf d (sentFrame own k y b) ≡ answerWith g → Answered d own k y g
-answered d own k t y b g kb o r u e = record {
+answered d own k y b g kb o r u e = record {
   offset = ap (λ (f : Frame). idOffset (f .id)) gq ∙ ap idOffset (id-of _ _)
       ∙ offset-of-id (requestAt q 0 .offset) rsp (ownOf d) (idFrom (q .id)) (requestAt q 0 .table)
-      (omega (arith, fields .1, r .mid .below, r .common .few)) (omega arith) (omega (arith, answerer-own d q g eq))
+      (omega (arith, fields .1, r .partway .below, r .held .args .few)) (omega arith) (omega (arith, answerer-own d q g eq))
       (omega (arith, from-small (q .id))) (omega (arith, fields .0)) ∙ fields .1;
   bytes = ap content gq ∙ content-of _ _ short
       ∙ ap (rangeOf d (tableOf q) (idOffset (q .id))) (fields .2)
@@ -70,21 +73,21 @@ answered d own k t y b g kb o r u e = record {
     eq = ap (serveOf d) (sym (read-is own k y b u)) ∙ e
 
     low : y .offset + y .progress < 2048
-    low = omega (arith, r .mid .below, r .common .inside)
+    low = omega (arith, r .partway .below, r .held .args .inside)
 
     own< : own < 16
     own< = omega arith
 
     device< : y .device < 16
-    device< = omega (arith, r .common .device)
+    device< = omega (arith, r .held .args .device)
 
     table< : y .table < 32
-    table< = omega (arith, r .common .table)
+    table< = omega (arith, r .held .args .table)
 
     fields : (requestAt q 0 .table ≡ 6) × (requestAt q 0 .offset ≡ 128 * k + y .progress)
         × (requestAt q 0 .count ≡ chunkLen (y .count) (y .progress))
-    fields = request-read id (128 * k + y .progress) (chunkLen (y .count) (y .progress)) (16 * k + r .mid .chunk)
-        (len-eight (y .count) (y .progress)) (omega (arith, r .mid .at))
+    fields = request-read id (128 * k + y .progress) (chunkLen (y .count) (y .progress)) (16 * k + r .partway .chunk)
+        (len-eight (y .count) (y .progress)) (omega (arith, r .partway .at))
 
     kind : idKind (q .id) ≡ req
     kind = ap idKind (id-of _ _)
@@ -130,7 +133,7 @@ module _ (r : Run) (w : Lawful r) (x : Transfer r) (n : ℕ) (t : Timeline) (pre
     bytes : brought (r .calls m) ≡ take (lenOf r x c) (drop (8 * c) (range r x (t .device (t .answered m))))
 
   answers : (c m : ℕ) → m < n → Replied r x c m → Answers c m
-  answers c m l p = kinds (k .common .told)
+  answers c m l p = kinds (k .held .kind)
     where
       sm : (8 * c < askCount (x .ask)) × (c < 16)
       sm = chunk-small r w x c (p .awaits .sent .chunk)
@@ -153,7 +156,7 @@ module _ (r : Run) (w : Lawful r) (x : Transfer r) (n : ℕ) (t : Timeline) (pre
       h : Held r y j
       h = held r w y j (sd .stands)
 
-      k : ReadyOk (state r j .tickets) (aged (view r y j))
+      k : ReadyOk (aged (view r y j))
       k = sd .ready
 
       d : Device
@@ -176,8 +179,8 @@ module _ (r : Run) (w : Lawful r) (x : Transfer r) (n : ℕ) (t : Timeline) (pre
       kinds (inl u) = absurd (command-unanswered d (sentFrame (state r j .own) (slotOf r y) (aged (view r y j)) (buffer r j)) (ow .reply)
           sv (ap (λ (f : Frame). idKind (f .id)) (write-is (state r j .own) (slotOf r y) (aged (view r y j)) (buffer r j) u)
           ∙ ap idKind (id-of _ _)
-          ∙ kind-of-id _ cmd _ _ _ (omega (arith, k .mid .below, k .common .inside)) (omega arith) (omega (arith, ownS))
-          (omega (arith, k .common .device)) (omega (arith, k .common .table))))
+          ∙ kind-of-id _ cmd _ _ _ (omega (arith, k .partway .below, k .held .args .inside)) (omega arith) (omega (arith, ownS))
+          (omega (arith, k .held .args .device)) (omega (arith, k .held .args .table))))
       kinds (inr u) = record {
         sent = record {
           stands = (omega (arith, at, sd .stands .0), λ i a b. p .awaits .stands .1 i a (omega (arith, ow .earlier)));
@@ -192,29 +195,29 @@ module _ (r : Run) (w : Lawful r) (x : Transfer r) (n : ℕ) (t : Timeline) (pre
       }
         where
           an : Answered d (state r j .own) (slotOf r y) (aged (view r y j)) (ow .reply)
-          an = answered d (state r j .own) (slotOf r y) (state r j .tickets) (aged (view r y j)) (buffer r j) (ow .reply)
+          an = answered d (state r j .own) (slotOf r y) (aged (view r y j)) (buffer r j) (ow .reply)
               (openedAt r w y .bound) ownS k u sv
 
-          sent : Sent r y (k .mid .chunk) j
+          sent : Sent r y (k .partway .chunk) j
           sent = record {
             stands = sd .stands;
             isRead = read-of (y .ask) (sa .kind ∙ h .kind) u;
-            chunk = omega (arith, k .mid .at, k .mid .below, sa .count, h .count);
+            chunk = omega (arith, k .partway .at, k .partway .below, sa .count, h .count);
             turned = ow .turned;
-            yields = ow .yields ∙ ap some (sd .is ∙ sends-request r w y (k .mid .chunk) j (aged (view r y j)) u (k .mid .at)
+            yields = ow .yields ∙ ap some (sd .is ∙ sends-request r w y (k .partway .chunk) j (aged (view r y j)) u (k .partway .at)
                 (sa .device ∙ h .device) (sa .table ∙ h .table) (sa .offset ∙ h .offset) (sa .count ∙ h .count));
           }
 
-          sp : (slotOf r y ≡ slotOf r x) × (k .mid .chunk ≡ c)
-          sp = same-place (slotOf r y) (aged (view r y j) .progress) (k .mid .chunk) (slotOf r x) c (k .mid .at)
-              (omega (arith, k .mid .at, k .mid .below, k .common .few)) (sm .1)
+          sp : (slotOf r y ≡ slotOf r x) × (k .partway .chunk ≡ c)
+          sp = same-place (slotOf r y) (aged (view r y j) .progress) (k .partway .chunk) (slotOf r x) c (k .partway .at)
+              (omega (arith, k .partway .at, k .partway .below, k .held .args .few)) (sm .1)
               (ap (λ (b : ℕ). b / 8) (sym (an .offset) ∙ ap idOffset (sym (ow .sameId)) ∙ fo .1 .place))
 
           progress : aged (view r y j) .progress ≡ 8 * c
-          progress = k .mid .at ∙ ap (λ (b : ℕ). 8 * b) (sp .1)
+          progress = k .partway .at ∙ ap (λ (b : ℕ). 8 * b) (sp .1)
 
           at : x .at ≡ y .at
-          at = same-slot r w x y m (p .awaits .stands) (pre .current m (fo .0) (arrives c m l p) y (k .mid .chunk) sent) (sym (sp .0))
+          at = same-slot r w x y m (p .awaits .stands) (pre .current m (fo .0) (arrives c m l p) y (k .partway .chunk) sent) (sym (sp .0))
 
           ask : y .ask ≡ x .ask
           ask = let z : opening (y .lent) (y .ask) ≡ opening (x .lent) (x .ask) = sym (y .call) ∙ ap (r .calls) (sym at) ∙ x .call in cc

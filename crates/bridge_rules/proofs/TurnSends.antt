@@ -4,7 +4,7 @@ use mathlib.Core.Path.{_≡_, refl, sym, _∙_, ap, ap₂, subst}
 use mathlib.Core.Logic.{_⊎_, inl, inr, _≢_}
 use mathlib.Core.List.{List}
 use mathlib.Core.Option.{Option, none, some}
-use mathlib.Core.Bool.{true, false, true≢false}
+use mathlib.Core.Bool.{true, false}
 use native.Mathlib.Omega.{arith}
 use native.Mathlib.Decide.{decLt}
 use lib.ListN.{length, take, drop, length-take, length-drop}
@@ -18,12 +18,15 @@ use Rattle.bridge_rules.specs.Call.{itsOwn, turn, step}
 use Rattle.bridge_rules.specs.Run.{Transfer}
 use Rattle.bridge_rules.specs.Calls.{FirstReady, NextBytes, TurnYields, TurnSends, SendsForTransfers}
 use Rattle.bridge_rules.proofs.NumberLaws.{lent-ok, lent-clear}
-use Rattle.bridge_rules.proofs.ReadWrite.{KnownKind, asks-of}
+use Rattle.bridge_rules.proofs.KindTests.{KnownKind, asks-of}
 use Rattle.bridge_rules.proofs.FrameLaws.{len-some, len-eight, len-inside, read-is, write-is}
-use Rattle.bridge_rules.proofs.Search.{some-eq, none-some, Found, search-some, search-none, Outcome, through, refused, outcome}
+use Rattle.bridge_rules.proofs.Search.{some-eq, none-some, contradiction, Found, search-some, search-none, Outcome, through, refused, outcome}
 use Rattle.bridge_rules.proofs.Search.{option-cases}
-use Rattle.bridge_rules.proofs.Sound.{Sound, ReadyOk, ready-ok, aged-same, sound-true, true-sound, Same}
-use Rattle.bridge_rules.proofs.CallCases.{slot-aged, aged-sound, readyAt}
+use Rattle.bridge_rules.proofs.SlotOk.{ReadyOk, ready-ok}
+use Rattle.bridge_rules.proofs.SlotChanges.{Same, aged-same}
+use Rattle.bridge_rules.proofs.SoundTest.{Sound, sound-true, true-sound}
+use Rattle.bridge_rules.proofs.SoundStates.{slot-aged, aged-sound}
+use Rattle.bridge_rules.proofs.CallCases.{readyAt}
 use Rattle.bridge_rules.proofs.SlotEffects.{distance, distance-small, distance-is}
 use Rattle.bridge_rules.proofs.Standing.{view, Held, held}
 use Rattle.bridge_rules.proofs.SentRequests.{sends-request}
@@ -31,7 +34,7 @@ use Rattle.bridge_rules.proofs.SlotHolders.{Sender, sender}
 use Rattle.bridge_rules.proofs.WrittenInOrder.{written-so-far, sends-write}
 
 unready-phase : (p : ℕ) → isReady p ≡ false → p ≢ ready
-unready-phase p e q = true≢false (sym (ap isReady q) ∙ e)
+unready-phase p e q = contradiction (ap isReady q) e
 
 -- an accepted turn was handed a sound bridge and its buffer
 turn-lent : (s : Bridge) (b : List ℕ) → step s b (turn itsOwn) .answer .number ≡ 0 → (sound s ≡ true) × (length b ≡ 512)
@@ -56,20 +59,20 @@ unfolding agedBridge
 aged-own s = refl
 
 -- what a ready slot sends are its next bytes, and nothing else is
-next-bytes : (t own k : ℕ) (x : Slot) (b : List ℕ) → k < 4 → length b ≡ 512 → ReadyOk t x → NextBytes own k x b (sentFrame own k x b)
-next-bytes t own k x b l lb r =
-    let in-count = len-inside (x .count) (x .progress) (r .mid .below) in
+next-bytes : (own k : ℕ) (x : Slot) (b : List ℕ) → k < 4 → length b ≡ 512 → ReadyOk x → NextBytes own k x b (sentFrame own k x b)
+next-bytes own k x b l lb r =
+    let in-count = len-inside (x .count) (x .progress) (r .partway .below) in
     record {
       n = chunkLen (x .count) (x .progress);
       next = refl;
-      nonempty = len-some (x .count) (x .progress) (r .mid .below);
+      nonempty = len-some (x .count) (x .progress) (r .partway .below);
       few = len-eight (x .count) (x .progress);
       inside = in-count;
       requests = read-is own k x b;
       commands = λ e. (
         write-is own k x b e,
         length-take (chunkLen (x .count) (x .progress)) (drop (128 * k + x .progress) b)
-            ∙ omega (arith, length-drop (128 * k + x .progress) b, in-count, r .common .few),
+            ∙ omega (arith, length-drop (128 * k + x .progress) b, in-count, r .held .args .few),
       );
     }
 
@@ -119,9 +122,9 @@ module _ (s : Bridge) (b : List ℕ) (h : Sound s) (lb : length b ≡ 512) where
     bound : k < 4
     bound = omega (arith, found .is)
 
-    readied : ReadyOk (s .tickets) (aged (slot s k))
+    readied : ReadyOk (aged (slot s k))
     unfolding agedBridge
-    readied = rw (slot-aged s k) at (ready-ok (s .tickets) (slot (agedBridge s) k) (aged-sound s h .each k bound) (found .passes))
+    readied = rw (slot-aged s k) at (ready-ok (slot (agedBridge s) k) (aged-sound s h .each k bound) (found .passes))
 
     sent : step s b (turn itsOwn) .answer .sent ≡ some (sentFrame (s .own) k (aged (slot s k)) b)
     sent = ap (λ (u : Result). u .answer .sent) is ∙ ap (λ (o : Option ℕ). sendFor (agedBridge s) b o .answer .sent) z
@@ -155,9 +158,9 @@ module _ (s : Bridge) (b : List ℕ) (h : Sound s) (lb : length b ≡ 512) where
           k,
           first,
           subst (NextBytes (s .own) k (aged (slot s k)) b) (some-eq (sym sent ∙ e))
-              (next-bytes (s .tickets) (s .own) k (aged (slot s k)) b bound lb readied),
+              (next-bytes (s .own) k (aged (slot s k)) b bound lb readied),
         ),
-        λ p. sent ∙ ap some (next-only (s .own) k (aged (slot s k)) b f (readied .common .told)
+        λ p. sent ∙ ap some (next-only (s .own) k (aged (slot s k)) b f (readied .held .kind)
             (subst (λ (i : ℕ). NextBytes (s .own) i (aged (slot s i)) b f) (only (p .0) (p .1)) (p .2))),
       );
     }
@@ -179,10 +182,10 @@ sends-for-transfers r w j f a e = record {
   asker = y;
   stands = sd .stands;
   served = sd .served;
-  c = sd .ready .mid .chunk;
-  chunk = omega (arith, sd .ready .mid .at, sd .ready .mid .below, sa .count, h .count);
-  asks = λ q. sd .is ∙ sends-request r w y (sd .ready .mid .chunk) j (aged (view r y j))
-      (asks-of (y .ask) (sa .kind ∙ h .kind) q) (sd .ready .mid .at)
+  c = sd .ready .partway .chunk;
+  chunk = omega (arith, sd .ready .partway .at, sd .ready .partway .below, sa .count, h .count);
+  asks = λ q. sd .is ∙ sends-request r w y (sd .ready .partway .chunk) j (aged (view r y j))
+      (asks-of (y .ask) (sa .kind ∙ h .kind) q) (sd .ready .partway .at)
       (sa .device ∙ h .device) (sa .table ∙ h .table) (sa .offset ∙ h .offset) (sa .count ∙ h .count);
   carries = λ q. sd .is ∙ sends-write r w y q j h (written-so-far r w y q j (sd .stands)) (sd .ready);
 }

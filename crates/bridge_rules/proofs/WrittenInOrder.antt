@@ -1,10 +1,10 @@
--- Writes: the invariant, and that a standing write is done exactly when every chunk was yielded in order.
+-- A standing write is done exactly when its CMD for every chunk was yielded in order.
 use Prim.Native.Nat.{ℕ, zero, suc, _+_, _*_, _-_, _≤_, _<_, min}
 use mathlib.Core.Path.{_≡_, refl, sym, _∙_, ap, ap₂, subst}
-use mathlib.Core.Logic.{_≢_}
+use mathlib.Core.Logic.{inl, inr, _≢_}
 use mathlib.Core.List.{List}
 use mathlib.Core.Option.{some}
-use mathlib.Core.Bool.{Bool, true, cond, false≢true, true≢false}
+use mathlib.Core.Bool.{Bool, true, cond, false≢true}
 use native.Mathlib.Omega.{arith}
 use native.Mathlib.Decide.{ℕ-discrete}
 use lib.ListN.{length, take, drop, getD, length-take, length-drop}
@@ -13,19 +13,19 @@ use lib.Dec.{eqb}
 use borrow.Author.Tests.{eq-eqb, ne-eqb}
 use Rattle.bridge_rules.specs.State.{Slot, done, carries}
 use Rattle.bridge_rules.specs.Opening.{Ask, read, write, opened, isWrite, askDevice, askTable, askOffset, askCount, askGiven}
-use Rattle.bridge_rules.specs.Turn.{outgoing, aged, sentSlot, sentFrame, writeFrame}
-use Rattle.bridge_rules.specs.Run.{Run, storage, state, buffer, answer, Lawful, Transfer, slotOf, Stands, accepted, chunks, lenOf}
+use Rattle.bridge_rules.specs.Turn.{outgoing, aged, sentFrame, writeFrame}
+use Rattle.bridge_rules.specs.Run.{Run, state, buffer, Lawful, Transfer, slotOf, Stands, chunks, lenOf}
 use Rattle.bridge_rules.specs.Replies.{commandFrame, Wrote, AllWritten}
-use Rattle.bridge_rules.proofs.ReadWrite.{kinds-clash, carries-of}
+use Rattle.bridge_rules.proofs.KindTests.{kinds-clash, carries-of}
 use Rattle.bridge_rules.proofs.FrameLaws.{len-inside}
-use Rattle.bridge_rules.proofs.Search.{none-some}
-use Rattle.bridge_rules.proofs.Sound.{Same, ReadyOk, aged-same, sent-write}
-use Rattle.bridge_rules.proofs.SlotEffects.{idle, elsewhere, getD-sets-in}
-use Rattle.bridge_rules.proofs.LedgerAgrees.{storage-sound, own-is}
-use Rattle.bridge_rules.proofs.Standing.{full-done, okAt, openedAt, view, Held, held, Move, stays, waits, served, gets, along-from, stands-back}
-use Rattle.bridge_rules.proofs.Aging.{aged-keeps}
-use Rattle.bridge_rules.proofs.AskedSoFar.{advanced-progress}
-use Rattle.bridge_rules.proofs.AfterSend.{moveAt}
+use Rattle.bridge_rules.proofs.Search.{none-some, contradiction}
+use Rattle.bridge_rules.proofs.BufferParts.{getD-sets-in}
+use Rattle.bridge_rules.proofs.SlotOk.{ReadyOk}
+use Rattle.bridge_rules.proofs.SlotChanges.{Same, aged-same, aged-progress, sent-write, advanced-progress}
+use Rattle.bridge_rules.proofs.SlotEffects.{unchanged, ages, served, taken}
+use Rattle.bridge_rules.proofs.SoundRuns.{storage-sound, UnservedAt, ServedAt}
+use Rattle.bridge_rules.proofs.LedgerAgrees.{own-is}
+use Rattle.bridge_rules.proofs.Standing.{full-done, openedAt, view, Changes, changes, Held, held, along-from, stands-back}
 
 -- what a write's slot says of the calls before
 pub record WrittenSoFar (r : Run) (x : Transfer r) (n : ℕ) : Type 0 where
@@ -65,123 +65,103 @@ module _ (r : Run) (w : Lawful r) (x : Transfer r) (wr : isWrite (x .ask) ≡ tr
   lg = given-count (x .ask) wr
 
   -- a write's slot sends the CMD of its current chunk
-  pub sends-write : (n : ℕ) → Held r x n → WrittenSoFar r x n → (c : ReadyOk (state r n .tickets) (aged (view r x n)))
-      → sentFrame (state r n .own) (slotOf r x) (aged (view r x n)) (buffer r n) ≡ commandFrame r x (c .mid .chunk) n
+  pub sends-write : (n : ℕ) → Held r x n → WrittenSoFar r x n → (c : ReadyOk (aged (view r x n)))
+      → sentFrame (state r n .own) (slotOf r x) (aged (view r x n)) (buffer r n) ≡ commandFrame r x (c .partway .chunk) n
   sends-write n h p c =
-      sends-command r w x (c .mid .chunk) n (aged (view r x n))
-      (carries-of (x .ask) (same .kind ∙ h .kind) wr) (c .mid .at) (same .device ∙ h .device)
+      sends-command r w x (c .partway .chunk) n (aged (view r x n))
+      (carries-of (x .ask) (same .kind ∙ h .kind) wr) (c .partway .at) (same .device ∙ h .device)
       (same .table ∙ h .table) (same .offset ∙ h .offset) (same .count ∙ h .count)
-      (take-same (buffer r n) (askGiven (x .ask)) (128 * slotOf r x + 8 * c .mid .chunk) (8 * c .mid .chunk) (lenOf r x (c .mid .chunk))
-      (omega (arith, storage-sound r w n .1, openedAt r w x .bound, few, len-inside (askCount (x .ask)) (8 * c .mid .chunk) inside))
-      (omega (arith, lg, len-inside (askCount (x .ask)) (8 * c .mid .chunk) inside)) bytes)
+      (take-same (buffer r n) (askGiven (x .ask)) (128 * slotOf r x + 8 * c .partway .chunk) (8 * c .partway .chunk) (lenOf r x (c .partway .chunk))
+      (omega (arith, storage-sound r w n .1, openedAt r w x .bound, few, len-inside (askCount (x .ask)) (8 * c .partway .chunk) inside))
+      (omega (arith, lg, len-inside (askCount (x .ask)) (8 * c .partway .chunk) inside)) bytes)
     where
       same : Same (view r x n) (aged (view r x n))
       same = aged-same (view r x n)
 
-      inside : 8 * c .mid .chunk < askCount (x .ask)
-      inside = omega (arith, c .mid .at, c .mid .below, same .count, h .count)
+      inside : 8 * c .partway .chunk < askCount (x .ask)
+      inside = omega (arith, c .partway .at, c .partway .below, same .count, h .count)
 
-      bytes : (k : ℕ) → k < lenOf r x (c .mid .chunk)
-          → getD (buffer r n) (128 * slotOf r x + 8 * c .mid .chunk + k) 0 ≡ getD (askGiven (x .ask)) (8 * c .mid .chunk + k) 0
+      bytes : (k : ℕ) → k < lenOf r x (c .partway .chunk)
+          → getD (buffer r n) (128 * slotOf r x + 8 * c .partway .chunk + k) 0 ≡ getD (askGiven (x .ask)) (8 * c .partway .chunk + k) 0
       bytes k q =
-          let z : 128 * slotOf r x + 8 * c .mid .chunk + k ≡ 128 * slotOf r x + (8 * c .mid .chunk + k) = omega arith in
-          ap (λ (u : ℕ). getD (buffer r n) u 0) z ∙ p .bytes (8 * c .mid .chunk + k)
-          (omega (arith, q, len-inside (askCount (x .ask)) (8 * c .mid .chunk) inside))
+          let z : 128 * slotOf r x + 8 * c .partway .chunk + k ≡ 128 * slotOf r x + (8 * c .partway .chunk + k) = omega arith in
+          ap (λ (u : ℕ). getD (buffer r n) u 0) z ∙ p .bytes (8 * c .partway .chunk + k)
+          (omega (arith, q, len-inside (askCount (x .ask)) (8 * c .partway .chunk) inside))
 
-  written-served : (n : ℕ) → x .at < n → Held r x n → WrittenSoFar r x n → accepted r n ≡ true → ReadyOk (state r n .tickets) (aged (view r x n))
-      → view r x (suc n) ≡ sentSlot (aged (view r x n)) → buffer r (suc n) ≡ buffer r n
-      → state r (suc n) .last ≡ slotOf r x → answer r n .sent
-      ≡ some (sentFrame (state r n .own) (slotOf r x) (aged (view r x n)) (buffer r n)) → WrittenSoFar r x (suc n)
-  written-served n l h p v c d e g i = record {
-    bytes = λ k q. ap (λ (b : List ℕ). getD b (128 * slotOf r x + k) 0) e ∙ p .bytes k q;
+  -- a turn that serves it moves it on by one chunk
+  served-progress : (n : ℕ) → Held r x n → ServedAt r n (slotOf r x)
+      → view r x (suc n) .progress ≡ min (view r x n .progress + 8) (askCount (x .ask))
+  served-progress n h v =
+      let same : Same (view r x n) (aged (view r x n)) = aged-same (view r x n) in
+      ap (λ (y : Slot). y .progress) (v .after ∙ sent-write (aged (view r x n)) (carries-of (x .ask) (same .kind ∙ h .kind) wr))
+      ∙ advanced-progress (aged (view r x n))
+      ∙ ap₂ (λ (a b : ℕ). min (a + 8) b) (aged-progress (view r x n)) (same .count ∙ h .count)
+
+  written-served : (n : ℕ) → x .at < n → Held r x n → ServedAt r n (slotOf r x) → WrittenSoFar r x n → WrittenSoFar r x (suc n)
+  written-served n l h v p = record {
+    bytes = λ k q. ap (λ (b : List ℕ). getD b (128 * slotOf r x + k) 0) (v .kept) ∙ p .bytes k q;
     j = j′;
-    wrote = wrote;
-    before = before;
-    order = order;
+    wrote = λ k q. wrote k q (ℕ-discrete k now);
+    before = λ k q. before k q (ℕ-discrete k now);
+    order = λ k q. order k q (ℕ-discrete (suc k) now);
   }
     where
-      same : Same (view r x n) (aged (view r x n))
-      same = aged-same (view r x n)
+      -- the chunk that it serves
+      now : ℕ
+      now = v .ready .partway .chunk
 
-      isW : carries (aged (view r x n) .kind) ≡ true
-      isW = carries-of (x .ask) (same .kind ∙ h .kind) wr
+      at : view r x n .progress ≡ 8 * now
+      at = sym (aged-progress (view r x n)) ∙ v .ready .partway .at
 
-      t : ℕ
-      t = c .mid .chunk
-
-      at : aged (view r x n) .progress ≡ 8 * c .mid .chunk
-      at = c .mid .at
-
-      keeps : aged (view r x n) .progress ≡ view r x n .progress
-      keeps = aged-keeps (state r n .tickets) (view r x n) (okAt r w x n) .0
-
-      grown : view r x (suc n) .progress ≡ min (aged (view r x n) .progress + 8) (aged (view r x n) .count)
-      grown = ap (λ (y : Slot). y .progress) (d ∙ sent-write (aged (view r x n)) isW) ∙ advanced-progress (aged (view r x n))
-
-      inside : 8 * c .mid .chunk < askCount (x .ask)
-      inside = omega (arith, at, c .mid .below, same .count, h .count)
+      grown : view r x (suc n) .progress ≡ min (view r x n .progress + 8) (askCount (x .ask))
+      grown = served-progress n h v
 
       j′ : ℕ → ℕ
-      j′ k = cond (eqb k (c .mid .chunk)) n (p .j k)
+      j′ k = cond (eqb k now) n (p .j k)
 
-      now : j′ (c .mid .chunk) ≡ n
-      now = ap (λ (b : Bool). cond b n (p .j (c .mid .chunk))) (eq-eqb (c .mid .chunk) (c .mid .chunk) refl)
+      now-at : j′ now ≡ n
+      now-at = ap (λ (b : Bool). cond b n (p .j now)) (eq-eqb now now refl)
 
-      old : (k : ℕ) → k ≢ c .mid .chunk → j′ k ≡ p .j k
-      old k q = ap (λ (b : Bool). cond b n (p .j k)) (ne-eqb k (c .mid .chunk) q)
+      old-at : (k : ℕ) → k ≢ now → j′ k ≡ p .j k
+      old-at k q = ap (λ (b : Bool). cond b n (p .j k)) (ne-eqb k now q)
 
-      this : Wrote r x (c .mid .chunk) n
-      this = record {
-        since = l;
-        turned = v;
-        served = g;
-        yields = i ∙ ap some (sends-write n h p c);
-      }
+      this : Wrote r x now n
+      this = record { since = l; turned = v .turned; served = v .last; yields = v .yields ∙ ap some (sends-write n h p (v .ready)) }
 
-      wrote : (k : ℕ) → 8 * k < view r x (suc n) .progress → Wrote r x k (j′ k)
-      wrote k q = go (ℕ-discrete k (c .mid .chunk))
-        where
-          go : Dec (k ≡ c .mid .chunk) → Wrote r x k (j′ k)
-          go (yes u) = subst (λ (a : ℕ). Wrote r x a (j′ a)) (sym u) (subst (λ (a : ℕ). Wrote r x (c .mid .chunk) a) (sym now) this)
-          go (no u) = subst (λ (a : ℕ). Wrote r x k a) (sym (old k u)) (p .wrote k (omega (arith, q, grown, at, keeps)))
+      wrote : (k : ℕ) → 8 * k < view r x (suc n) .progress → Dec (k ≡ now) → Wrote r x k (j′ k)
+      wrote k q (yes u) = subst (λ (a : ℕ). Wrote r x a (j′ a)) (sym u) (subst (λ (a : ℕ). Wrote r x now a) (sym now-at) this)
+      wrote k q (no u) = subst (λ (a : ℕ). Wrote r x k a) (sym (old-at k u)) (p .wrote k (omega (arith, q, grown, at)))
 
-      before : (k : ℕ) → 8 * k < view r x (suc n) .progress → j′ k < suc n
-      before k q = go (ℕ-discrete k (c .mid .chunk))
-        where
-          go : Dec (k ≡ c .mid .chunk) → j′ k < suc n
-          go (yes u) = omega (arith, ap j′ u ∙ now)
-          go (no u) = omega (arith, old k u, p .before k (omega (arith, q, grown, at, keeps)))
+      before : (k : ℕ) → 8 * k < view r x (suc n) .progress → Dec (k ≡ now) → j′ k < suc n
+      before k q (yes u) = omega (arith, ap j′ u ∙ now-at)
+      before k q (no u) = omega (arith, old-at k u, p .before k (omega (arith, q, grown, at)))
 
-      order : (k : ℕ) → 8 * suc k < view r x (suc n) .progress → j′ k < j′ (suc k)
-      order k q = go (ℕ-discrete (suc k) (c .mid .chunk))
-        where
-          o : j′ k ≡ p .j k
-          o = old k (λ z. omega (arith, q, grown, at, z))
+      order : (k : ℕ) → 8 * suc k < view r x (suc n) .progress → Dec (suc k ≡ now) → j′ k < j′ (suc k)
+      order k q (yes u) =
+          omega (arith, ap j′ u ∙ now-at, old-at k (λ z. omega (arith, q, grown, at, z)), p .before k (omega (arith, at, u)))
+      order k q (no u) =
+          omega (arith, old-at (suc k) u, old-at k (λ z. omega (arith, q, grown, at, z)), p .order k (omega (arith, q, grown, at)))
 
-          go : Dec (suc k ≡ c .mid .chunk) → j′ k < j′ (suc k)
-          go (yes u) = omega (arith, ap j′ u ∙ now, o, p .before k (omega (arith, at, keeps, u)))
-          go (no u) = omega (arith, old (suc k) u, o, p .order k (omega (arith, q, grown, at, keeps)))
-
-  written-step : (n : ℕ) → Stands r x (suc n) → x .at < n → Held r x n → Move r x n → WrittenSoFar r x n → WrittenSoFar r x (suc n)
-  written-step n s l h (stays a v c e f g) p = record {
-    bytes = λ i q. v i (omega (arith, q, few)) ∙ p .bytes i q;
+  written-step : (n : ℕ) → Stands r x (suc n) → x .at < n → Held r x n → Changes r x n → WrittenSoFar r x n → WrittenSoFar r x (suc n)
+  written-step n s l h (unchanged v) p = record {
+    bytes = λ i q. v .part i (omega (arith, q, few)) ∙ p .bytes i q;
     j = p .j;
-    wrote = λ k q. p .wrote k (rw a at q);
-    before = λ k q. omega (arith, p .before k (rw a at q));
-    order = λ k q. p .order k (rw a at q);
+    wrote = λ k q. p .wrote k (rw (v .after) at q);
+    before = λ k q. omega (arith, p .before k (rw (v .after) at q));
+    order = λ k q. p .order k (rw (v .after) at q);
   }
-  written-step n s l h (waits a v c d u) p =
-      let z : view r x (suc n) .progress ≡ view r x n .progress = ap (λ (y : Slot). y .progress) c
-      ∙ aged-keeps (state r n .tickets) (view r x n) (okAt r w x n) .0 in
+  written-step n s l h (ages v) p =
+      let z : view r x (suc n) .progress ≡ view r x n .progress
+      = ap (λ (y : Slot). y .progress) (v .after) ∙ aged-progress (view r x n) in
       record {
-        bytes = λ i q. ap (λ (b : List ℕ). getD b (128 * slotOf r x + i) 0) d ∙ p .bytes i q;
+        bytes = λ i q. ap (λ (b : List ℕ). getD b (128 * slotOf r x + i) 0) (v .kept) ∙ p .bytes i q;
         j = p .j;
         wrote = λ k q. p .wrote k (rw z at q);
         before = λ k q. omega (arith, p .before k (rw z at q));
         order = λ k q. p .order k (rw z at q);
       }
-  written-step n s l h (served a v c d e g i) p = written-served n l h p v c d e g i
-  written-step n s l h (gets f a c d e g i j m o) p = kinds-clash (view r x n .kind) (carries-of (x .ask) (h .kind) wr) (e .isRead)
+  written-step n s l h (served v) p = written-served n l h v p
+  written-step n s l h (taken v) p = kinds-clash (view r x n .kind) (carries-of (x .ask) (h .kind) wr) (v .waits .asking)
 
   base : WrittenSoFar r x (suc (x .at))
   unfolding opened
@@ -203,35 +183,28 @@ module _ (r : Run) (w : Lawful r) (x : Transfer r) (wr : isWrite (x .ask) ≡ tr
   -- a turn that served the slot moved it on
   served-grows : (c j n : ℕ) → Wrote r x c j → j < n → Stands r x n
       → view r x (suc j) .progress ≡ min (view r x j .progress + 8) (askCount (x .ask))
-  unfolding storage
-  served-grows c j n q l s = go (moveAt r w x j (stands-back r w x (suc j) n s (omega (arith, q .since)) l) (q .since))
+  served-grows c j n q l s = go (changes r w x j (stands-back r w x (suc j) n s (omega (arith, q .since)) l) (q .since))
     where
       h : Held r x j
       h = held r w x j (stands-back r w x j n s (q .since) (omega arith))
 
-      go : Move r x j → view r x (suc j) .progress ≡ min (view r x j .progress + 8) (askCount (x .ask))
-      go (stays a v k e f g) = absurd (true≢false (sym (q .turned) ∙ e))
-      go (waits a v k d (idle f g i)) = none-some (sym f ∙ q .yields)
-      go (waits a v k d (elsewhere t f g i u m o)) = absurd (g (sym m ∙ q .served))
-      go (served a v k d e g i) =
-          let same : Same (view r x j) (aged (view r x j)) = aged-same (view r x j) in
-          ap (λ (y : Slot). y .progress) (d ∙ sent-write (aged (view r x j)) (carries-of (x .ask) (same .kind ∙ h .kind) wr))
-          ∙ advanced-progress (aged (view r x j))
-          ∙ ap₂ (λ (a b : ℕ). min (a + 8) b) (aged-keeps (state r j .tickets) (view r x j) (okAt r w x j) .0) (same .count ∙ h .count)
-      go (gets f a k d e g i t m o) = absurd (true≢false (sym (q .turned) ∙ m))
+      unserved : UnservedAt r j (slotOf r x) → ⊥
+      unserved (inl u) = none-some (sym (u .silent) ∙ q .yields)
+      unserved (inr u) = u .apart (sym (u .last) ∙ q .served)
+
+      go : Changes r x j → view r x (suc j) .progress ≡ min (view r x j .progress + 8) (askCount (x .ask))
+      go (unchanged v) = contradiction (q .turned) (v .noTurn)
+      go (ages v) = absurd (unserved (v .unserved))
+      go (served v) = served-progress j h v
+      go (taken v) = contradiction (q .turned) (v .noTurn)
 
   -- while it carries, its progress grows
-  carry-grows : (n : ℕ) → Held r x n → Move r x n → view r x n .progress ≤ view r x (suc n) .progress
-  carry-grows n h (stays a v c e f g) = omega (arith, ap (λ (y : Slot). y .progress) a)
-  carry-grows n h (waits a v c d u) =
-      omega (arith, ap (λ (y : Slot). y .progress) c, aged-keeps (state r n .tickets) (view r x n) (okAt r w x n) .0)
-  carry-grows n h (served a v c d e g i) =
-      let same : Same (view r x n) (aged (view r x n)) = aged-same (view r x n) in
-      let z : view r x (suc n) .progress ≡ min (aged (view r x n) .progress + 8) (aged (view r x n) .count)
-      = ap (λ (y : Slot). y .progress) (d ∙ sent-write (aged (view r x n)) (carries-of (x .ask) (same .kind ∙ h .kind) wr))
-      ∙ advanced-progress (aged (view r x n)) in
-      omega (arith, z, aged-keeps (state r n .tickets) (view r x n) (okAt r w x n) .0, c .mid .below)
-  carry-grows n h (gets f a c d e g i j m o) = kinds-clash (view r x n .kind) (carries-of (x .ask) (h .kind) wr) (e .isRead)
+  carry-grows : (n : ℕ) → Held r x n → Changes r x n → view r x n .progress ≤ view r x (suc n) .progress
+  carry-grows n h (unchanged v) = omega (arith, ap (λ (y : Slot). y .progress) (v .after))
+  carry-grows n h (ages v) = omega (arith, ap (λ (y : Slot). y .progress) (v .after), aged-progress (view r x n))
+  carry-grows n h (served v) =
+      omega (arith, served-progress n h v, aged-progress (view r x n), v .ready .partway .below, aged-same (view r x n) .count, h .count)
+  carry-grows n h (taken v) = kinds-clash (view r x n .kind) (carries-of (x .ask) (h .kind) wr) (v .waits .asking)
 
   progress-le : (m n : ℕ) → x .at < m → m ≤ n → Stands r x n → view r x m .progress ≤ view r x n .progress
   progress-le m n at = along-from r w x m at (λ k. view r x m .progress ≤ view r x k .progress) (omega arith)

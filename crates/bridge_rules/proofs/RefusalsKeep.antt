@@ -1,71 +1,23 @@
--- Every call keeps a sound state sound, and a refusal changes nothing.
+-- An unsound state gets 11 from every call but reset, and a refusal changes nothing.
 use Prim.Native.Nat.{ℕ}
 use mathlib.Core.Path.{_≡_, refl, sym, _∙_, ap}
 use mathlib.Core.Logic.{_≢_}
 use mathlib.Core.List.{List}
 use mathlib.Core.Option.{Option, none, some}
 use mathlib.Core.Bool.{Bool, true, false, cond}
-use native.Mathlib.Decide.{ℕ-discrete}
-use lib.ListN.{length, replicate}
+use lib.ListN.{length}
 use lib.Dec.{eqb}
-use borrow.Author.Tests.{ne-eqb, le-ltb}
+use borrow.Author.Tests.{ne-eqb}
 use Rattle.wire.specs.Order.{_if_else_, _orElse_}
-use Rattle.bridge_rules.specs.State.{Frame, Bridge, orZero, heldSlot, nextReady, fresh, sound}
+use Rattle.bridge_rules.specs.State.{Frame, Bridge, orZero, heldSlot, nextReady, sound}
 use Rattle.bridge_rules.specs.Answers.{Result, unless, changedBy, plain, lentNumber}
 use Rattle.bridge_rules.specs.Opening.{Ask, openNumber, openOf}
 use Rattle.bridge_rules.specs.Turn.{agedBridge, sendFor, turnOf}
 use Rattle.bridge_rules.specs.Incoming.{replyNumber, frameOf}
 use Rattle.bridge_rules.specs.Ending.{closeNumber, closeOf, resetNumber, resetOf, bytesOf, bytesNumber, noSpan, slotSpan, spanOf, statusOf}
 use Rattle.bridge_rules.specs.Call.{Call, itsOwn, other, opening, turn, frame, status, bytes, close, reset, step, keeping, lentList}
-use Rattle.bridge_rules.specs.Run.{state, buffer, answer}
-use Rattle.bridge_rules.specs.Calls.{KeepsSound, ResetFresh, UnsoundRefused, RefusalsKeep}
-use Rattle.bridge_rules.proofs.Sound.{Sound, sound-true, true-sound}
+use Rattle.bridge_rules.specs.Calls.{UnsoundRefused, RefusalsKeep}
 use Rattle.bridge_rules.proofs.Status.{span-number}
-use Rattle.bridge_rules.proofs.CallCases.{kind, kind-sound, frame-own, frame-other, fresh-sound}
-
--- a lent list of the right length is the bridge's own to a call; one of a wrong length is refused, whatever the bridge's own is
-module _ (s : Bridge) (h : Sound s) where
-  any : List ℕ
-  any = replicate 512 0
-
-  any-long : length any ≡ 512
-  unfolding any
-  any-long = refl
-
-  opens-sound : (l : List ℕ) (a : Ask) → Dec (length l ≡ 512) → Sound (openOf s l a .state)
-  unfolding step
-  opens-sound l a (yes p) = kind-sound s l (opening itsOwn a) h p (kind s l h p (opening itsOwn a) tt) .0
-  opens-sound l a (no p) = kind-sound s any (opening (other l) a) h any-long (kind s any h any-long (opening (other l) a) p) .0
-
-  turns-sound : (l : List ℕ) → Dec (length l ≡ 512) → Sound (turnOf s l .state)
-  unfolding step
-  turns-sound l (yes p) = kind-sound s l (turn itsOwn) h p (kind s l h p (turn itsOwn) tt) .0
-  turns-sound l (no p) = kind-sound s any (turn (other l)) h any-long (kind s any h any-long (turn (other l)) p) .0
-
-  frames-sound : (l : List ℕ) (f : Frame) → Dec (length l ≡ 512) → Sound (frameOf s l f .state)
-  unfolding step
-  frames-sound l f (yes p) = kind-sound s l (frame itsOwn f) h p (frame-own s l h p f) .0
-  frames-sound l f (no p) = kind-sound s any (frame (other l) f) h any-long (frame-other s any h any-long f l p) .0
-
-  step-sound : (b : List ℕ) (c : Call) → Sound (step s b c .state)
-  unfolding step
-  step-sound b (opening itsOwn a) = opens-sound b a (ℕ-discrete (length b) 512)
-  step-sound b (opening (other l) a) = opens-sound l a (ℕ-discrete (length l) 512)
-  step-sound b (turn itsOwn) = turns-sound b (ℕ-discrete (length b) 512)
-  step-sound b (turn (other l)) = turns-sound l (ℕ-discrete (length l) 512)
-  step-sound b (frame itsOwn f) = frames-sound b f (ℕ-discrete (length b) 512)
-  step-sound b (frame (other l) f) = frames-sound l f (ℕ-discrete (length l) 512)
-  step-sound b (status t) = h
-  step-sound b (bytes l t) = h
-  step-sound b (close t) = kind-sound s any (close t) h any-long (kind s any h any-long (close t) tt) .0
-  step-sound b (reset o) = kind-sound s any (reset o) h any-long (kind s any h any-long (reset o) tt) .0
-
-pub keeps-sound : KeepsSound
-keeps-sound s b c e = sound-true (step s b c .state) (step-sound s (true-sound s e) b c)
-
-pub reset-fresh : ResetFresh
-unfolding step resetOf resetNumber _if_else_
-reset-fresh s b o h = (rw (le-ltb 15 o h), sound-true (fresh o) (fresh-sound o h))
 
 -- ── unsound states ─────────────────────────────────────────────────────────────────────────────────────────────────
 

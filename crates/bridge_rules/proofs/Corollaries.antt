@@ -8,18 +8,13 @@ use native.Mathlib.Decide.{decLt}
 use Rattle.bridge_rules.specs.Answers.{plain}
 use Rattle.bridge_rules.specs.Opening.{isWrite}
 use Rattle.bridge_rules.specs.Run.{Run, Lawful, Transfer, Stands, Done, shownAt, chunks}
-use Rattle.bridge_rules.specs.Replies.{Replied, Failed, ThreeFailed, AllWritten}
+use Rattle.bridge_rules.specs.Replies.{Replied, ThreeFailed, AllWritten}
 use Rattle.bridge_rules.specs.Demand3.{Claims}
 use Rattle.bridge_rules.specs.Corollaries.{Corollaries}
 use Rattle.bridge_rules.proofs.Search.{cases}
-use Rattle.bridge_rules.proofs.LedgerAgrees.{turns-mono}
-use Rattle.bridge_rules.proofs.AskedSoFar.{read-so-far}
+use Rattle.bridge_rules.proofs.AskedSoFar.{failed-mono, read-so-far}
 use Rattle.bridge_rules.proofs.TableBytes.{table-since, taken-answers}
 use Rattle.bridge_rules.proofs.Demand3.{claims}
-
-failed-stays : (r : Run) (x : Transfer r) (c j n n′ : ℕ) → n ≤ n′ → Failed r x c j n → Failed r x c j n′
-failed-stays r x c j n n′ l f =
-    record { sent = f .sent; late = omega (arith, f .late, turns-mono r j n n′ l); unmatched = f .unmatched }
 
 three-stays : (r : Run) (x : Transfer r) (n n′ : ℕ) → n ≤ n′ → ThreeFailed r x n → ThreeFailed r x n′
 three-stays r x n n′ l f = record {
@@ -29,9 +24,9 @@ three-stays r x n n′ l f = record {
   j₃ = f .j₃;
   order₁ = f .order₁;
   order₂ = f .order₂;
-  first = failed-stays r x (f .c) (f .j₁) n n′ l (f .first);
-  second = failed-stays r x (f .c) (f .j₂) n n′ l (f .second);
-  third = failed-stays r x (f .c) (f .j₃) n n′ l (f .third);
+  first = failed-mono r x (f .c) (f .j₁) n n′ l (f .first);
+  second = failed-mono r x (f .c) (f .j₂) n n′ l (f .second);
+  third = failed-mono r x (f .c) (f .j₃) n n′ l (f .third);
 }
 
 written-stays : (r : Run) (x : Transfer r) (n n′ : ℕ) → n ≤ n′ → AllWritten r x n → AllWritten r x n′
