@@ -21,7 +21,8 @@ use Rattle.bridge_rules.specs.declared.Span.{Span}
 use Rattle.bridge_rules.specs.declared.Changed.{Changed}
 use Rattle.bridge_rules.specs.declared.Opened.{Opened}
 use Rattle.bridge.proofs.CodeSlots.{free-from, holder-from, holder-small, orZero-four}
-use Rattle.bridge_rules.proofs.Sound.{SlotOk, okFree, okReady, okWaiting, okDone, okGaveUp, true-sound}
+use Rattle.bridge_rules.proofs.SlotOk.{count-few}
+use Rattle.bridge_rules.proofs.SoundTest.{true-sound}
 use Rattle.bridge_rules.proofs.NumberLaws.{open-facts, lent-ok}
 
 -- ── Opening ────────────────────────────────────────────────────────────────────────────────────────────────────────
@@ -111,21 +112,13 @@ module _ (s : Bridge) (n t : ℕ) where
     unfolding spanOf
     span-is = rw (← bytes-at .0, eq-eqb _ 0 e)
 
--- a sound slot has at most 128 bytes
-count-few : (t : ℕ) (x : Slot) → SlotOk t x → x .count ≤ 128
-count-few t x (okFree e) = omega (arith, ap (λ (y : Slot). y .count) e)
-count-few t x (okReady e c m s w l) = c .few
-count-few t x (okWaiting e c m w s s′ l l′) = c .few
-count-few t x (okDone e c q s l) = c .few
-count-few t x (okGaveUp e c m w s l) = c .few
-
 -- a span lies within the buffer
 slotSpan-fits : (s : Bridge) (k : ℕ) → sound s ≡ true → k < 4 → slotSpan s k .start + slotSpan s k .count ≤ 512
 unfolding slotSpan
 slotSpan-fits s k h l = go (asks (slot s k .kind))
   where
     few : slot s k .count ≤ 128
-    few = count-few (s .tickets) (slot s k) (true-sound s h .each k l)
+    few = count-few (slot s k) (true-sound s h .each k l)
 
     go : (b : Bool) → cond b (record { number = 0; start = 128 * k; count = slot s k .count }) (noSpan 0) .start
         + cond b (record { number = 0; start = 128 * k; count = slot s k .count }) (noSpan 0) .count ≤ 512

@@ -35,8 +35,10 @@ use Rattle.bridge_rules.specs.Turn.{agedBridge, turnOf, sendFor, chunkLen, outg
 use Rattle.bridge_rules.specs.Incoming.{awaits, awaiting, contentNumber, replyNumber, frameOf}
 use Rattle.bridge_rules.specs.declared.Stepped.{Stepped}
 use Rattle.bridge_rules.proofs.Search.{search-some, lowest-some, lowest-none, option-cases}
-use Rattle.bridge_rules.proofs.Sound.{ReadyOk, ready-ok, true-sound, sound-true}
-use Rattle.bridge_rules.proofs.CallCases.{aged-sound, AwaitsOk, awaits-ok, wait-ok}
+use Rattle.bridge_rules.proofs.SlotOk.{ReadyOk, ready-ok, wait-ok}
+use Rattle.bridge_rules.proofs.SoundTest.{true-sound, sound-true}
+use Rattle.bridge_rules.proofs.SoundStates.{aged-sound}
+use Rattle.bridge_rules.proofs.AwaitsTest.{AwaitsOk, awaits-ok}
 use Rattle.bridge_rules.proofs.FrameLaws.{len-inside}
 use Rattle.bridge_rules.proofs.NumberLaws.{lent-ok}
 use Rattle.bridge.proofs.CodeSlots.{awaiting-from}
@@ -81,8 +83,8 @@ unfolding sentSlot
 sent-goes-on x e = rw e
 
 -- what is known of a ready slot of a sound bridge
-pub readies : (s : Bridge) (k : ℕ) → sound s ≡ true → k < 4 → isReady (slot s k .phase) ≡ true → ReadyOk (s .tickets) (slot s k)
-readies s k h l r = ready-ok (s .tickets) (slot s k) (true-sound s h .each k l) r
+pub readies : (s : Bridge) (k : ℕ) → sound s ≡ true → k < 4 → isReady (slot s k .phase) ≡ true → ReadyOk (slot s k)
+readies s k h l r = ready-ok (slot s k) (true-sound s h .each k l) r
 
 -- ── A turn ─────────────────────────────────────────────────────────────────────────────────────────────────────────
 
@@ -176,9 +178,9 @@ module _ (s : Bridge) (f : Frame) (h : sound s ≡ true) (p : Parts) (e : readHe
   unfolding partsOf
   whose j l z =
       let a = awaits-ok s f j z in
-      let w = wait-ok (s .tickets) (slot s j) (true-sound s h .each j l) (a .waits) in
+      let w = wait-ok (slot s j) (true-sound s h .each j l) (a .waits) in
       let o : p .offset ≡ idOffset (f .id) = ap (λ (x : Parts). x .offset) (head-is (s .own) f p e .1) in
-      omega (arith, a .place, w .mid .below, w .common .few)
+      omega (arith, a .place, w .partway .below, w .held .args .few)
 
   tests : takes (slot s k) k p (f .len) ≡ awaits s f k
   tests = takes-of s f k p (head-is (s .own) f p e .1)
@@ -233,8 +235,8 @@ module _ (s : Bridge) (b : List ℕ) (f : Frame) where
 
       reply-fits : 128 * k + slot s k .progress + f .len ≤ length b
       reply-fits =
-          let w = wait-ok (s .tickets) (slot s k) (true-sound s (reply-lent .0) .each k (reply-at .1)) (reply-awaited .waits) in
-          omega (arith, reply-at .1, reply-lent .1, reply-awaited .len, w .common .few, w .mid .below, len-inside (slot s k .count) (slot s k .progress) (w .mid .below))
+          let w = wait-ok (slot s k) (true-sound s (reply-lent .0) .each k (reply-at .1)) (reply-awaited .waits) in
+          omega (arith, reply-at .1, reply-lent .1, reply-awaited .len, w .held .args .few, w .partway .below, len-inside (slot s k .count) (slot s k .progress) (w .partway .below))
 
       reply-puts : putOf b (128 * k + slot s k .progress) (content f) ≡ sets b (128 * k + slot s k .progress) (content f)
       unfolding content

@@ -4,7 +4,7 @@ use Rattle.bridge.proofs.incoming.awaiting.Tie as tie
 use mathlib.Core.Path.{refl, sym, _∙_}
 use native.Mathlib.Omega.{arith}
 use Rattle.bridge_rules.specs.State.{slot}
-use Rattle.bridge_rules.proofs.Sound.{true-sound}
+use Rattle.bridge_rules.proofs.SoundTest.{true-sound}
 use Rattle.bridge.proofs.CodeFrames.{content-parts, awaited-there, awaited-nowhere}
 
 read-head-requires : tie.Need-read-head-requires

@@ -8,7 +8,7 @@ use native.Mathlib.Omega.{arith}
 use Rattle.bridge.proofs.CodeSlots.{awaiting-none, awaiting-some}
 use mathlib.Core.Path.{_≡_, sym, _∙_}
 use mathlib.Core.Bool.{true}
-use Rattle.bridge_rules.proofs.Sound.{true-sound}
+use Rattle.bridge_rules.proofs.SoundTest.{true-sound}
 use Rattle.bridge_rules.proofs.NumberLaws.{lent-ok}
 
 lent-number-requires : tie.Need-lent-number-requires

@@ -4,7 +4,7 @@ use Rattle.bridge.proofs.turning.send.Tie as tie
 use Rattle.bridge_rules.specs.State.{slot}
 use Rattle.bridge_rules.specs.Answers.{steppedOf}
 use Rattle.bridge_rules.specs.Turn.{sendFor}
-use Rattle.bridge_rules.proofs.Sound.{true-sound}
+use Rattle.bridge_rules.proofs.SoundTest.{true-sound}
 use Rattle.bridge.proofs.CodeFrames.{readies}
 
 mul-x : tie.Need-mul-x
@@ -16,7 +16,7 @@ array-copy-out-x c = search needs
 frame-for-requires : tie.Need-frame-for-requires
 unfolding slot
 frame-for-requires c κs = let w = readies (c .before .before .before .args .b) (c .before .before .before .args .k) (c .before .before .before .pre .0) (c .before .before .before .pre .1) (c .before .before .before .pre .2) in
-    (true-sound (c .before .before .before .args .b) (c .before .before .before .pre .0) .own, c .before .before .before .pre .1, w .common .device, w .common .table, w .mid .below, w .common .few, w .common .inside, c .before .before .before .pre .3)
+    (true-sound (c .before .before .before .args .b) (c .before .before .before .pre .0) .own, c .before .before .before .pre .1, w .held .args .device, w .held .args .table, w .partway .below, w .held .args .few, w .held .args .inside, c .before .before .before .pre .3)
 
 sent-slot-requires : tie.Need-sent-slot-requires
 unfolding slot
