@@ -22,13 +22,13 @@ use Rattle.bridge_rules.proofs.FrameLaws.{len-eight, len-inside, len-sm
 use Rattle.bridge_rules.proofs.Search.{contradiction}
 use Rattle.bridge_rules.proofs.BufferParts.{SamePart, getD-sets-below, getD-sets-in}
 use Rattle.bridge_rules.proofs.AwaitsTest.{AwaitsOk, awaits-true}
-use Rattle.bridge_rules.proofs.SlotOk.{WaitOk, other-phase}
+use Rattle.bridge_rules.proofs.SlotOk.{WaitOk, other-phase, left-eq, phase-eq, progress-eq, sends-eq}
 use Rattle.bridge_rules.proofs.SlotChanges.{Same, aged-same, aged-progress, aged-sends, aged-waiting, Aging, unaged, waitsOn, readyAgain, givesUp}
 use Rattle.bridge_rules.proofs.SlotChanges.{Requested, sent-read, advanced-sends, advanced-progress, advanced-not}
 use Rattle.bridge_rules.proofs.SlotEffects.{unchanged, ages, served, taken, change-same}
 use Rattle.bridge_rules.proofs.TurnCounts.{turns-same, turns-more, turns-none, turns-mono}
 use Rattle.bridge_rules.proofs.SoundRuns.{storage-sound}
-use Rattle.bridge_rules.proofs.Standing.{okAt, agingAt, openedAt, view, Changes, Held, held, opened-stands, Begins, begins-open, along-from, stands-before}
+use Rattle.bridge_rules.proofs.Standing.{okAt, agingAt, openedAt, slotAt, Changes, Held, held, opened-stands, Begins, begins-open, along-from, stands-before}
 use Rattle.bridge_rules.proofs.Matching.{matches-ok, matches-true, turn-unmatched, matches-awaited, awaited-matches}
 use Rattle.bridge_rules.proofs.SentRequests.{sends-request}
 
@@ -54,12 +54,12 @@ pub record Got (r : Run) (x : Transfer r) (c n : ℕ) : Type 0 where
   pub kept : (i : ℕ) → i < lenOf r x c → getD (buffer r n) (place r x c + i) 0 ≡ getD (brought (r .calls m)) i 0
 
 pub record AskedSoFar (r : Run) (x : Transfer r) (n : ℕ) : Type 0 where
-  pub asking : asks (view r x n .kind) ≡ true
-  pub got : (c : ℕ) → 8 * c < view r x n .progress → Got r x c n
-  pub ifReady : view r x n .phase ≡ ready → (c : ℕ) → view r x n .progress ≡ 8 * c → Fails r x c (view r x n .sends) n n
-  pub ifWaiting : view r x n .phase ≡ waiting → (c s : ℕ) → view r x n .progress ≡ 8 * c → view r x n .sends ≡ suc s
-      → Pending r x c s (view r x n .left) n
-  pub ifGaveUp : view r x n .phase ≡ gaveUp → (c : ℕ) → view r x n .progress ≡ 8 * c → Fails r x c 3 n n
+  pub asking : asks (slotAt r x n .kind) ≡ true
+  pub got : (c : ℕ) → 8 * c < slotAt r x n .progress → Got r x c n
+  pub ifReady : slotAt r x n .phase ≡ ready → (c : ℕ) → slotAt r x n .progress ≡ 8 * c → Fails r x c (slotAt r x n .sends) n n
+  pub ifWaiting : slotAt r x n .phase ≡ waiting → (c s : ℕ) → slotAt r x n .progress ≡ 8 * c → slotAt r x n .sends ≡ suc s
+      → Pending r x c s (slotAt r x n .left) n
+  pub ifGaveUp : slotAt r x n .phase ≡ gaveUp → (c : ℕ) → slotAt r x n .progress ≡ 8 * c → Fails r x c 3 n n
 
 pub failed-mono : (r : Run) (x : Transfer r) (c j n n′ : ℕ) → n ≤ n′ → Failed r x c j n → Failed r x c j n′
 failed-mono r x c j n n′ h f = record { sent = f .sent; late = omega (arith, f .late, turns-mono r j n n′ h); unmatched = f .unmatched }
@@ -128,26 +128,26 @@ module _ (r : Run) (w : Lawful r) (x : Transfer r) where
   same-got c n e = part-got c n (λ i l. ap (λ (b : List ℕ). getD b (128 * slotOf r x + i) 0) e)
 
   -- the failed sends of a slot that is ready after aging, before this turn's send
-  ready-fails : (n c : ℕ) → AskedSoFar r x n → r .calls n ≡ turn itsOwn → accepted r n ≡ true → aged (view r x n) .phase ≡ ready
-      → view r x n .progress ≡ 8 * c → Fails r x c (view r x n .sends) (suc n) n
+  ready-fails : (n c : ℕ) → AskedSoFar r x n → r .calls n ≡ turn itsOwn → accepted r n ≡ true → aged (slotAt r x n) .phase ≡ ready
+      → slotAt r x n .progress ≡ 8 * c → Fails r x c (slotAt r x n .sends) (suc n) n
   ready-fails n c h e a p q = go (agingAt r w x n)
     where
-      go : Aging (view r x n) → Fails r x c (view r x n .sends) (suc n) n
-      go (unaged u v) = fails-mono r x c (view r x n .sends) n (suc n) n n (omega arith) (omega arith)
-          (h .ifReady (ap (λ (y : Slot). y .phase) (sym u) ∙ p) c q)
+      go : Aging (slotAt r x n) → Fails r x c (slotAt r x n .sends) (suc n) n
+      go (unaged u v) = fails-mono r x c (slotAt r x n .sends) n (suc n) n n (omega arith) (omega arith)
+          (h .ifReady (phase-eq (sym u) ∙ p) c q)
       go (waitsOn u) = other-phase (u .phase) p refl
       go (readyAgain u) =
-          let sc : view r x n .sends ≡ suc (view r x n .sends - 1) = omega (arith, u .was .once) in
-          let pd : Pending r x c (view r x n .sends - 1) (view r x n .left) n
-          = h .ifWaiting (u .was .phase) c (view r x n .sends - 1) q sc in
-          let fl : Fails r x c (suc (view r x n .sends - 1)) (suc n) n = expire r x c (view r x n .sends - 1) n
-          (subst (λ (l : ℕ). Pending r x c (view r x n .sends - 1) l n) (u .over) pd) e a in
+          let sc : slotAt r x n .sends ≡ suc (slotAt r x n .sends - 1) = omega (arith, u .was .once) in
+          let pd : Pending r x c (slotAt r x n .sends - 1) (slotAt r x n .left) n
+          = h .ifWaiting (u .was .phase) c (slotAt r x n .sends - 1) q sc in
+          let fl : Fails r x c (suc (slotAt r x n .sends - 1)) (suc n) n = expire r x c (slotAt r x n .sends - 1) n
+          (subst (λ (l : ℕ). Pending r x c (slotAt r x n .sends - 1) l n) (u .over) pd) e a in
           subst (λ (s : ℕ). Fails r x c s (suc n) n) (sym sc) fl
       go (givesUp u) = other-phase (u .phase) p refl
 
   -- a frame that the slot awaits is the reply to its chunk
   pub awaited-replied : (n : ℕ) (f : Frame) → Stands r x n → Held r x n → AskedSoFar r x n → r .calls n ≡ frame itsOwn f
-      → contentNumber (state r n .own) f ≡ 0 → AwaitsOk (state r n) f (slotOf r x) → (wk : WaitOk (view r x n))
+      → contentNumber (state r n .own) f ≡ 0 → AwaitsOk (state r n) f (slotOf r x) → (wk : WaitOk (slotAt r x n))
       → Replied r x (wk .partway .chunk) n
   awaited-replied n f st h p e cr aw wk = record {
     awaits = record {
@@ -161,10 +161,10 @@ module _ (r : Run) (w : Lawful r) (x : Transfer r) where
     matches = matches-true r w x (wk .partway .chunk) n f (awaited-matches r x (wk .partway .chunk) n h (wk .partway .at) f e cr aw);
   }
     where
-      pd : Pending r x (wk .partway .chunk) (view r x n .sends - 1) (view r x n .left) n
-      pd = p .ifWaiting (wk .phase) (wk .partway .chunk) (view r x n .sends - 1) (wk .partway .at) (omega (arith, wk .once))
+      pd : Pending r x (wk .partway .chunk) (slotAt r x n .sends - 1) (slotAt r x n .left) n
+      pd = p .ifWaiting (wk .phase) (wk .partway .chunk) (slotAt r x n .sends - 1) (wk .partway .at) (omega (arith, wk .once))
 
-  asked-begin : (b : ℕ) → Begins r x b → asks (view r x b .kind) ≡ true → AskedSoFar r x b
+  asked-begin : (b : ℕ) → Begins r x b → asks (slotAt r x b .kind) ≡ true → AskedSoFar r x b
   asked-begin b g a = record {
     asking = a;
     got = λ c l. absurd (omega (arith, l, g .progress));
@@ -177,16 +177,16 @@ module _ (r : Run) (w : Lawful r) (x : Transfer r) where
   asked-step n st h (unchanged v) p = record {
     asking = rw (v .after) (p .asking);
     got = λ c l. part-got c n (v .part) (p .got c (rw (v .after) at l));
-    ifReady = λ q c u. rw (v .after) (fails-mono r x c (view r x n .sends) n (suc n) n (suc n) (omega arith) (omega arith)
+    ifReady = λ q c u. rw (v .after) (fails-mono r x c (slotAt r x n .sends) n (suc n) n (suc n) (omega arith) (omega arith)
         (p .ifReady (rw (v .after) at q) c (rw (v .after) at u)));
-    ifWaiting = λ q c s u z. rw (v .after) (wait-on r x c s (view r x n .left) (view r x n .left) n
+    ifWaiting = λ q c s u z. rw (v .after) (wait-on r x c s (slotAt r x n .left) (slotAt r x n .left) n
         (p .ifWaiting (rw (v .after) at q) c s (rw (v .after) at u) (rw (v .after) at z))
-        (λ j l. ap (λ (k : ℕ). k + view r x n .left) (turns-same r j n (v .noTurn))) (unmatched c (rw (v .after) at q) (rw (v .after) at u)));
+        (λ j l. ap (λ (k : ℕ). k + slotAt r x n .left) (turns-same r j n (v .noTurn))) (unmatched c (rw (v .after) at q) (rw (v .after) at u)));
     ifGaveUp = λ q c u. fails-mono r x c 3 n (suc n) n (suc n) (omega arith) (omega arith)
         (p .ifGaveUp (rw (v .after) at q) c (rw (v .after) at u));
   }
     where
-      unmatched : (c : ℕ) → view r x n .phase ≡ waiting → view r x n .progress ≡ 8 * c → ¬ Matches r x c n
+      unmatched : (c : ℕ) → slotAt r x n .phase ≡ waiting → slotAt r x n .progress ≡ 8 * c → ¬ Matches r x c n
       unmatched c q u t =
           let f = matches-ok r w x c n t in
           contradiction (awaits-true (state r n) (f .0) (slotOf r x) (matches-awaited r x c n h u (f .0) (f .1) q))
@@ -195,40 +195,40 @@ module _ (r : Run) (w : Lawful r) (x : Transfer r) where
     asking = rw (change-same (ages v) .kind) (p .asking);
     got = λ c l. same-got c n (v .kept) (p .got c (rw progress at l));
     ifReady = λ q c u. subst (λ (s : ℕ). Fails r x c s (suc n) (suc n)) (sym sends)
-        (fails-mono r x c (view r x n .sends) (suc n) (suc n) n (suc n) (omega arith) (omega arith)
+        (fails-mono r x c (slotAt r x n .sends) (suc n) (suc n) n (suc n) (omega arith) (omega arith)
         (ready-fails n c p (v .call) (v .turned) (sym phase ∙ q) (sym progress ∙ u)));
     ifWaiting = ifWaiting;
     ifGaveUp = ifGaveUp;
   }
     where
-      phase : view r x (suc n) .phase ≡ aged (view r x n) .phase
-      phase = ap (λ (y : Slot). y .phase) (v .after)
+      phase : slotAt r x (suc n) .phase ≡ aged (slotAt r x n) .phase
+      phase = phase-eq (v .after)
 
-      progress : view r x (suc n) .progress ≡ view r x n .progress
-      progress = ap (λ (y : Slot). y .progress) (v .after) ∙ aged-progress (view r x n)
+      progress : slotAt r x (suc n) .progress ≡ slotAt r x n .progress
+      progress = progress-eq (v .after) ∙ aged-progress (slotAt r x n)
 
-      sends : view r x (suc n) .sends ≡ view r x n .sends
-      sends = ap (λ (y : Slot). y .sends) (v .after) ∙ aged-sends (view r x n)
+      sends : slotAt r x (suc n) .sends ≡ slotAt r x n .sends
+      sends = sends-eq (v .after) ∙ aged-sends (slotAt r x n)
 
-      ifWaiting : view r x (suc n) .phase ≡ waiting → (c s : ℕ) → view r x (suc n) .progress ≡ 8 * c → view r x (suc n) .sends ≡ suc s
-          → Pending r x c s (view r x (suc n) .left) (suc n)
+      ifWaiting : slotAt r x (suc n) .phase ≡ waiting → (c s : ℕ) → slotAt r x (suc n) .progress ≡ 8 * c → slotAt r x (suc n) .sends ≡ suc s
+          → Pending r x c s (slotAt r x (suc n) .left) (suc n)
       ifWaiting q c s u z =
-          let a = aged-waiting (view r x n) (okAt r w x n) (sym phase ∙ q) in
-          wait-on r x c s (view r x n .left) (view r x (suc n) .left) n
+          let a = aged-waiting (slotAt r x n) (okAt r w x n) (sym phase ∙ q) in
+          wait-on r x c s (slotAt r x n .left) (slotAt r x (suc n) .left) n
           (p .ifWaiting (a .was .phase) c s (sym progress ∙ u) (sym sends ∙ z))
-          (λ j l. omega (arith, turns-more r j n (v .turned) l, a .left, ap (λ (y : Slot). y .left) (v .after)))
+          (λ j l. omega (arith, turns-more r j n (v .turned) l, a .left, left-eq (v .after)))
           (turn-unmatched r x c n (v .call))
 
-      ifGaveUp : view r x (suc n) .phase ≡ gaveUp → (c : ℕ) → view r x (suc n) .progress ≡ 8 * c → Fails r x c 3 (suc n) (suc n)
+      ifGaveUp : slotAt r x (suc n) .phase ≡ gaveUp → (c : ℕ) → slotAt r x (suc n) .progress ≡ 8 * c → Fails r x c 3 (suc n) (suc n)
       ifGaveUp q c u = go (agingAt r w x n)
         where
-          go : Aging (view r x n) → Fails r x c 3 (suc n) (suc n)
+          go : Aging (slotAt r x n) → Fails r x c 3 (suc n) (suc n)
           go (unaged e f) = fails-mono r x c 3 n (suc n) n (suc n) (omega arith) (omega arith)
-              (p .ifGaveUp (ap (λ (y : Slot). y .phase) (sym e) ∙ sym phase ∙ q) c (sym progress ∙ u))
+              (p .ifGaveUp (phase-eq (sym e) ∙ sym phase ∙ q) c (sym progress ∙ u))
           go (waitsOn a) = other-phase (a .phase) (sym phase ∙ q) refl
           go (readyAgain a) = other-phase (a .phase) (sym phase ∙ q) refl
           go (givesUp a) =
-              let pd : Pending r x c 2 (view r x n .left) n = p .ifWaiting (a .was .phase) c 2 (sym progress ∙ u) (a .third) in
+              let pd : Pending r x c 2 (slotAt r x n .left) n = p .ifWaiting (a .was .phase) c 2 (sym progress ∙ u) (a .third) in
               fails-mono r x c 3 (suc n) (suc n) n (suc n) (omega arith) (omega arith)
               (expire r x c 2 n (subst (λ (l : ℕ). Pending r x c 2 l n) (a .over) pd) (v .call) (v .turned))
   asked-step n st h (served v) p = record {
@@ -239,23 +239,23 @@ module _ (r : Run) (w : Lawful r) (x : Transfer r) where
     ifGaveUp = λ q. other-phase phase q refl;
   }
     where
-      same : Same (view r x n) (aged (view r x n))
-      same = aged-same (view r x n)
+      same : Same (slotAt r x n) (aged (slotAt r x n))
+      same = aged-same (slotAt r x n)
 
-      asking : asks (aged (view r x n) .kind) ≡ true
+      asking : asks (aged (slotAt r x n) .kind) ≡ true
       asking = ap asks (same .kind) ∙ p .asking
 
-      sr : Requested (aged (view r x n))
-      sr = sent-read (aged (view r x n)) asking
+      sr : Requested (aged (slotAt r x n))
+      sr = sent-read (aged (slotAt r x n)) asking
 
-      phase : view r x (suc n) .phase ≡ waiting
-      phase = ap (λ (y : Slot). y .phase) (v .after) ∙ sr .phase
+      phase : slotAt r x (suc n) .phase ≡ waiting
+      phase = phase-eq (v .after) ∙ sr .phase
 
-      progress : view r x (suc n) .progress ≡ view r x n .progress
-      progress = ap (λ (y : Slot). y .progress) (v .after) ∙ sr .progress ∙ aged-progress (view r x n)
+      progress : slotAt r x (suc n) .progress ≡ slotAt r x n .progress
+      progress = progress-eq (v .after) ∙ sr .progress ∙ aged-progress (slotAt r x n)
 
-      ifWaiting : view r x (suc n) .phase ≡ waiting → (c s : ℕ) → view r x (suc n) .progress ≡ 8 * c → view r x (suc n) .sends ≡ suc s
-          → Pending r x c s (view r x (suc n) .left) (suc n)
+      ifWaiting : slotAt r x (suc n) .phase ≡ waiting → (c s : ℕ) → slotAt r x (suc n) .progress ≡ 8 * c → slotAt r x (suc n) .sends ≡ suc s
+          → Pending r x c s (slotAt r x (suc n) .left) (suc n)
       ifWaiting q c s u z = record {
         j = n;
         before = omega arith;
@@ -264,36 +264,36 @@ module _ (r : Run) (w : Lawful r) (x : Transfer r) where
           isRead = read-of (x .ask) (h .kind) (p .asking);
           chunk = omega (arith, at, v .ready .partway .below, same .count, h .count);
           turned = v .turned;
-          yields = v .yields ∙ ap some (sends-request r w x c n (aged (view r x n)) asking at (same .device ∙ h .device)
+          yields = v .yields ∙ ap some (sends-request r w x c n (aged (slotAt r x n)) asking at (same .device ∙ h .device)
               (same .table ∙ h .table) (same .offset ∙ h .offset) (same .count ∙ h .count));
         };
-        clock = omega (arith, turns-none r n (suc n) (omega arith), ap (λ (y : Slot). y .left) (v .after), sr .left);
+        clock = omega (arith, turns-none r n (suc n) (omega arith), left-eq (v .after), sr .left);
         unmatched = λ m l l′. absurd (omega arith);
         earlier = subst (λ (t : ℕ). Fails r x c t (suc n) n) same-sends
             (ready-fails n c p (v .call) (v .turned) (v .ready .phase) (sym progress ∙ u));
       }
         where
-          at : aged (view r x n) .progress ≡ 8 * c
-          at = aged-progress (view r x n) ∙ sym progress ∙ u
+          at : aged (slotAt r x n) .progress ≡ 8 * c
+          at = aged-progress (slotAt r x n) ∙ sym progress ∙ u
 
-          same-sends : view r x n .sends ≡ s
-          same-sends = omega (arith, z, ap (λ (y : Slot). y .sends) (v .after), sr .sends, aged-sends (view r x n))
+          same-sends : slotAt r x n .sends ≡ s
+          same-sends = omega (arith, z, sends-eq (v .after), sr .sends, aged-sends (slotAt r x n))
   asked-step n st h (taken v) p = record {
     asking = rw (change-same (taken v) .kind) (p .asking);
-    got = λ k l. got k l (decLt (8 * k) (view r x n .progress));
+    got = λ k l. got k l (decLt (8 * k) (slotAt r x n .progress));
     ifReady = λ q k u. subst (λ (s : ℕ). Fails r x k s (suc n) (suc n))
-        (sym (ap (λ (y : Slot). y .sends) (v .after) ∙ advanced-sends (view r x n))) tt;
-    ifWaiting = λ q. advanced-not (view r x n) waiting (sym phase ∙ q) refl refl;
-    ifGaveUp = λ q. advanced-not (view r x n) gaveUp (sym phase ∙ q) refl refl;
+        (sym (sends-eq (v .after) ∙ advanced-sends (slotAt r x n))) tt;
+    ifWaiting = λ q. advanced-not (slotAt r x n) waiting (sym phase ∙ q) refl refl;
+    ifGaveUp = λ q. advanced-not (slotAt r x n) gaveUp (sym phase ∙ q) refl refl;
   }
     where
-      phase : view r x (suc n) .phase ≡ advanced (view r x n) .phase
-      phase = ap (λ (y : Slot). y .phase) (v .after)
+      phase : slotAt r x (suc n) .phase ≡ advanced (slotAt r x n) .phase
+      phase = phase-eq (v .after)
 
       i : ℕ
       i = v .waits .partway .chunk
 
-      at : view r x n .progress ≡ 8 * v .waits .partway .chunk
+      at : slotAt r x n .progress ≡ 8 * v .waits .partway .chunk
       at = v .waits .partway .at
 
       replied : Replied r x (v .waits .partway .chunk) n
@@ -301,9 +301,9 @@ module _ (r : Run) (w : Lawful r) (x : Transfer r) where
 
       len : length (content (v .f)) ≡ lenOf r x (v .waits .partway .chunk)
       len = content-length (v .f) (subst Shaped (v .call) (w .shaped n) .1)
-          (omega (arith, v .awaited .len, len-eight (view r x n .count) (view r x n .progress))) ∙ (rw (h .count, at) at (v .awaited .len))
+          (omega (arith, v .awaited .len, len-eight (slotAt r x n .count) (slotAt r x n .progress))) ∙ (rw (h .count, at) at (v .awaited .len))
 
-      got : (k : ℕ) → 8 * k < view r x (suc n) .progress → Dec (8 * k < view r x n .progress) → Got r x k (suc n)
+      got : (k : ℕ) → 8 * k < slotAt r x (suc n) .progress → Dec (8 * k < slotAt r x n .progress) → Got r x k (suc n)
       got k l (yes q) = record { m = g .m; before = omega (arith, g .before); replied = g .replied; kept = kept }
         where
           g : Got r x k n
@@ -311,23 +311,23 @@ module _ (r : Run) (w : Lawful r) (x : Transfer r) where
 
           kept : (j : ℕ) → j < lenOf r x k → getD (buffer r (suc n)) (place r x k + j) 0 ≡ getD (brought (r .calls (g .m))) j 0
           kept j u = ap (λ (b : List ℕ). getD b (place r x k + j) 0) (v .stored)
-              ∙ getD-sets-below (buffer r n) (128 * slotOf r x + view r x n .progress) (content (v .f)) (place r x k + j)
+              ∙ getD-sets-below (buffer r n) (128 * slotOf r x + slotAt r x n .progress) (content (v .f)) (place r x k + j)
               (omega (arith, at, len-small (askCount (x .ask)) k j few u .1, q))
               ∙ g .kept j u
       got k l (no q) = record { m = n; before = omega arith; replied = subst (λ (t : ℕ). Replied r x t n) same replied; kept = kept }
         where
           same : v .waits .partway .chunk ≡ k
-          same = omega (arith, at, l, ap (λ (y : Slot). y .progress) (v .after), advanced-progress (view r x n))
+          same = omega (arith, at, l, progress-eq (v .after), advanced-progress (slotAt r x n))
 
-          pl : place r x k ≡ 128 * slotOf r x + view r x n .progress
+          pl : place r x k ≡ 128 * slotOf r x + slotAt r x n .progress
           pl = ap (λ (t : ℕ). 128 * slotOf r x + t) (sym (at ∙ ap (λ (t : ℕ). 8 * t) same))
 
           kept : (j : ℕ) → j < lenOf r x k → getD (buffer r (suc n)) (place r x k + j) 0 ≡ getD (brought (r .calls n)) j 0
           kept j u =
               let ln : length (content (v .f)) ≡ lenOf r x k = len ∙ ap (lenOf r x) same in
               ap (λ (b : List ℕ). getD b (place r x k + j) 0) (v .stored) ∙ ap
-              (λ (t : ℕ). getD (sets (buffer r n) (128 * slotOf r x + view r x n .progress) (content (v .f))) (t + j) 0) pl
-              ∙ getD-sets-in (buffer r n) (128 * slotOf r x + view r x n .progress) (content (v .f)) j
+              (λ (t : ℕ). getD (sets (buffer r n) (128 * slotOf r x + slotAt r x n .progress) (content (v .f))) (t + j) 0) pl
+              ∙ getD-sets-in (buffer r n) (128 * slotOf r x + slotAt r x n .progress) (content (v .f)) j
               (omega (
                 arith,
                 storage-sound r w n .1,
@@ -339,7 +339,7 @@ module _ (r : Run) (w : Lawful r) (x : Transfer r) where
               )) (omega (arith, ln))
               ∙ ap (λ (t : Call). getD (brought t) j 0) (sym (v .call))
 
-  asked-so-far : (b : ℕ) → Begins r x b → asks (view r x b .kind) ≡ true → (n : ℕ) → b ≤ n → Stands r x n → AskedSoFar r x n
+  asked-so-far : (b : ℕ) → Begins r x b → asks (slotAt r x b .kind) ≡ true → (n : ℕ) → b ≤ n → Stands r x n → AskedSoFar r x n
   asked-so-far b g a = along-from r w x b (g .since) (AskedSoFar r x) (asked-begin b g a)
       (λ n s l. asked-step n (stands-before r w x n s (omega (arith, g .since))))
 

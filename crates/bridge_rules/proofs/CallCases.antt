@@ -28,20 +28,20 @@ use Rattle.bridge_rules.proofs.SoundTest.{Sound, sound-true}
 
 -- ── which call it is ───────────────────────────────────────────────────────────────────────────────────────────────
 
-abbrev callIs : Call → ℕ
-callIs (opening l a) = 0
-callIs (turn l) = 1
-callIs (frame l f) = 2
-callIs (status t) = 3
-callIs (bytes l t) = 4
-callIs (close t) = 5
-callIs (reset o) = 6
+abbrev whichCall : Call → ℕ
+whichCall (opening l a) = 0
+whichCall (turn l) = 1
+whichCall (frame l f) = 2
+whichCall (status t) = 3
+whichCall (bytes l t) = 4
+whichCall (close t) = 5
+whichCall (reset o) = 6
 
-pub other-call : {A : Type 0} {c d e : Call} → c ≡ d → c ≡ e → eqb (callIs d) (callIs e) ≡ false → A
-other-call {A} {c} {d} {e} p q n = absurd (eqb-false (callIs d) (callIs e) n (ap callIs (sym p ∙ q)))
+pub other-call : {A : Type 0} {c d e : Call} → c ≡ d → c ≡ e → eqb (whichCall d) (whichCall e) ≡ false → A
+other-call {A} {c} {d} {e} p q n = absurd (eqb-false (whichCall d) (whichCall e) n (ap whichCall (sym p ∙ q)))
 
 abbrev pub isFrame : Call → Bool
-isFrame c = eqb (callIs c) 2
+isFrame c = eqb (whichCall c) 2
 
 -- the calls that change the ledger
 abbrev pub isNoted : Call → Bool

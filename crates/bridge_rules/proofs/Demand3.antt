@@ -17,7 +17,7 @@ use Rattle.bridge_rules.specs.Demand3.{After, Claims, ReadClaims, runOf,
 use Rattle.bridge_rules.proofs.KindTests.{read-of}
 use Rattle.bridge_rules.proofs.SlotOk.{GaveUpOk, gave-up-ok}
 use Rattle.bridge_rules.proofs.SoundRuns.{storage-sound}
-use Rattle.bridge_rules.proofs.Standing.{begins-open, okAt, openedAt, view, held}
+use Rattle.bridge_rules.proofs.Standing.{begins-open, okAt, openedAt, slotAt, held}
 use Rattle.bridge_rules.proofs.Status.{done-is, gave-up-is, unfinished-is, unknown-ticket}
 use Rattle.bridge_rules.proofs.EndsInBound.{ended}
 use Rattle.bridge_rules.proofs.AskedSoFar.{AskedSoFar, read-so-far, Got, Fails}
@@ -28,9 +28,9 @@ use Rattle.bridge_rules.proofs.SlotHolders.{places, alone, no-holder, k
 use Rattle.bridge_rules.proofs.TableBytes.{table-meanwhile, some-moment}
 
 module _ (r : Run) (w : Lawful r) (x : Transfer r) (n : ℕ) (s : Stands r x n) where
-  three-failed : view r x n .phase ≡ gaveUp → ThreeFailed r x n
+  three-failed : slotAt r x n .phase ≡ gaveUp → ThreeFailed r x n
   three-failed e =
-      let g : GaveUpOk (view r x n) = gave-up-ok (view r x n) (okAt r w x n) e in
+      let g : GaveUpOk (slotAt r x n) = gave-up-ok (slotAt r x n) (okAt r w x n) e in
       let rd : isWrite (x .ask) ≡ false = read-of (x .ask) (held r w x n s .kind) (g .asking) in
       let f : Fails r x (g .partway .chunk) 3 n n = read-so-far r w x rd n s .ifGaveUp e (g .partway .chunk) (g .partway .at) in
       record {
@@ -48,7 +48,7 @@ module _ (r : Run) (w : Lawful r) (x : Transfer r) (n : ℕ) (s : Stands r x n) 
   ends : 72 * chunks r x ≤ turns r (x .at) n → (statusAt r x n ≡ 0) ⊎ (statusAt r x n ≡ 16)
   ends e = go (ended r w x (x .at) (begins-open r w x) n (s .0) s e)
     where
-      go : (view r x n .phase ≡ done) ⊎ (view r x n .phase ≡ gaveUp) → (statusAt r x n ≡ 0) ⊎ (statusAt r x n ≡ 16)
+      go : (slotAt r x n .phase ≡ done) ⊎ (slotAt r x n .phase ≡ gaveUp) → (statusAt r x n ≡ 0) ⊎ (statusAt r x n ≡ 16)
       go (inl p) = inl (done-is r w x n s .1 p)
       go (inr p) = inr (gave-up-is r w x n s .1 p)
 

@@ -12,19 +12,19 @@ use Rattle.bridge_rules.specs.Opening.{Ask, read, write, isWrite, askKin
 abbrev pub KnownKind : ℕ → Type 0
 KnownKind k = (carries k ≡ true) ⊎ (asks k ≡ true)
 
-pub asks-alone : (k : ℕ) → asks k ≡ true → carries k ≡ false
+pub asks-only : (k : ℕ) → asks k ≡ true → carries k ≡ false
 unfolding asks carries
-asks-alone k e = ne-eqb k writes (λ z. omega (arith, eqb-true k reads e))
+asks-only k e = ne-eqb k writes (λ z. omega (arith, eqb-true k reads e))
 
-pub carries-alone : (k : ℕ) → carries k ≡ true → asks k ≡ false
+pub carries-only : (k : ℕ) → carries k ≡ true → asks k ≡ false
 unfolding asks carries
-carries-alone k e = ne-eqb k reads (λ z. omega (arith, eqb-true k writes e))
+carries-only k e = ne-eqb k reads (λ z. omega (arith, eqb-true k writes e))
 
-pub kinds-clash : {A : Type 0} (k : ℕ) → carries k ≡ true → asks k ≡ true → A
-kinds-clash k c a = absurd (true≢false (sym a ∙ carries-alone k c))
+pub one-kind : {A : Type 0} (k : ℕ) → carries k ≡ true → asks k ≡ true → A
+one-kind k c a = absurd (true≢false (sym a ∙ carries-only k c))
 
 pub known-tested : (k : ℕ) → KnownKind k → (asks k || carries k) ≡ true
-known-tested k (inl c) = rw (carries-alone k c, c)
+known-tested k (inl c) = rw (carries-only k c, c)
 known-tested k (inr a) = rw a
 
 pub tested-known : (k : ℕ) → (asks k || carries k) ≡ true → KnownKind k
@@ -58,4 +58,4 @@ carries-of (write d t o bs) e h = rw e
 
 pub read-of : (a : Ask) {k : ℕ} → k ≡ askKind a → asks k ≡ true → isWrite a ≡ false
 read-of (read d t o n) e h = refl
-read-of (write d t o bs) {k} e h = kinds-clash k (carries-of (write d t o bs) e refl) h
+read-of (write d t o bs) {k} e h = one-kind k (carries-of (write d t o bs) e refl) h

@@ -18,7 +18,7 @@ use Rattle.bridge_rules.specs.Turn.{agedBridge, sendFor}
 use Rattle.bridge_rules.specs.Call.{Call, itsOwn, opening, turn, frame, status, bytes, close, reset, step}
 use Rattle.bridge_rules.specs.Run.{Run, storage, state, buffer, answer, Lawful, Ledger, newLedger, firstGivable, noted, ledger}
 use Rattle.bridge_rules.proofs.Search.{cases, contradiction, Lowest}
-use Rattle.bridge_rules.proofs.SlotOk.{no-ticket, has-ticket}
+use Rattle.bridge_rules.proofs.SlotOk.{no-ticket, has-ticket, ticket-eq}
 use Rattle.bridge_rules.proofs.SoundTest.{Sound}
 use Rattle.bridge_rules.proofs.SoundStates.{slot-set-same, slot-set-other, fresh-slot, opened-ticket}
 use Rattle.bridge_rules.proofs.CallCases.{CallCase, nothing, opens, sends, idles, takes, closes, resets, freeAt, isNoted, openResult, closeResult}
@@ -71,7 +71,7 @@ fresh-agrees o = record {
   own = refl;
   lastTicket = refl;
   four = refl;
-  each = λ k l. zeros-at k ∙ sym (ap (λ (x : Slot). x .ticket) (fresh-slot o k));
+  each = λ k l. zeros-at k ∙ sym (ticket-eq (fresh-slot o k));
 }
 
 -- the lowest free slot by the ledger
@@ -181,10 +181,10 @@ module _ (r : Run) (w : Lawful r) where
               pick : Dec (j ≡ u .k) → getD (set (ledger r n .tickets) (u .k) (suc (state r n .tickets))) j 0 ≡ slot s′ j .ticket
               pick (yes p) =
                   rw p (getD-set-same (ledger r n .tickets) (u .k) (suc (state r n .tickets)) 0 (omega (arith, a .four, u .lowest .bound))
-                  ∙ sym (ap (λ (x : Slot). x .ticket) (slot-set-same (state r n) s′ (u .k) new (h .four) refl (u .lowest .bound))
+                  ∙ sym (ticket-eq (slot-set-same (state r n) s′ (u .k) new (h .four) refl (u .lowest .bound))
                   ∙ opened-ticket (u .ask) (suc (state r n .tickets))))
               pick (no p) = getD-set-other (ledger r n .tickets) (u .k) j (suc (state r n .tickets)) 0 p ∙ a .each j m
-                  ∙ sym (ap (λ (x : Slot). x .ticket) (slot-set-other (state r n) s′ (u .k) j new refl p))
+                  ∙ sym (ticket-eq (slot-set-other (state r n) s′ (u .k) j new refl p))
       go (sends u) = sent (some (u .k)) (u .call) (u .result)
       go (idles u) = sent none (u .call) (u .result)
       go (takes u) = moves (ap isNoted (u .call)) (ap (λ (v : Result). v .state .own) (u .result))
@@ -203,11 +203,11 @@ module _ (r : Run) (w : Lawful r) where
           pick : (j : ℕ) → j < 4 → Dec (j ≡ u .k) → cond (eqb (slot (state r n) j .ticket) (u .t)) 0 (slot (state r n) j .ticket)
               ≡ slot s′ j .ticket
           pick j m (yes p) = rw (p, eq-eqb (slot (state r n) (u .k) .ticket) (u .t) (u .ticket))
-              (sym (ap (λ (x : Slot). x .ticket) (slot-set-same (state r n) s′ (u .k) blank (h .four) refl (u .bound))))
+              (sym (ticket-eq (slot-set-same (state r n) s′ (u .k) blank (h .four) refl (u .bound))))
           pick j m (no p) =
               let d : slot (state r n) j .ticket ≢ u .t = λ v. h .apart (u .k) j (u .bound) m (λ i. p (sym i))
               (has-ticket (slot (state r n) (u .k)) (h .each (u .k) (u .bound)) (u .held)) (u .ticket ∙ sym v) in
-              rw (ne-eqb (slot (state r n) j .ticket) (u .t) d) (sym (ap (λ (x : Slot). x .ticket)
+              rw (ne-eqb (slot (state r n) j .ticket) (u .t) d) (sym (ticket-eq
               (slot-set-other (state r n) s′ (u .k) j blank refl p)))
       go (resets u) = rw (noted-is n (plain 0) (reset (u .o)) refl (answer-is (u .result)) (u .call)) (to (u .result) (fresh-agrees (u .o)))
 

@@ -14,7 +14,7 @@ use Rattle.bridge_rules.specs.Replies.{place, matchesFrame, matchesCall,
 use Rattle.bridge_rules.proofs.Search.{and-true}
 use Rattle.bridge_rules.proofs.AwaitsTest.{AwaitsOk}
 use Rattle.bridge_rules.proofs.LedgerAgrees.{own-is}
-use Rattle.bridge_rules.proofs.Standing.{view, Held}
+use Rattle.bridge_rules.proofs.Standing.{slotAt, Held}
 
 pub record MatchesOk (r : Run) (x : Transfer r) (c m : ℕ) (f : Frame) : Type 0 where
   pub is : r .calls m ≡ frame itsOwn f
@@ -68,9 +68,9 @@ matches-true r w x c m f h = rw (
 pub turn-unmatched : (r : Run) (x : Transfer r) (c m : ℕ) → r .calls m ≡ turn itsOwn → ¬ Matches r x c m
 turn-unmatched r x c m e h = false≢true (sym (ap (matchesCall r x c m) e) ∙ h)
 
-module _ (r : Run) (x : Transfer r) (c m : ℕ) (h : Held r x m) (p : view r x m .progress ≡ 8 * c) where
+module _ (r : Run) (x : Transfer r) (c m : ℕ) (h : Held r x m) (p : slotAt r x m .progress ≡ 8 * c) where
   -- a waiting read at chunk c awaits what matches chunk c
-  pub matches-awaited : (f : Frame) → MatchesOk r x c m f → view r x m .phase ≡ waiting → AwaitsOk (state r m) f (slotOf r x)
+  pub matches-awaited : (f : Frame) → MatchesOk r x c m f → slotAt r x m .phase ≡ waiting → AwaitsOk (state r m) f (slotOf r x)
   matches-awaited f a q = record {
     waits = ap isWaiting q;
     table = a .table;

@@ -27,7 +27,7 @@ use Rattle.bridge_rules.specs.Calls.{FrameInRun, NumbersInRun, NumbersIn
 use Rattle.bridge_rules.proofs.KindTests.{read-of}
 use Rattle.bridge_rules.proofs.NumberLaws.{lent-clear, lent-ten, open-later, open-ten, reply-later, reply-ten}
 use Rattle.bridge_rules.proofs.RefusalChains.{first-if, not-test, leb-test, ltb-test, eqb-test, if-orElse, zero-orElse, orElse-orElse}
-use Rattle.bridge_rules.proofs.OpeningNumbers.{later, Later, chain, full, unless-number, number-is}
+use Rattle.bridge_rules.proofs.OpeningNumbers.{afterLent, AfterLent, chain, full, unless-number, number-is}
 use Rattle.bridge_rules.proofs.RefusalsKeep.{sends-zero}
 use Rattle.bridge_rules.proofs.Search.{Lowest, lowest-some, lowest-none, option-cases}
 use Rattle.bridge_rules.proofs.AwaitsTest.{awaits-ok}
@@ -35,7 +35,7 @@ use Rattle.bridge_rules.proofs.SlotOk.{WaitOk, wait-ok}
 use Rattle.bridge_rules.proofs.SoundTest.{sound-true}
 use Rattle.bridge_rules.proofs.SoundRuns.{storage-sound}
 use Rattle.bridge_rules.proofs.LedgerAgrees.{own-is, agrees}
-use Rattle.bridge_rules.proofs.Standing.{view, Held, held, okAt, held-slot, openedAt}
+use Rattle.bridge_rules.proofs.Standing.{slotAt, Held, held, okAt, held-slot, openedAt}
 use Rattle.bridge_rules.proofs.Status.{held-by}
 use Rattle.bridge_rules.proofs.Matching.{matches-ok}
 use Rattle.bridge_rules.proofs.AskedSoFar.{read-so-far, awaited-replied}
@@ -128,14 +128,14 @@ module _ (r : Run) (w : Lawful r) (n : ℕ) where
   opening-number : (l : Lent) (a : Ask) → Shaped (opening l a) → (m : ℕ)
       → (step (state r n) (buffer r n) (opening l a) .answer .number ≡ m) ↔ OpeningInRun r n l a m
   unfolding step
-  opening-number itsOwn a d m = own-first _ m (Later a Full Used) (λ e. c .0 (sym q ∙ e), λ p. q ∙ c .1 p)
+  opening-number itsOwn a d m = own-first _ m (AfterLent a Full Used) (λ e. c .0 (sym q ∙ e), λ p. q ∙ c .1 p)
     where
-      q : openOf (state r n) (buffer r n) a .answer .number ≡ later (state r n) a
+      q : openOf (state r n) (buffer r n) a .answer .number ≡ afterLent (state r n) a
       q = number-is (state r n) (buffer r n) a ∙ open-later (state r n) (length (buffer r n)) a ss lb
 
-      c : (later (state r n) a ≡ m) ↔ Later a Full Used m
+      c : (afterLent (state r n) a ≡ m) ↔ AfterLent a Full Used m
       c = chain (state r n) a m Full Used held-slots tickets-used
-  opening-number (other b) a d m = other-first _ m b (Later a Full Used) (number-is (state r n) b a ∙ open-ten (state r n) (length b) a ss d)
+  opening-number (other b) a d m = other-first _ m b (AfterLent a Full Used) (number-is (state r n) b a ∙ open-ten (state r n) (length b) a ss d)
 
   turns-number : (l : Lent) → Shaped (turn l) → (m : ℕ)
       → (step (state r n) (buffer r n) (turn l) .answer .number ≡ m) ↔ First (l ≢ itsOwn) 10 Zero m
@@ -171,8 +171,8 @@ module _ (r : Run) (w : Lawful r) (n : ℕ) where
             h : Held r x n
             h = held r w x n s
 
-            wx : WaitOk (view r x n)
-            wx = wait-ok (view r x n) (okAt r w x n) (awaits-ok (state r n) f (slotOf r x) ax .waits)
+            wx : WaitOk (slotAt r x n)
+            wx = wait-ok (slotAt r x n) (okAt r w x n) (awaits-ok (state r n) f (slotOf r x) ax .waits)
 
             rd : isWrite (x .ask) ≡ false
             rd = read-of (x .ask) (h .kind) (wx .asking)

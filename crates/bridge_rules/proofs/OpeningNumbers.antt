@@ -23,11 +23,11 @@ use Rattle.bridge_rules.proofs.Search.{cases, Lowest, lowest-some, lowe
 use Rattle.bridge_rules.proofs.CallCases.{freeAt}
 
 -- the numbers after 11 and 10, of which 12 and 13 are told in two ways
-abbrev pub later : Bridge → Ask → ℕ
-later s a = askNumber (askDevice a) (askTable a) (askOffset a) (askCount a) orElse roomNumber s
+abbrev pub afterLent : Bridge → Ask → ℕ
+afterLent s a = askNumber (askDevice a) (askTable a) (askOffset a) (askCount a) orElse roomNumber s
 
-abbrev pub Later : Ask → Type 0 → Type 0 → ℕ → Type 0
-Later a P Q =
+abbrev pub AfterLent : Ask → Type 0 → Type 0 → ℕ → Type 0
+AfterLent a P Q =
     First (¬ ((askDevice a ≤ 15) × (askTable a ≤ 31))) 7
     (First (¬ ((1 ≤ askCount a) × (askCount a ≤ 128))) 9
     (First (2048 < askOffset a + askCount a) 8
@@ -64,7 +64,7 @@ args-chain d t o c x n rest r = (λ e. tests .0 (sym flat ∙ e), λ p. flat ∙
         (λ y. first-if 8 (ltb 2048 (o + c)) x n (2048 < o + c) rest (ltb-test 2048 (o + c)) (λ u. r)))
 
 pub chain : (s : Bridge) (a : Ask) (n : ℕ) (P Q : Type 0) → (isNone (lowestFree s) ≡ true) ↔ P → (4294967295 ≤ s .tickets) ↔ Q
-    → (later s a ≡ n) ↔ Later a P Q n
+    → (afterLent s a ≡ n) ↔ AfterLent a P Q n
 chain s a n P Q p q = args-chain (askDevice a) (askTable a) (askOffset a) (askCount a) (roomNumber s) n (First P 12 (First Q 13 Zero))
     (room-chain s n P Q p q)
 
@@ -123,12 +123,12 @@ opening-numbers s b a n = (λ e. h .0 (sym (number-is s b a) ∙ e), λ p. numbe
     h : (openNumber s (length b) a ≡ n) ↔ OpeningNumber s b a n
     h = (λ e. tests .0 (sym flat ∙ e), λ p. flat ∙ tests .1 p)
       where
-        flat : openNumber s (length b) a ≡ (11 if not (sound s) else 10 if not (eqb (length b) 512) else later s a)
+        flat : openNumber s (length b) a ≡ (11 if not (sound s) else 10 if not (eqb (length b) 512) else afterLent s a)
         flat = rw (if-orElse, if-orElse, zero-orElse)
 
-        tests : ((11 if not (sound s) else 10 if not (eqb (length b) 512) else later s a) ≡ n) ↔ OpeningNumber s b a n
-        tests = first-if 11 (not (sound s)) _ n (sound s ≡ false) (First (length b ≢ 512) 10 (Later a Full Used)) (sound-test (sound s))
-            (λ y. first-if 10 (not (eqb (length b) 512)) (later s a) n (length b ≢ 512) (Later a Full Used)
+        tests : ((11 if not (sound s) else 10 if not (eqb (length b) 512) else afterLent s a) ≡ n) ↔ OpeningNumber s b a n
+        tests = first-if 11 (not (sound s)) _ n (sound s ≡ false) (First (length b ≢ 512) 10 (AfterLent a Full Used)) (sound-test (sound s))
+            (λ y. first-if 10 (not (eqb (length b) 512)) (afterLent s a) n (length b ≢ 512) (AfterLent a Full Used)
             (not-test (eqb (length b) 512) (length b ≡ 512) (eqb-test (length b) 512))
             (λ z. chain s a n Full Used (full-phases s) (λ u. u, λ u. u)))
 

@@ -12,13 +12,13 @@ use Rattle.bridge_rules.specs.Run.{Run, state, buffer, answer, Lawful, T
 use Rattle.bridge_rules.specs.Replies.{Awaits, Replied, ThreeFailed}
 use Rattle.bridge_rules.proofs.Search.{contradiction}
 use Rattle.bridge_rules.proofs.AwaitsTest.{awaits-true}
-use Rattle.bridge_rules.proofs.SlotOk.{WaitOk, wait-ok}
+use Rattle.bridge_rules.proofs.SlotOk.{WaitOk, wait-ok, progress-eq}
 use Rattle.bridge_rules.proofs.SlotChanges.{advanced-same, advanced-progress}
 use Rattle.bridge_rules.proofs.CallCases.{CallCase, nothing, opens, sends, idles, takes, closes, resets, other-call}
 use Rattle.bridge_rules.proofs.SlotEffects.{unchanged, ages, served, taken}
 use Rattle.bridge_rules.proofs.TurnCounts.{turns-none}
 use Rattle.bridge_rules.proofs.SoundRuns.{caseAt}
-use Rattle.bridge_rules.proofs.Standing.{full-done, okAt, openedAt, view, Changes, changes, Held, held, stands-back}
+use Rattle.bridge_rules.proofs.Standing.{full-done, okAt, openedAt, slotAt, Changes, changes, Held, held, stands-back}
 use Rattle.bridge_rules.proofs.Matching.{MatchesOk, matches-ok, turn-unmatched, matches-awaited}
 use Rattle.bridge_rules.proofs.AfterSend.{Waits, WithoutReply, without-reply, AfterSend, after-send, Grown, grown, waits-asks}
 
@@ -37,8 +37,8 @@ module _ (r : Run) (w : Lawful r) (x : Transfer r) where
 
   -- takes it, and goes on to the next chunk
   record GoesOn (c m : ℕ) : Type 0 where
-    progress : view r x (suc m) .progress ≡ min (8 * c + 8) (askCount (x .ask))
-    asking : asks (view r x (suc m) .kind) ≡ true
+    progress : slotAt r x (suc m) .progress ≡ min (8 * c + 8) (askCount (x .ask))
+    asking : asks (slotAt r x (suc m) .kind) ≡ true
 
   goes-on : (c m n : ℕ) → Replied r x c m → m < n → Stands r x n → GoesOn c m
   goes-on c m n p l s = go (changes r w x m (stands-back r w x (suc m) n s (omega (arith, p .awaits .stands .0)) l) (p .awaits .stands .0))
@@ -56,8 +56,8 @@ module _ (r : Run) (w : Lawful r) (x : Transfer r) where
       go (ages v) = absurd (turn-unmatched r x c m (v .call) (p .matches))
       go (served v) = absurd (turn-unmatched r x c m (v .call) (p .matches))
       go (taken v) = record {
-        progress = ap (λ (y : Slot). y .progress) (v .after) ∙ advanced-progress (view r x m) ∙ rw (t .progress, h .count);
-        asking = rw (v .after, advanced-same (view r x m) .kind) (v .waits .asking);
+        progress = progress-eq (v .after) ∙ advanced-progress (slotAt r x m) ∙ rw (t .progress, h .count);
+        asking = rw (v .after, advanced-same (slotAt r x m) .kind) (v .waits .asking);
       }
 
   -- and the frame call that brings it is answered 0
@@ -78,7 +78,7 @@ module _ (r : Run) (w : Lawful r) (x : Transfer r) where
       go (resets u) = other-call (fo .1 .is) (u .call) refl
 
   -- after a reply the progress is past its chunk
-  grown-past : (c m n : ℕ) → Replied r x c m → m < n → Stands r x n → min (8 * c + 8) (askCount (x .ask)) ≤ view r x n .progress
+  grown-past : (c m n : ℕ) → Replied r x c m → m < n → Stands r x n → min (8 * c + 8) (askCount (x .ask)) ≤ slotAt r x n .progress
   grown-past c m n p l s =
       let g : GoesOn c m = goes-on c m n p l s in
       omega (arith, g .progress, grown r w x (suc m) n (omega (arith, p .awaits .stands .0)) (g .asking) l s .progress)
@@ -119,12 +119,12 @@ module _ (r : Run) (w : Lawful r) (x : Transfer r) where
       ))
 
   -- the last chunk's reply makes the read done
-  pub replied-done : (n m : ℕ) → Stands r x n → m < n → Replied r x (chunks r x - 1) m → view r x n .phase ≡ done
+  pub replied-done : (n m : ℕ) → Stands r x n → m < n → Replied r x (chunks r x - 1) m → slotAt r x n .phase ≡ done
   replied-done n m s l p =
       full-done r w x n s (omega (arith, grown-past (chunks r x - 1) m n p l s, openedAt r w x .law .some))
 
   -- three failed sends make it give up
-  pub failed-thrice : (n : ℕ) → Stands r x n → ThreeFailed r x n → view r x n .phase ≡ gaveUp
+  pub failed-thrice : (n : ℕ) → Stands r x n → ThreeFailed r x n → slotAt r x n .phase ≡ gaveUp
   failed-thrice n s t = sm .over (t .third .late) three
     where
       l₃ : t .j₃ < n
@@ -143,18 +143,18 @@ module _ (r : Run) (w : Lawful r) (x : Transfer r) where
       a₃ : AfterSend r w x (t .c) (t .j₃)
       a₃ = after-send r w x (t .c) (t .j₃) n (t .third .sent) l₃ s
 
-      b₁₂ : view r x (suc (t .j₁)) .sends ≤ view r x (t .j₂) .sends
+      b₁₂ : slotAt r x (suc (t .j₁)) .sends ≤ slotAt r x (t .j₂) .sends
       b₁₂ = grown r w x (suc (t .j₁)) (t .j₂) (omega (arith, t .first .sent .stands .0)) (waits-asks r w x (suc (t .j₁)) (a₁ .phase))
           (t .order₁) (t .second .sent .stands) .sends (a₁ .progress ∙ sym (a₂ .before))
 
-      b₂₃ : view r x (suc (t .j₂)) .sends ≤ view r x (t .j₃) .sends
+      b₂₃ : slotAt r x (suc (t .j₂)) .sends ≤ slotAt r x (t .j₃) .sends
       b₂₃ = grown r w x (suc (t .j₂)) (t .j₃) (omega (arith, t .second .sent .stands .0)) (waits-asks r w x (suc (t .j₂)) (a₂ .phase))
           (t .order₂) (t .third .sent .stands) .sends (a₂ .progress ∙ sym (a₃ .before))
 
-      wk : WaitOk (view r x (suc (t .j₃)))
-      wk = wait-ok (view r x (suc (t .j₃))) (okAt r w x (suc (t .j₃))) (ap isWaiting (a₃ .phase))
+      wk : WaitOk (slotAt r x (suc (t .j₃)))
+      wk = wait-ok (slotAt r x (suc (t .j₃))) (okAt r w x (suc (t .j₃))) (ap isWaiting (a₃ .phase))
 
-      three : view r x (suc (t .j₃)) .sends ≡ 3
+      three : slotAt r x (suc (t .j₃)) .sends ≡ 3
       three = omega (arith, a₁ .sends, a₂ .sends, a₃ .sends, b₁₂, b₂₃, wk .thrice)
 
       sm : WithoutReply r w x (t .c) (t .j₃) n

@@ -14,7 +14,7 @@ use Rattle.bridge_rules.specs.Opening.{askDevice, askTable, askOffset, a
 use Rattle.bridge_rules.specs.Turn.{sentFrame, readFrame, chunkLen}
 use Rattle.bridge_rules.specs.Run.{Run, state, buffer, Lawful, ledger, Transfer, slotOf, chunks, lenOf}
 use Rattle.bridge_rules.specs.Replies.{place, requestFrame}
-use Rattle.bridge_rules.proofs.KindTests.{asks-alone}
+use Rattle.bridge_rules.proofs.KindTests.{asks-only}
 use Rattle.bridge_rules.proofs.NumberLaws.{LawfulAsk}
 use Rattle.bridge_rules.proofs.FrameLaws.{kinds-apart, id-of, reply-byte, read-is, write-is}
 use Rattle.bridge_rules.proofs.Search.{some-eq}
@@ -87,4 +87,4 @@ pub sends-request : (r : Run) (w : Lawful r) (x : Transfer r) (c n : ℕ) (y : S
     → y .offset ≡ askOffset (x .ask) → y .count ≡ askCount (x .ask)
     → sentFrame (state r n .own) (slotOf r x) y (buffer r n) ≡ requestFrame r x c n
 unfolding sentFrame readFrame requestFrame
-sends-request r w x c n y u p d t o k = rw (asks-alone (y .kind) u, p, d, t, o, k, own-is r w n)
+sends-request r w x c n y u p d t o k = rw (asks-only (y .kind) u, p, d, t, o, k, own-is r w n)

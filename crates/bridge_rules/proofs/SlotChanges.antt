@@ -9,9 +9,9 @@ use lib.Dec.{leb, eqb}
 use borrow.Author.Tests.{lt-ltb, le-ltb, le-leb, lt-leb}
 use Rattle.bridge_rules.specs.State.{Slot, ready, waiting, done, gaveUp, isWaiting, asks, carries, moved}
 use Rattle.bridge_rules.specs.Turn.{ticked, aged, advanced, requested, sentSlot}
-use Rattle.bridge_rules.proofs.KindTests.{KnownKind, carries-alone, kinds-clash}
+use Rattle.bridge_rules.proofs.KindTests.{KnownKind, carries-only, one-kind}
 use Rattle.bridge_rules.proofs.Search.{contradiction}
-use Rattle.bridge_rules.proofs.SlotOk.{HeldOk, Partway, ReadyOk, WaitOk, SlotOk, okFree, okReady, okWaiting, okDone, okGaveUp, other-phase}
+use Rattle.bridge_rules.proofs.SlotOk.{HeldOk, Partway, ReadyOk, WaitOk, SlotOk, okFree, okReady, okWaiting, okDone, okGaveUp, other-phase, phase-eq}
 
 -- ── the transfer stays the same ────────────────────────────────────────────────────────────────────────────────────
 
@@ -183,7 +183,7 @@ aged-ok x k = go (aging x k)
       held = held (a .was);
       partway = partway (a .was);
       sends = omega (arith, aged-sends x, a .few);
-      unsent = λ c. kinds-clash (aged x .kind) c (asking (a .was));
+      unsent = λ c. one-kind (aged x .kind) c (asking (a .was));
       left = a .left;
     })
     go (givesUp a) = okGaveUp (record {
@@ -200,7 +200,7 @@ pub aged-ready : (x : Slot) → SlotOk x → aged x .phase ≡ ready → ((x .ph
 aged-ready x k e = go (aging x k)
   where
     go : Aging x → ((x .phase ≡ ready) × (aged x ≡ x)) ⊎ ReadyAgain x
-    go (unaged q z) = inl (ap (λ (y : Slot). y .phase) (sym q) ∙ e, q)
+    go (unaged q z) = inl (phase-eq (sym q) ∙ e, q)
     go (waitsOn a) = other-phase (a .phase) e refl
     go (readyAgain a) = inr a
     go (givesUp a) = other-phase (a .phase) e refl
@@ -209,7 +209,7 @@ pub aged-waiting : (x : Slot) → SlotOk x → aged x .phase ≡ waiting → Wai
 aged-waiting x k e = go (aging x k)
   where
     go : Aging x → WaitsOn x
-    go (unaged q z) = contradiction (ap isWaiting (ap (λ (y : Slot). y .phase) (sym q) ∙ e)) z
+    go (unaged q z) = contradiction (ap isWaiting (phase-eq (sym q) ∙ e)) z
     go (waitsOn a) = a
     go (readyAgain a) = other-phase (a .phase) e refl
     go (givesUp a) = other-phase (a .phase) e refl
@@ -291,7 +291,7 @@ sent-same x = go (asks (x .kind))
 
 pub sent-write : (x : Slot) → carries (x .kind) ≡ true → sentSlot x ≡ advanced x
 unfolding sentSlot
-sent-write x e = rw (carries-alone (x .kind) e)
+sent-write x e = rw (carries-only (x .kind) e)
 
 -- a slot that asks waits after its send
 pub record Requested (x : Slot) : Type 0 where

@@ -26,7 +26,7 @@ use Rattle.bridge_rules.proofs.CallCases.{CallCase, nothing, opens, sen
 use Rattle.bridge_rules.proofs.SlotEffects.{unchanged, ages, served, taken, keeps, opensHere, closesHere, resetsHere}
 use Rattle.bridge_rules.proofs.SoundRuns.{storage-sound, caseAt, EffectAt, effectAt}
 use Rattle.bridge_rules.proofs.LedgerAgrees.{agrees, lowest-agrees}
-use Rattle.bridge_rules.proofs.Standing.{held-slot, openedAt, view, held}
+use Rattle.bridge_rules.proofs.Standing.{held-slot, openedAt, slotAt, held}
 use Rattle.bridge_rules.proofs.Status.{held-by}
 
 close-is : (s : Bridge) (b : List ℕ) (t k : ℕ) → sound s ≡ true → heldSlot s t ≡ some k → step s b (close t) ≡ closeResult s b k
@@ -44,7 +44,7 @@ reset-is s b o e = go (ltb 15 o) e
 
 module _ (r : Run) (w : Lawful r) where
   -- a transfer that ends leaves its slot free
-  ended-frees : (x : Transfer r) (n : ℕ) → Stands r x n → Closing r x n → isFree (view r x (suc n) .phase) ≡ true
+  ended-frees : (x : Transfer r) (n : ℕ) → Stands r x n → Closing r x n → isFree (slotAt r x (suc n) .phase) ≡ true
   unfolding storage
   ended-frees x n s (e, inl c) =
       let st : step (state r n) (buffer r n) (r .calls n) ≡ closeResult (state r n) (buffer r n) (slotOf r x)
@@ -168,9 +168,9 @@ module _ (r : Run) (w : Lawful r) where
   pub record Sender (j : ℕ) (f : Frame) : Type 0 where
     pub y : Transfer r
     pub stands : Stands r y j
-    pub ready : ReadyOk (aged (view r y j))
+    pub ready : ReadyOk (aged (slotAt r y j))
     pub served : state r (suc j) .last ≡ slotOf r y
-    pub is : f ≡ sentFrame (state r j .own) (slotOf r y) (aged (view r y j)) (buffer r j)
+    pub is : f ≡ sentFrame (state r j .own) (slotOf r y) (aged (slotAt r y j)) (buffer r j)
 
   pub sender : (j : ℕ) (f : Frame) → accepted r j ≡ true → answer r j .sent ≡ some f → Sender j f
   unfolding storage accepted sendFor agedBridge

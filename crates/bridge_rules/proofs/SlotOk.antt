@@ -11,6 +11,28 @@ use Rattle.bridge_rules.proofs.KindTests.{KnownKind, known-small}
 use Rattle.bridge_rules.proofs.NumberLaws.{LawfulArgs}
 use Rattle.bridge_rules.proofs.Search.{contradiction}
 
+-- equal slots have equal parts
+pub phase-eq : {x y : Slot} → x ≡ y → x .phase ≡ y .phase
+phase-eq e = ap (λ (z : Slot). z .phase) e
+
+pub progress-eq : {x y : Slot} → x ≡ y → x .progress ≡ y .progress
+progress-eq e = ap (λ (z : Slot). z .progress) e
+
+pub sends-eq : {x y : Slot} → x ≡ y → x .sends ≡ y .sends
+sends-eq e = ap (λ (z : Slot). z .sends) e
+
+pub left-eq : {x y : Slot} → x ≡ y → x .left ≡ y .left
+left-eq e = ap (λ (z : Slot). z .left) e
+
+pub ticket-eq : {x y : Slot} → x ≡ y → x .ticket ≡ y .ticket
+ticket-eq e = ap (λ (z : Slot). z .ticket) e
+
+pub kind-eq : {x y : Slot} → x ≡ y → x .kind ≡ y .kind
+kind-eq e = ap (λ (z : Slot). z .kind) e
+
+pub count-eq : {x y : Slot} → x ≡ y → x .count ≡ y .count
+count-eq e = ap (λ (z : Slot). z .count) e
+
 -- every held slot has one of the two kinds, a ticket and lawful opening arguments
 pub record HeldOk (x : Slot) : Type 0 where
   pub kind : KnownKind (x .kind)
@@ -78,7 +100,7 @@ OkIn x (suc (suc (suc (suc zero)))) = GaveUpOk x
 OkIn x (suc (suc (suc (suc (suc p))))) = ⊥
 
 ok-in : (x : Slot) → SlotOk x → (p : ℕ) → x .phase ≡ p → OkIn x p
-ok-in x (okFree e) p q = subst (OkIn x) (sym (ap (λ (y : Slot). y .phase) e) ∙ q) e
+ok-in x (okFree e) p q = subst (OkIn x) (sym (phase-eq e) ∙ q) e
 ok-in x (okReady r) p q = subst (OkIn x) (sym (r .phase) ∙ q) r
 ok-in x (okWaiting w) p q = subst (OkIn x) (sym (w .phase) ∙ q) w
 ok-in x (okDone d) p q = subst (OkIn x) (sym (d .phase) ∙ q) d
@@ -100,7 +122,7 @@ pub gave-up-ok : (x : Slot) → SlotOk x → x .phase ≡ gaveUp → GaveUpOk x
 gave-up-ok x k h = ok-in x k gaveUp h
 
 pub phase-small : (x : Slot) → SlotOk x → x .phase ≤ 4
-phase-small x (okFree e) = omega (arith, ap (λ (y : Slot). y .phase) e)
+phase-small x (okFree e) = omega (arith, phase-eq e)
 phase-small x (okReady r) = omega (arith, r .phase)
 phase-small x (okWaiting w) = omega (arith, w .phase)
 phase-small x (okDone d) = omega (arith, d .phase)
@@ -124,7 +146,7 @@ held-ok x k p = go (free-or-held x k)
 
 -- free slots are those of ticket 0
 pub no-ticket : (x : Slot) → SlotOk x → isFree (x .phase) ≡ true → x .ticket ≡ 0
-no-ticket x k p = ap (λ (y : Slot). y .ticket) (free-ok x k p)
+no-ticket x k p = ticket-eq (free-ok x k p)
 
 pub has-ticket : (x : Slot) → SlotOk x → isFree (x .phase) ≡ false → 0 < x .ticket
 has-ticket x k p = held-ok x k p .ticket
@@ -133,7 +155,7 @@ pub held-free : (x : Slot) → SlotOk x → 0 < x .ticket → isFree (x .phase) 
 held-free x k p = go (free-or-held x k)
   where
     go : (x ≡ blank) ⊎ ((isFree (x .phase) ≡ false) × HeldOk x) → isFree (x .phase) ≡ false
-    go (inl e) = absurd (omega (arith, p, ap (λ (y : Slot). y .ticket) e))
+    go (inl e) = absurd (omega (arith, p, ticket-eq e))
     go (inr h) = h .0
 
 -- bounds of every sound slot
@@ -141,12 +163,12 @@ pub kind-small : (x : Slot) → SlotOk x → x .kind ≤ 1
 kind-small x k = go (free-or-held x k)
   where
     go : (x ≡ blank) ⊎ ((isFree (x .phase) ≡ false) × HeldOk x) → x .kind ≤ 1
-    go (inl e) = omega (arith, ap (λ (y : Slot). y .kind) e)
+    go (inl e) = omega (arith, kind-eq e)
     go (inr h) = known-small (x .kind) (h .1 .kind)
 
 pub count-few : (x : Slot) → SlotOk x → x .count ≤ 128
 count-few x k = go (free-or-held x k)
   where
     go : (x ≡ blank) ⊎ ((isFree (x .phase) ≡ false) × HeldOk x) → x .count ≤ 128
-    go (inl e) = omega (arith, ap (λ (y : Slot). y .count) e)
+    go (inl e) = omega (arith, count-eq e)
     go (inr h) = h .1 .args .few

@@ -14,7 +14,7 @@ use Rattle.bridge_rules.specs.Opening.{Ask, opened}
 use Rattle.bridge_rules.specs.Turn.{aged, sentSlot, agedBridge, sendFor}
 use Rattle.bridge_rules.proofs.KindTests.{asked-known}
 use Rattle.bridge_rules.proofs.NumberLaws.{LawfulAsk}
-use Rattle.bridge_rules.proofs.SlotOk.{SlotOk, okFree, okReady, ready-ok}
+use Rattle.bridge_rules.proofs.SlotOk.{SlotOk, okFree, okReady, ready-ok, ticket-eq}
 use Rattle.bridge_rules.proofs.SlotChanges.{aged-same, sent-same, aged-ok, sent-ok}
 use Rattle.bridge_rules.proofs.SoundTest.{Sound}
 
@@ -131,7 +131,7 @@ fresh-sound o h = record {
 }
   where
     unheld : (k : ℕ) → slot (fresh o) k .ticket ≡ 0
-    unheld k = ap (λ (x : Slot). x .ticket) (fresh-slot o k)
+    unheld k = ticket-eq (fresh-slot o k)
 
     none : (k : ℕ) → slot (fresh o) k .ticket ≤ 0
     none k = omega (arith, unheld k)

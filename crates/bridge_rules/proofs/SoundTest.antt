@@ -12,10 +12,10 @@ use borrow.Author.Tests.{not-true, eqb-true, eqb-false, ne-eqb, eq-eqb, lt-ltb, 
 use Rattle.bridge_rules.specs.State.{Bridge, Slot, free, ready, waiting, done, gaveUp, isZero, isFree, blank, slot, asks, carries, partway, askNumber}
 use Rattle.bridge_rules.specs.State.{soundPhase, soundSlot, soundSlots, absent, distinct, sound}
 use Rattle.bridge_rules.specs.Calls.{SoundNumbers}
-use Rattle.bridge_rules.proofs.KindTests.{KnownKind, carries-alone, known-tested, tested-known}
+use Rattle.bridge_rules.proofs.KindTests.{KnownKind, carries-only, known-tested, tested-known}
 use Rattle.bridge_rules.proofs.NumberLaws.{args-lawful, args-clear}
 use Rattle.bridge_rules.proofs.Search.{and-intro, and-true, contradiction}
-use Rattle.bridge_rules.proofs.SlotOk.{HeldOk, Partway, SlotOk, okFree, okReady, okWaiting, okDone, okGaveUp, phase-small, kind-small}
+use Rattle.bridge_rules.proofs.SlotOk.{HeldOk, Partway, SlotOk, okFree, okReady, okWaiting, okDone, okGaveUp, phase-small, kind-small, ticket-eq}
 
 pub record Sound (s : Bridge) : Type 0 where
   pub own : s .own ≤ 15
@@ -210,7 +210,7 @@ module _ (t : ℕ) (x : Slot) (h : HeldTrue t x) where
         held = h .held;
         partway = partway-true x (a2 .0);
         sends = two (asks (x .kind)) few;
-        unsent = λ w. none (asks (x .kind)) (carries-alone (x .kind) w) few;
+        unsent = λ w. none (asks (x .kind)) (carries-only (x .kind) w) few;
         left = zero-true _ (a1 .1);
       })
     where
@@ -295,7 +295,7 @@ true-slot : (t : ℕ) (x : Slot) → soundSlot t x ≡ true → SlotOk x × (x .
 true-slot t x h = go (ℕ-discrete (x .phase) free)
   where
     go : Dec (x .phase ≡ free) → SlotOk x × (x .ticket ≤ t)
-    go (yes e) = let z : x ≡ blank = true-free t x e h in (okFree z, omega (arith, ap (λ (y : Slot). y .ticket) z))
+    go (yes e) = let z : x ≡ blank = true-free t x e h in (okFree z, omega (arith, ticket-eq z))
     go (no e) = let k : HeldTrue t x = true-held t x (ne-eqb (x .phase) free e) h in (true-phase t x k e, k .given)
 
 true-slots : (t : ℕ) (l : List Slot) → soundSlots t l ≡ true → (k : ℕ) → k < length l

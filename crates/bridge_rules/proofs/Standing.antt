@@ -16,7 +16,7 @@ use Rattle.bridge_rules.specs.Call.{close}
 use Rattle.bridge_rules.specs.Run.{Run, storage, state, buffer, answer, Lawful, Transfer, ticket, slotOf, Closing, Stands, ledger}
 use Rattle.bridge_rules.proofs.NumberLaws.{LawfulAsk}
 use Rattle.bridge_rules.proofs.Search.{contradiction, Lowest}
-use Rattle.bridge_rules.proofs.SlotOk.{SlotOk, okFree, okReady, okWaiting, okDone, okGaveUp, held-free, no-ticket}
+use Rattle.bridge_rules.proofs.SlotOk.{SlotOk, okFree, okReady, okWaiting, okDone, okGaveUp, held-free, no-ticket, ticket-eq}
 use Rattle.bridge_rules.proofs.SlotChanges.{Same, Aging, aging}
 use Rattle.bridge_rules.proofs.SoundStates.{slot-set-same}
 use Rattle.bridge_rules.proofs.CallCases.{CallCase, nothing, opens, sends, idles, takes, closes, resets, freeAt, isNoted, other-call}
@@ -67,27 +67,27 @@ module _ (r : Run) (w : Lawful r) (x : Transfer r) where
 -- ── a standing transfer keeps its slot ─────────────────────────────────────────────────────────────────────────────
 
 -- the slot of a transfer after n calls
-abbrev pub view : (r : Run) → Transfer r → ℕ → Slot
-view r x n = slot (state r n) (slotOf r x)
+abbrev pub slotAt : (r : Run) → Transfer r → ℕ → Slot
+slotAt r x n = slot (state r n) (slotOf r x)
 
 -- what call n does to it while its transfer stands
 abbrev pub Changes : (r : Run) → Transfer r → ℕ → Type 0
 Changes r x n = ChangeAt r n (slotOf r x)
 
 pub record Held (r : Run) (x : Transfer r) (n : ℕ) : Type 0 where
-  pub ticket : view r x n .ticket ≡ ticket r x
-  pub kind : view r x n .kind ≡ askKind (x .ask)
-  pub device : view r x n .device ≡ askDevice (x .ask)
-  pub table : view r x n .table ≡ askTable (x .ask)
-  pub offset : view r x n .offset ≡ askOffset (x .ask)
-  pub count : view r x n .count ≡ askCount (x .ask)
+  pub ticket : slotAt r x n .ticket ≡ ticket r x
+  pub kind : slotAt r x n .kind ≡ askKind (x .ask)
+  pub device : slotAt r x n .device ≡ askDevice (x .ask)
+  pub table : slotAt r x n .table ≡ askTable (x .ask)
+  pub offset : slotAt r x n .offset ≡ askOffset (x .ask)
+  pub count : slotAt r x n .count ≡ askCount (x .ask)
 
 -- at event b its slot begins at the first chunk
 pub record Begins (r : Run) (x : Transfer r) (b : ℕ) : Type 0 where
   pub since : x .at < b
-  pub phase : view r x b .phase ≡ ready
-  pub progress : view r x b .progress ≡ 0
-  pub sends : view r x b .sends ≡ 0
+  pub phase : slotAt r x b .phase ≡ ready
+  pub progress : slotAt r x b .progress ≡ 0
+  pub sends : slotAt r x b .sends ≡ 0
 
 module _ (r : Run) (w : Lawful r) (x : Transfer r) where
   pub stands-back : (m n : ℕ) → Stands r x n → x .at < m → m ≤ n → Stands r x m
@@ -97,11 +97,11 @@ module _ (r : Run) (w : Lawful r) (x : Transfer r) where
   stands-before n s l = stands-back n (suc n) s l (omega arith)
 
   -- its slot is sound
-  pub okAt : (n : ℕ) → SlotOk (view r x n)
+  pub okAt : (n : ℕ) → SlotOk (slotAt r x n)
   okAt n = storage-sound r w n .0 .each (slotOf r x) (openedAt r w x .bound)
 
-  pub agingAt : (n : ℕ) → Aging (view r x n)
-  agingAt n = aging (view r x n) (okAt n)
+  pub agingAt : (n : ℕ) → Aging (slotAt r x n)
+  agingAt n = aging (slotAt r x n) (okAt n)
 
   changes-held : (n : ℕ) → Stands r x (suc n) → x .at < n → Held r x n → Changes r x n
   changes-held n s l h = go (effectAt r w n (slotOf r x) (openedAt r w x .bound))
@@ -111,17 +111,17 @@ module _ (r : Run) (w : Lawful r) (x : Transfer r) where
 
       go : EffectAt r n (slotOf r x) → Changes r x n
       go (keeps u) = u
-      go (opensHere u) = absurd (omega (arith, no-ticket (view r x n) (okAt n) (u .free), h .ticket, openedAt r w x .ticketed))
+      go (opensHere u) = absurd (omega (arith, no-ticket (slotAt r x n) (okAt n) (u .free), h .ticket, openedAt r w x .ticketed))
       go (closesHere u) = absurd (ends (u .number, inl (u .call ∙ ap close (sym (u .has) ∙ h .ticket))))
       go (resetsHere u) = absurd (ends (u .number, inr (u .o, u .call)))
 
   opened-held : Held r x (suc (x .at))
   unfolding opened
   opened-held =
-      let e : view r x (suc (x .at)) ≡ opened (x .ask) (ticket r x) = openedAt r w x .slot in
+      let e : slotAt r x (suc (x .at)) ≡ opened (x .ask) (ticket r x) = openedAt r w x .slot in
       record { ticket = rw e; kind = rw e; device = rw e; table = rw e; offset = rw e; count = rw e }
 
-  held-next : (n : ℕ) → Held r x n → Same (view r x n) (view r x (suc n)) → Held r x (suc n)
+  held-next : (n : ℕ) → Held r x n → Same (slotAt r x n) (slotAt r x (suc n)) → Held r x (suc n)
   held-next n h e = record {
     ticket = e .ticket ∙ h .ticket;
     kind = e .kind ∙ h .kind;
@@ -145,21 +145,21 @@ module _ (r : Run) (w : Lawful r) (x : Transfer r) where
   pub changes : (n : ℕ) → Stands r x (suc n) → x .at < n → Changes r x n
   changes n s l = changes-held n s l (held n (stands-before n s l))
 
-  pub held-slot : (n : ℕ) → Stands r x n → isFree (view r x n .phase) ≡ false
-  held-slot n s = held-free (view r x n) (okAt n) (omega (arith, held n s .ticket, openedAt r w x .ticketed))
+  pub held-slot : (n : ℕ) → Stands r x n → isFree (slotAt r x n .phase) ≡ false
+  held-slot n s = held-free (slotAt r x n) (okAt n) (omega (arith, held n s .ticket, openedAt r w x .ticketed))
 
   pub opened-stands : Stands r x (suc (x .at))
   opened-stands = (omega arith, λ m p q. absurd (omega arith))
 
   -- a standing transfer that got to its count is done
-  pub full-done : (n : ℕ) → Stands r x n → askCount (x .ask) ≤ view r x n .progress → view r x n .phase ≡ done
+  pub full-done : (n : ℕ) → Stands r x n → askCount (x .ask) ≤ slotAt r x n .progress → slotAt r x n .phase ≡ done
   full-done n s full = go (okAt n)
     where
       h : Held r x n
       h = held n s
 
-      go : SlotOk (view r x n) → view r x n .phase ≡ done
-      go (okFree q) = absurd (omega (arith, ap (λ (y : Slot). y .ticket) q, h .ticket, openedAt r w x .ticketed))
+      go : SlotOk (slotAt r x n) → slotAt r x n .phase ≡ done
+      go (okFree q) = absurd (omega (arith, ticket-eq q, h .ticket, openedAt r w x .ticketed))
       go (okReady u) = absurd (omega (arith, u .partway .below, h .count))
       go (okWaiting u) = absurd (omega (arith, u .partway .below, h .count))
       go (okDone u) = u .phase
@@ -182,5 +182,5 @@ module _ (r : Run) (w : Lawful r) (x : Transfer r) where
   pub begins-open : Begins r x (suc (x .at))
   unfolding opened
   begins-open =
-      let e : view r x (suc (x .at)) ≡ opened (x .ask) (ticket r x) = openedAt r w x .slot in
+      let e : slotAt r x (suc (x .at)) ≡ opened (x .ask) (ticket r x) = openedAt r w x .slot in
       record { since = omega arith; phase = rw e; progress = rw e; sends = rw e }

@@ -32,7 +32,7 @@ use Rattle.bridge_rules.proofs.SlotOk.{ReadyOk}
 use Rattle.bridge_rules.proofs.SlotChanges.{Same, aged-same}
 use Rattle.bridge_rules.proofs.SoundRuns.{storage-sound}
 use Rattle.bridge_rules.proofs.LedgerAgrees.{own-is}
-use Rattle.bridge_rules.proofs.Standing.{view, Held, held, openedAt}
+use Rattle.bridge_rules.proofs.Standing.{slotAt, Held, held, openedAt}
 use Rattle.bridge_rules.proofs.Status.{done-is}
 use Rattle.bridge_rules.proofs.SentRequests.{sends-request, same-place, chunk-small}
 use Rattle.bridge_rules.proofs.Matching.{MatchesOk, matches-ok}
@@ -156,7 +156,7 @@ module _ (r : Run) (w : Lawful r) (x : Transfer r) (n : ℕ) (t : Timeline) (pre
       h : Held r y j
       h = held r w y j (sd .stands)
 
-      k : ReadyOk (aged (view r y j))
+      k : ReadyOk (aged (slotAt r y j))
       k = sd .ready
 
       d : Device
@@ -168,16 +168,16 @@ module _ (r : Run) (w : Lawful r) (x : Transfer r) (n : ℕ) (t : Timeline) (pre
       ownS : state r j .own ≤ 15
       ownS = storage-sound r w j .0 .own
 
-      sv : serveOf d (sentFrame (state r j .own) (slotOf r y) (aged (view r y j)) (buffer r j)) ≡ answerWith (ow .reply)
+      sv : serveOf d (sentFrame (state r j .own) (slotOf r y) (aged (slotAt r y j)) (buffer r j)) ≡ answerWith (ow .reply)
       sv = ap₂ serveOf same-device (sym (sd .is)) ∙ ow .gives
 
-      sa : Same (view r y j) (aged (view r y j))
-      sa = aged-same (view r y j)
+      sa : Same (slotAt r y j) (aged (slotAt r y j))
+      sa = aged-same (slotAt r y j)
 
-      kinds : (carries (aged (view r y j) .kind) ≡ true) ⊎ (asks (aged (view r y j) .kind) ≡ true)
+      kinds : (carries (aged (slotAt r y j) .kind) ≡ true) ⊎ (asks (aged (slotAt r y j) .kind) ≡ true)
           → Answers c m
-      kinds (inl u) = absurd (command-unanswered d (sentFrame (state r j .own) (slotOf r y) (aged (view r y j)) (buffer r j)) (ow .reply)
-          sv (ap (λ (f : Frame). idKind (f .id)) (write-is (state r j .own) (slotOf r y) (aged (view r y j)) (buffer r j) u)
+      kinds (inl u) = absurd (command-unanswered d (sentFrame (state r j .own) (slotOf r y) (aged (slotAt r y j)) (buffer r j)) (ow .reply)
+          sv (ap (λ (f : Frame). idKind (f .id)) (write-is (state r j .own) (slotOf r y) (aged (slotAt r y j)) (buffer r j) u)
           ∙ ap idKind (id-of _ _)
           ∙ kind-of-id _ cmd _ _ _ (omega (arith, k .partway .below, k .held .args .inside)) (omega arith) (omega (arith, ownS))
           (omega (arith, k .held .args .device)) (omega (arith, k .held .args .table))))
@@ -188,14 +188,14 @@ module _ (r : Run) (w : Lawful r) (x : Transfer r) (n : ℕ) (t : Timeline) (pre
           chunk = p .awaits .sent .chunk;
           turned = ow .turned;
           yields = ow .yields
-              ∙ ap some (sd .is ∙ ap (λ (i : ℕ). sentFrame (state r j .own) i (aged (view r y j)) (buffer r j)) (sp .0)
-              ∙ sends-request r w x c j (aged (view r y j)) u progress (sa .device ∙ h .device ∙ ap askDevice ask) tab off cnt);
+              ∙ ap some (sd .is ∙ ap (λ (i : ℕ). sentFrame (state r j .own) i (aged (slotAt r y j)) (buffer r j)) (sp .0)
+              ∙ sends-request r w x c j (aged (slotAt r y j)) u progress (sa .device ∙ h .device ∙ ap askDevice ask) tab off cnt);
         };
         bytes = ap brought (fo .1 .is) ∙ ow .sameBytes ∙ an .bytes ∙ same-range;
       }
         where
-          an : Answered d (state r j .own) (slotOf r y) (aged (view r y j)) (ow .reply)
-          an = answered d (state r j .own) (slotOf r y) (aged (view r y j)) (buffer r j) (ow .reply)
+          an : Answered d (state r j .own) (slotOf r y) (aged (slotAt r y j)) (ow .reply)
+          an = answered d (state r j .own) (slotOf r y) (aged (slotAt r y j)) (buffer r j) (ow .reply)
               (openedAt r w y .bound) ownS k u sv
 
           sent : Sent r y (k .partway .chunk) j
@@ -204,16 +204,16 @@ module _ (r : Run) (w : Lawful r) (x : Transfer r) (n : ℕ) (t : Timeline) (pre
             isRead = read-of (y .ask) (sa .kind ∙ h .kind) u;
             chunk = omega (arith, k .partway .at, k .partway .below, sa .count, h .count);
             turned = ow .turned;
-            yields = ow .yields ∙ ap some (sd .is ∙ sends-request r w y (k .partway .chunk) j (aged (view r y j)) u (k .partway .at)
+            yields = ow .yields ∙ ap some (sd .is ∙ sends-request r w y (k .partway .chunk) j (aged (slotAt r y j)) u (k .partway .at)
                 (sa .device ∙ h .device) (sa .table ∙ h .table) (sa .offset ∙ h .offset) (sa .count ∙ h .count));
           }
 
           sp : (slotOf r y ≡ slotOf r x) × (k .partway .chunk ≡ c)
-          sp = same-place (slotOf r y) (aged (view r y j) .progress) (k .partway .chunk) (slotOf r x) c (k .partway .at)
+          sp = same-place (slotOf r y) (aged (slotAt r y j) .progress) (k .partway .chunk) (slotOf r x) c (k .partway .at)
               (omega (arith, k .partway .at, k .partway .below, k .held .args .few)) (sm .1)
               (ap (λ (b : ℕ). b / 8) (sym (an .offset) ∙ ap idOffset (sym (ow .sameId)) ∙ fo .1 .place))
 
-          progress : aged (view r y j) .progress ≡ 8 * c
+          progress : aged (slotAt r y j) .progress ≡ 8 * c
           progress = k .partway .at ∙ ap (λ (b : ℕ). 8 * b) (sp .1)
 
           at : x .at ≡ y .at
@@ -222,17 +222,17 @@ module _ (r : Run) (w : Lawful r) (x : Transfer r) (n : ℕ) (t : Timeline) (pre
           ask : y .ask ≡ x .ask
           ask = let z : opening (y .lent) (y .ask) ≡ opening (x .lent) (x .ask) = sym (y .call) ∙ ap (r .calls) (sym at) ∙ x .call in cc
 
-          cnt : aged (view r y j) .count ≡ askCount (x .ask)
+          cnt : aged (slotAt r y j) .count ≡ askCount (x .ask)
           cnt = sa .count ∙ h .count ∙ ap askCount ask
 
-          tab : aged (view r y j) .table ≡ askTable (x .ask)
+          tab : aged (slotAt r y j) .table ≡ askTable (x .ask)
           tab = sa .table ∙ h .table ∙ ap askTable ask
 
-          off : aged (view r y j) .offset ≡ askOffset (x .ask)
+          off : aged (slotAt r y j) .offset ≡ askOffset (x .ask)
           off = sa .offset ∙ h .offset ∙ ap askOffset ask
 
-          same-range : rangeOf d (aged (view r y j) .table) (aged (view r y j) .offset + aged (view r y j) .progress)
-              (chunkLen (aged (view r y j) .count) (aged (view r y j) .progress))
+          same-range : rangeOf d (aged (slotAt r y j) .table) (aged (slotAt r y j) .offset + aged (slotAt r y j) .progress)
+              (chunkLen (aged (slotAt r y j) .count) (aged (slotAt r y j) .progress))
               ≡ take (lenOf r x c) (drop (8 * c) (range r x (t .device (t .answered m))))
           same-range = rw (tab, off, progress, cnt) (sym (range-chunk r x (t .device (t .answered m)) c (sm .0)))
 
@@ -245,7 +245,7 @@ module _ (r : Run) (w : Lawful r) (x : Transfer r) (n : ℕ) (t : Timeline) (pre
       shown-done r w x n s p e ∙ ap showing (shown-part r w x n s p dn g same
       ∙ join-all g (askCount (x .ask)) (range r x (t .device τ)) (λ c q. refl) ∙ whole-range r x (t .device τ))
     where
-      dn : view r x n .phase ≡ done
+      dn : slotAt r x n .phase ≡ done
       dn = done-is r w x n s .0 e
 
       g : ℕ → List ℕ

@@ -28,7 +28,7 @@ use Rattle.bridge_rules.proofs.SoundTest.{Sound, sound-true, true-sound
 use Rattle.bridge_rules.proofs.SoundStates.{slot-aged, aged-sound}
 use Rattle.bridge_rules.proofs.CallCases.{readyAt}
 use Rattle.bridge_rules.proofs.SlotEffects.{distance, distance-small, distance-is}
-use Rattle.bridge_rules.proofs.Standing.{view, Held, held}
+use Rattle.bridge_rules.proofs.Standing.{slotAt, Held, held}
 use Rattle.bridge_rules.proofs.SentRequests.{sends-request}
 use Rattle.bridge_rules.proofs.SlotHolders.{Sender, sender}
 use Rattle.bridge_rules.proofs.WrittenInOrder.{written-so-far, sends-write}
@@ -184,7 +184,7 @@ sends-for-transfers r w j f a e = record {
   served = sd .served;
   c = sd .ready .partway .chunk;
   chunk = omega (arith, sd .ready .partway .at, sd .ready .partway .below, sa .count, h .count);
-  asks = λ q. sd .is ∙ sends-request r w y (sd .ready .partway .chunk) j (aged (view r y j))
+  asks = λ q. sd .is ∙ sends-request r w y (sd .ready .partway .chunk) j (aged (slotAt r y j))
       (asks-of (y .ask) (sa .kind ∙ h .kind) q) (sd .ready .partway .at)
       (sa .device ∙ h .device) (sa .table ∙ h .table) (sa .offset ∙ h .offset) (sa .count ∙ h .count);
   carries = λ q. sd .is ∙ sends-write r w y q j h (written-so-far r w y q j (sd .stands)) (sd .ready);
@@ -199,5 +199,5 @@ sends-for-transfers r w j f a e = record {
     h : Held r y j
     h = held r w y j (sd .stands)
 
-    sa : Same (view r y j) (aged (view r y j))
-    sa = aged-same (view r y j)
+    sa : Same (slotAt r y j) (aged (slotAt r y j))
+    sa = aged-same (slotAt r y j)

@@ -16,24 +16,24 @@ use Rattle.bridge_rules.specs.Opening.{Ask, read, write, opened, isWrite
 use Rattle.bridge_rules.specs.Turn.{outgoing, aged, sentFrame, writeFrame}
 use Rattle.bridge_rules.specs.Run.{Run, state, buffer, Lawful, Transfer, slotOf, Stands, chunks, lenOf}
 use Rattle.bridge_rules.specs.Replies.{commandFrame, Wrote, AllWritten}
-use Rattle.bridge_rules.proofs.KindTests.{kinds-clash, carries-of}
+use Rattle.bridge_rules.proofs.KindTests.{one-kind, carries-of}
 use Rattle.bridge_rules.proofs.FrameLaws.{len-inside}
 use Rattle.bridge_rules.proofs.Search.{none-some, contradiction}
 use Rattle.bridge_rules.proofs.BufferParts.{getD-sets-in}
-use Rattle.bridge_rules.proofs.SlotOk.{ReadyOk}
+use Rattle.bridge_rules.proofs.SlotOk.{ReadyOk, progress-eq}
 use Rattle.bridge_rules.proofs.SlotChanges.{Same, aged-same, aged-progress, sent-write, advanced-progress}
 use Rattle.bridge_rules.proofs.SlotEffects.{unchanged, ages, served, taken}
 use Rattle.bridge_rules.proofs.SoundRuns.{storage-sound, UnservedAt, ServedAt}
 use Rattle.bridge_rules.proofs.LedgerAgrees.{own-is}
-use Rattle.bridge_rules.proofs.Standing.{full-done, openedAt, view, Changes, changes, Held, held, along-from, stands-back}
+use Rattle.bridge_rules.proofs.Standing.{full-done, openedAt, slotAt, Changes, changes, Held, held, along-from, stands-back}
 
 -- what a write's slot says of the calls before
 pub record WrittenSoFar (r : Run) (x : Transfer r) (n : ℕ) : Type 0 where
   pub bytes : (i : ℕ) → i < askCount (x .ask) → getD (buffer r n) (128 * slotOf r x + i) 0 ≡ getD (askGiven (x .ask)) i 0
   pub j : ℕ → ℕ
-  pub wrote : (c : ℕ) → 8 * c < view r x n .progress → Wrote r x c (j c)
-  pub before : (c : ℕ) → 8 * c < view r x n .progress → j c < n
-  pub order : (c : ℕ) → 8 * suc c < view r x n .progress → j c < j (suc c)
+  pub wrote : (c : ℕ) → 8 * c < slotAt r x n .progress → Wrote r x c (j c)
+  pub before : (c : ℕ) → 8 * c < slotAt r x n .progress → j c < n
+  pub order : (c : ℕ) → 8 * suc c < slotAt r x n .progress → j c < j (suc c)
 
 given-count : (a : Ask) → isWrite a ≡ true → askCount a ≡ length (askGiven a)
 given-count (read d t o n) e = absurd (false≢true e)
@@ -65,18 +65,18 @@ module _ (r : Run) (w : Lawful r) (x : Transfer r) (wr : isWrite (x .ask) ≡ tr
   lg = given-count (x .ask) wr
 
   -- a write's slot sends the CMD of its current chunk
-  pub sends-write : (n : ℕ) → Held r x n → WrittenSoFar r x n → (c : ReadyOk (aged (view r x n)))
-      → sentFrame (state r n .own) (slotOf r x) (aged (view r x n)) (buffer r n) ≡ commandFrame r x (c .partway .chunk) n
+  pub sends-write : (n : ℕ) → Held r x n → WrittenSoFar r x n → (c : ReadyOk (aged (slotAt r x n)))
+      → sentFrame (state r n .own) (slotOf r x) (aged (slotAt r x n)) (buffer r n) ≡ commandFrame r x (c .partway .chunk) n
   sends-write n h p c =
-      sends-command r w x (c .partway .chunk) n (aged (view r x n))
+      sends-command r w x (c .partway .chunk) n (aged (slotAt r x n))
       (carries-of (x .ask) (same .kind ∙ h .kind) wr) (c .partway .at) (same .device ∙ h .device)
       (same .table ∙ h .table) (same .offset ∙ h .offset) (same .count ∙ h .count)
       (take-same (buffer r n) (askGiven (x .ask)) (128 * slotOf r x + 8 * c .partway .chunk) (8 * c .partway .chunk) (lenOf r x (c .partway .chunk))
       (omega (arith, storage-sound r w n .1, openedAt r w x .bound, few, len-inside (askCount (x .ask)) (8 * c .partway .chunk) inside))
       (omega (arith, lg, len-inside (askCount (x .ask)) (8 * c .partway .chunk) inside)) bytes)
     where
-      same : Same (view r x n) (aged (view r x n))
-      same = aged-same (view r x n)
+      same : Same (slotAt r x n) (aged (slotAt r x n))
+      same = aged-same (slotAt r x n)
 
       inside : 8 * c .partway .chunk < askCount (x .ask)
       inside = omega (arith, c .partway .at, c .partway .below, same .count, h .count)
@@ -90,12 +90,12 @@ module _ (r : Run) (w : Lawful r) (x : Transfer r) (wr : isWrite (x .ask) ≡ tr
 
   -- a turn that serves it moves it on by one chunk
   served-progress : (n : ℕ) → Held r x n → ServedAt r n (slotOf r x)
-      → view r x (suc n) .progress ≡ min (view r x n .progress + 8) (askCount (x .ask))
+      → slotAt r x (suc n) .progress ≡ min (slotAt r x n .progress + 8) (askCount (x .ask))
   served-progress n h v =
-      let same : Same (view r x n) (aged (view r x n)) = aged-same (view r x n) in
-      ap (λ (y : Slot). y .progress) (v .after ∙ sent-write (aged (view r x n)) (carries-of (x .ask) (same .kind ∙ h .kind) wr))
-      ∙ advanced-progress (aged (view r x n))
-      ∙ ap₂ (λ (a b : ℕ). min (a + 8) b) (aged-progress (view r x n)) (same .count ∙ h .count)
+      let same : Same (slotAt r x n) (aged (slotAt r x n)) = aged-same (slotAt r x n) in
+      progress-eq (v .after ∙ sent-write (aged (slotAt r x n)) (carries-of (x .ask) (same .kind ∙ h .kind) wr))
+      ∙ advanced-progress (aged (slotAt r x n))
+      ∙ ap₂ (λ (a b : ℕ). min (a + 8) b) (aged-progress (slotAt r x n)) (same .count ∙ h .count)
 
   written-served : (n : ℕ) → x .at < n → Held r x n → ServedAt r n (slotOf r x) → WrittenSoFar r x n → WrittenSoFar r x (suc n)
   written-served n l h v p = record {
@@ -110,10 +110,10 @@ module _ (r : Run) (w : Lawful r) (x : Transfer r) (wr : isWrite (x .ask) ≡ tr
       now : ℕ
       now = v .ready .partway .chunk
 
-      at : view r x n .progress ≡ 8 * now
-      at = sym (aged-progress (view r x n)) ∙ v .ready .partway .at
+      at : slotAt r x n .progress ≡ 8 * now
+      at = sym (aged-progress (slotAt r x n)) ∙ v .ready .partway .at
 
-      grown : view r x (suc n) .progress ≡ min (view r x n .progress + 8) (askCount (x .ask))
+      grown : slotAt r x (suc n) .progress ≡ min (slotAt r x n .progress + 8) (askCount (x .ask))
       grown = served-progress n h v
 
       j′ : ℕ → ℕ
@@ -128,15 +128,15 @@ module _ (r : Run) (w : Lawful r) (x : Transfer r) (wr : isWrite (x .ask) ≡ tr
       this : Wrote r x now n
       this = record { since = l; turned = v .turned; served = v .last; yields = v .yields ∙ ap some (sends-write n h p (v .ready)) }
 
-      wrote : (k : ℕ) → 8 * k < view r x (suc n) .progress → Dec (k ≡ now) → Wrote r x k (j′ k)
+      wrote : (k : ℕ) → 8 * k < slotAt r x (suc n) .progress → Dec (k ≡ now) → Wrote r x k (j′ k)
       wrote k q (yes u) = subst (λ (a : ℕ). Wrote r x a (j′ a)) (sym u) (subst (λ (a : ℕ). Wrote r x now a) (sym now-at) this)
       wrote k q (no u) = subst (λ (a : ℕ). Wrote r x k a) (sym (old-at k u)) (p .wrote k (omega (arith, q, grown, at)))
 
-      before : (k : ℕ) → 8 * k < view r x (suc n) .progress → Dec (k ≡ now) → j′ k < suc n
+      before : (k : ℕ) → 8 * k < slotAt r x (suc n) .progress → Dec (k ≡ now) → j′ k < suc n
       before k q (yes u) = omega (arith, ap j′ u ∙ now-at)
       before k q (no u) = omega (arith, old-at k u, p .before k (omega (arith, q, grown, at)))
 
-      order : (k : ℕ) → 8 * suc k < view r x (suc n) .progress → Dec (suc k ≡ now) → j′ k < j′ (suc k)
+      order : (k : ℕ) → 8 * suc k < slotAt r x (suc n) .progress → Dec (suc k ≡ now) → j′ k < j′ (suc k)
       order k q (yes u) =
           omega (arith, ap j′ u ∙ now-at, old-at k (λ z. omega (arith, q, grown, at, z)), p .before k (omega (arith, at, u)))
       order k q (no u) =
@@ -151,8 +151,8 @@ module _ (r : Run) (w : Lawful r) (x : Transfer r) (wr : isWrite (x .ask) ≡ tr
     order = λ k q. p .order k (rw (v .after) at q);
   }
   written-step n s l h (ages v) p =
-      let z : view r x (suc n) .progress ≡ view r x n .progress
-      = ap (λ (y : Slot). y .progress) (v .after) ∙ aged-progress (view r x n) in
+      let z : slotAt r x (suc n) .progress ≡ slotAt r x n .progress
+      = progress-eq (v .after) ∙ aged-progress (slotAt r x n) in
       record {
         bytes = λ i q. ap (λ (b : List ℕ). getD b (128 * slotOf r x + i) 0) (v .kept) ∙ p .bytes i q;
         j = p .j;
@@ -161,12 +161,12 @@ module _ (r : Run) (w : Lawful r) (x : Transfer r) (wr : isWrite (x .ask) ≡ tr
         order = λ k q. p .order k (rw z at q);
       }
   written-step n s l h (served v) p = written-served n l h v p
-  written-step n s l h (taken v) p = kinds-clash (view r x n .kind) (carries-of (x .ask) (h .kind) wr) (v .waits .asking)
+  written-step n s l h (taken v) p = one-kind (slotAt r x n .kind) (carries-of (x .ask) (h .kind) wr) (v .waits .asking)
 
   base : WrittenSoFar r x (suc (x .at))
   unfolding opened
   base =
-      let e : view r x (suc (x .at)) .progress ≡ 0 = ap (λ (y : Slot). y .progress) (openedAt r w x .slot) in
+      let e : slotAt r x (suc (x .at)) .progress ≡ 0 = progress-eq (openedAt r w x .slot) in
       record {
         bytes = λ i q. ap (λ (b : List ℕ). getD b (128 * slotOf r x + i) 0) (openedAt r w x .given)
             ∙ getD-sets-in (buffer r (x .at)) (128 * slotOf r x) (askGiven (x .ask)) i
@@ -182,7 +182,7 @@ module _ (r : Run) (w : Lawful r) (x : Transfer r) (wr : isWrite (x .ask) ≡ tr
 
   -- a turn that served the slot moved it on
   served-grows : (c j n : ℕ) → Wrote r x c j → j < n → Stands r x n
-      → view r x (suc j) .progress ≡ min (view r x j .progress + 8) (askCount (x .ask))
+      → slotAt r x (suc j) .progress ≡ min (slotAt r x j .progress + 8) (askCount (x .ask))
   served-grows c j n q l s = go (changes r w x j (stands-back r w x (suc j) n s (omega (arith, q .since)) l) (q .since))
     where
       h : Held r x j
@@ -192,45 +192,45 @@ module _ (r : Run) (w : Lawful r) (x : Transfer r) (wr : isWrite (x .ask) ≡ tr
       unserved (inl u) = none-some (sym (u .silent) ∙ q .yields)
       unserved (inr u) = u .apart (sym (u .last) ∙ q .served)
 
-      go : Changes r x j → view r x (suc j) .progress ≡ min (view r x j .progress + 8) (askCount (x .ask))
+      go : Changes r x j → slotAt r x (suc j) .progress ≡ min (slotAt r x j .progress + 8) (askCount (x .ask))
       go (unchanged v) = contradiction (q .turned) (v .noTurn)
       go (ages v) = absurd (unserved (v .unserved))
       go (served v) = served-progress j h v
       go (taken v) = contradiction (q .turned) (v .noTurn)
 
   -- while it carries, its progress grows
-  carry-grows : (n : ℕ) → Held r x n → Changes r x n → view r x n .progress ≤ view r x (suc n) .progress
-  carry-grows n h (unchanged v) = omega (arith, ap (λ (y : Slot). y .progress) (v .after))
-  carry-grows n h (ages v) = omega (arith, ap (λ (y : Slot). y .progress) (v .after), aged-progress (view r x n))
+  carry-grows : (n : ℕ) → Held r x n → Changes r x n → slotAt r x n .progress ≤ slotAt r x (suc n) .progress
+  carry-grows n h (unchanged v) = omega (arith, progress-eq (v .after))
+  carry-grows n h (ages v) = omega (arith, progress-eq (v .after), aged-progress (slotAt r x n))
   carry-grows n h (served v) =
-      omega (arith, served-progress n h v, aged-progress (view r x n), v .ready .partway .below, aged-same (view r x n) .count, h .count)
-  carry-grows n h (taken v) = kinds-clash (view r x n .kind) (carries-of (x .ask) (h .kind) wr) (v .waits .asking)
+      omega (arith, served-progress n h v, aged-progress (slotAt r x n), v .ready .partway .below, aged-same (slotAt r x n) .count, h .count)
+  carry-grows n h (taken v) = one-kind (slotAt r x n .kind) (carries-of (x .ask) (h .kind) wr) (v .waits .asking)
 
-  progress-le : (m n : ℕ) → x .at < m → m ≤ n → Stands r x n → view r x m .progress ≤ view r x n .progress
-  progress-le m n at = along-from r w x m at (λ k. view r x m .progress ≤ view r x k .progress) (omega arith)
+  progress-le : (m n : ℕ) → x .at < m → m ≤ n → Stands r x n → slotAt r x m .progress ≤ slotAt r x n .progress
+  progress-le m n at = along-from r w x m at (λ k. slotAt r x m .progress ≤ slotAt r x k .progress) (omega arith)
       (λ k s l h v p. omega (arith, p, carry-grows k h v)) n
 
   -- after the turn that yielded chunk c the progress is past it
   passed : (n : ℕ) → Stands r x n → (a : AllWritten r x n) → (c : ℕ) → c < chunks r x
-      → min (8 * c + 8) (askCount (x .ask)) ≤ view r x (suc (a .j c)) .progress
+      → min (8 * c + 8) (askCount (x .ask)) ≤ slotAt r x (suc (a .j c)) .progress
   passed n s a zero l =
       let e = served-grows zero (a .j zero) n (a .wrote zero l) (a .before zero l) s in
       omega (arith, e)
   passed n s a (suc c) l =
       let l′ : c < chunks r x = omega arith in
       let e = served-grows (suc c) (a .j (suc c)) n (a .wrote (suc c) l) (a .before (suc c) l) s in
-      let m : view r x (suc (a .j c)) .progress ≤ view r x (a .j (suc c)) .progress
+      let m : slotAt r x (suc (a .j c)) .progress ≤ slotAt r x (a .j (suc c)) .progress
       = progress-le (suc (a .j c)) (a .j (suc c)) (omega (arith, a .wrote c l′ .since)) (a .order c l)
       (stands-back r w x (a .j (suc c)) n s (a .wrote (suc c) l .since) (omega (arith, a .before (suc c) l))) in
       omega (arith, e, m, passed n s a c l′)
 
-  pub all-written-done : (n : ℕ) → Stands r x n → AllWritten r x n → view r x n .phase ≡ done
+  pub all-written-done : (n : ℕ) → Stands r x n → AllWritten r x n → slotAt r x n .phase ≡ done
   all-written-done n s a = full-done r w x n s full
     where
       last : chunks r x - 1 < chunks r x
       last = omega (arith, openedAt r w x .law .some)
 
-      full : askCount (x .ask) ≤ view r x n .progress
+      full : askCount (x .ask) ≤ slotAt r x n .progress
       full = omega (
         arith,
         passed n s a (chunks r x - 1) last,
@@ -239,7 +239,7 @@ module _ (r : Run) (w : Lawful r) (x : Transfer r) (wr : isWrite (x .ask) ≡ tr
             (a .before (chunks r x - 1) last) s,
       )
 
-  pub done-all-written : (n : ℕ) → Stands r x n → view r x n .progress ≡ askCount (x .ask) → AllWritten r x n
+  pub done-all-written : (n : ℕ) → Stands r x n → slotAt r x n .progress ≡ askCount (x .ask) → AllWritten r x n
   done-all-written n s e =
       let d : WrittenSoFar r x n = written-so-far n s in
       record {
