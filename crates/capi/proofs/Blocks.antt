@@ -6,9 +6,9 @@ use mathlib.Core.Logic.{⊎-elim}
 use native.Mathlib.Omega.{arith}
 use types.Run.{OneOf}
 use denote.Enum.Declared.{tagOf}
-use Rattle.mlgfile.specs.declared.Block.{Block as MlgEnum}
-use Rattle.mlgfile.specs.declared.Block.the-variants as MB
-use Rattle.mlgfile.proofs.Block as mlg-block
+use Rattle.mlg_rules.specs.declared.Block.{Block as MlgEnum}
+use Rattle.mlg_rules.specs.declared.Block.the-variants as MB
+use Rattle.mlg_rules.proofs.Block as mlg-block
 use Rattle.frd.specs.declared.Block.{Block as FrdEnum}
 use Rattle.frd.specs.declared.Block.the-variants as FB
 use Rattle.frd.proofs.Block as frd-block

@@ -3,14 +3,17 @@ ghost use mathlib.Core.Path.{_≡_};
 ghost use Prim.Native.Nat.{_+_, _<_, _≤_, _^_};
 ghost use lib.ListN.{length, getD};
 ghost use Rattle.wire.specs.Text.{textLen};
-ghost use Rattle.mlgfile.specs.Block.{counterOf, blockLen, textIn, lastOf, blockNumber, partsOf, blockOf};
+ghost use Rattle.mlg_rules.specs.Block.{counterAfter, blockLen, textIn, lastOf, restNumber, partsOf, blockOf};
 use crate::Block;
+
+// A block's counter is the number of earlier blocks, modulo this.
+const COUNTER_MODULUS: u64 = 255;
 
 // The counter of a block after the given number of earlier blocks.
 pub(crate) fn counter_of(earlier: u64) -> u8
-    ensures { λ r. ⌜ r ≡ counterOf earlier ⌝ }
+    ensures { λ r. ⌜ r ≡ counterAfter earlier ⌝ }
 {
-    (earlier % 255) as u8
+    (earlier % COUNTER_MODULUS) as u8
 }
 
 // Bytes of a block of a type, 0 for a type that is unknown.
@@ -59,7 +62,7 @@ pub(crate) fn text_number(t: &[u8], size: u16) -> u8
 // The number that refuses the block at the start of t, or 0.
 pub(crate) fn block_number(t: &[u8], size: u16) -> u8
     requires { ⌜ 0 < length (now t) ⌝ }
-    ensures { λ r. ⌜ r ≡ blockNumber size (now (t .entry)) ⌝ }
+    ensures { λ r. ⌜ r ≡ restNumber size (now (t .entry)) ⌝ }
 {
     let kind = t[0];
     let len = block_len(kind, size);
@@ -77,19 +80,19 @@ pub(crate) fn block_number(t: &[u8], size: u16) -> u8
 
 // The parts of the block at the start of t, which stands at a place of its file.
 pub(crate) fn block_parts(t: &[u8], size: u16, counter: u8, at: usize) -> Block
-    requires { ⌜ (0 < length (now t)) × (blockNumber size (now t) ≡ 0) × (at < 2 ^ 63) ⌝ }
+    requires { ⌜ (0 < length (now t)) × (restNumber size (now t) ≡ 0) × (at < 2 ^ 63) ⌝ }
     ensures { λ r. ⌜ r ≡ partsOf (getD (now (t .entry)) 0 0) counter at (now (t .entry)) ⌝ }
 {
     let own = t[1];
     let time = wire::be16(t, 2);
-    let right = own == counter;
+    let as_expected = own == counter;
     let kind = t[0];
     if kind == 0 {
         return Block::Data {
             counter: own,
             time,
             start: at + 4,
-            right,
+            as_expected,
         };
     }
     let len = mark_len(t);
@@ -98,7 +101,7 @@ pub(crate) fn block_parts(t: &[u8], size: u16, counter: u8, at: usize) -> Block
         time,
         start: at + 4,
         len,
-        right,
+        as_expected,
     }
 }
 

@@ -3,7 +3,7 @@ ghost use mathlib.Core.Path.{_≡_};
 ghost use Prim.Native.Nat.{_+_, _≤_};
 ghost use lib.ListN.{length};
 ghost use Rattle.wire.specs.Writer.{leaves};
-ghost use Rattle.mlgfile.specs.Writing.{startBytes, dataBytes, padded, markBytes, dataNumber, markNumber};
+ghost use Rattle.mlg_rules.specs.Writing.{startBytes, dataBytes, paddedText, markBytes, writeDataNumber, writeMarkNumber};
 
 // The first four bytes of a block.
 pub(crate) fn start_bytes(kind: u8, counter: u8, time: u16) -> [u8; 4]
@@ -14,7 +14,7 @@ pub(crate) fn start_bytes(kind: u8, counter: u8, time: u16) -> [u8; 4]
 }
 
 pub(crate) fn data_number(size: u16, bytes: &[u8], room: usize) -> u8
-    ensures { λ r. ⌜ r ≡ dataNumber size (now (bytes .entry)) room ⌝ }
+    ensures { λ r. ⌜ r ≡ writeDataNumber size (now (bytes .entry)) room ⌝ }
 {
     if bytes.len() != size as usize {
         return 23;
@@ -39,7 +39,7 @@ pub(crate) fn put_data(out: &mut [u8], counter: u8, time: u16, bytes: &[u8])
 // A mark's 50 bytes of text, zero-padded.
 pub(crate) fn padded_text(text: &[u8]) -> [u8; 50]
     requires { ⌜ length (now text) ≤ 50 ⌝ }
-    ensures { λ r. ⌜ r ≡ padded (now (text .entry)) ⌝ }
+    ensures { λ r. ⌜ r ≡ paddedText (now (text .entry)) ⌝ }
 {
     let mut pad = [0u8; 50];
     wire::put(&mut pad, 0, text);
@@ -47,7 +47,7 @@ pub(crate) fn padded_text(text: &[u8]) -> [u8; 50]
 }
 
 pub(crate) fn mark_number(text: &[u8], room: usize) -> u8
-    ensures { λ r. ⌜ r ≡ markNumber (now (text .entry)) room ⌝ }
+    ensures { λ r. ⌜ r ≡ writeMarkNumber (now (text .entry)) room ⌝ }
 {
     if 49 < text.len() {
         return 28;

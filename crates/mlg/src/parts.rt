@@ -1,6 +1,7 @@
 // Parts of a file as places and lengths.
 ghost use mathlib.Core.Path.{_≡_};
-ghost use Rattle.mlgfile.specs.Parts.{namesEnd, spanOf};
+ghost use Rattle.wire.specs.Log.{spanOf};
+ghost use Rattle.mlg_rules.specs.Parts.{namesEnd};
 use crate::Header;
 use crate::Span;
 

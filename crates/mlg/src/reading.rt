@@ -2,9 +2,9 @@
 ghost use mathlib.Core.Path.{_≡_};
 ghost use lib.ListN.{length};
 ghost use Rattle.wire.specs.BigEndian.{beAt};
-ghost use Rattle.field.specs.Layout.{infoLen};
-ghost use Rattle.mlgfile.specs.Fields.{fieldsNumber, sizes};
-ghost use Rattle.mlgfile.specs.Header.{numbersOf, fieldsEnd, nameNumber, placesNumber, lastNumber, fieldsFrom, areaIn, headNumber};
+ghost use Rattle.mlg_rules.specs.Layout.{infoLen};
+ghost use Rattle.mlg_rules.specs.Fields.{fieldsNumber, sizes};
+ghost use Rattle.mlg_rules.specs.Header.{numbersOf, fieldsEnd, nameNumber, placesNumber, lastNumber, fieldsFrom, areaIn, readHeaderNumber};
 use crate::Header;
 use crate::fields::Checked;
 use crate::fields::check_fields;
@@ -48,7 +48,7 @@ pub(crate) fn name_number(file: &[u8]) -> u8
     if wire::be48(file, 0) != 0x4D4C564C4700 {
         return 21;
     }
-    if field::is_served(wire::be16(file, 6)) {
+    if mlg_values::is_served(wire::be16(file, 6)) {
         0
     } else {
         22
@@ -129,7 +129,7 @@ pub(crate) fn last_number(file: &[u8], h: Header, total: usize) -> u8
 
 // The number that refuses a file's header, or 0.
 pub(crate) fn head_number(file: &[u8]) -> u8
-    ensures { λ r. ⌜ r ≡ headNumber (now (file .entry)) ⌝ }
+    ensures { λ r. ⌜ r ≡ readHeaderNumber (now (file .entry)) ⌝ }
 {
     let a = name_number(file);
     if a != 0 {

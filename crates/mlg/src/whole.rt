@@ -1,9 +1,9 @@
 // The blocks of a log, one after the other.
 ghost use mathlib.Core.Path.{_≡_};
 ghost use Prim.Native.Nat.{ℕ};
-ghost use Rattle.mlgfile.specs.Header.{headAnswer};
-ghost use Rattle.mlgfile.specs.Block.{blockAnswer};
-ghost use Rattle.mlgfile.specs.Log.{logOf, tallyOf};
+ghost use Rattle.mlg_rules.specs.Header.{headAnswer};
+ghost use Rattle.mlg_rules.specs.Block.{blockAnswer};
+ghost use Rattle.mlg_rules.specs.Log.{logOf, tallyOf};
 use crate::Block;
 use crate::Head;
 use crate::Tally;
@@ -18,14 +18,14 @@ pub(crate) fn stop_number(b: Block) -> u8
             counter: _,
             time: _,
             start: _,
-            right: _,
+            as_expected: _,
         } => 0,
         Block::Mark {
             counter: _,
             time: _,
             start: _,
             len: _,
-            right: _,
+            as_expected: _,
         } => 0,
         Block::End => 0,
         Block::Refused { number, place: _ } => number,
@@ -44,14 +44,14 @@ pub(crate) fn count_from(file: &[u8], size: u16, begin: usize) -> Tally
             counter: _,
             time: _,
             start: _,
-            right: _,
+            as_expected: _,
         }
         | Block::Mark {
             counter: _,
             time: _,
             start: _,
             len: _,
-            right: _,
+            as_expected: _,
         }) = b
         else {
             return Tally {

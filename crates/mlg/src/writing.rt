@@ -2,13 +2,13 @@
 ghost use mathlib.Core.Path.{_≡_};
 ghost use Prim.Native.Nat.{_+_, _*_, _≤_};
 ghost use lib.ListN.{length};
-ghost use Rattle.field.specs.Layout.{headerLen, fieldLen};
-ghost use Rattle.mlgfile.specs.Area.{ended, areaOf, infoStart};
-ghost use Rattle.mlgfile.specs.Fields.{sizes};
+ghost use Rattle.mlg_rules.specs.Layout.{headerLen, fieldLen};
+ghost use Rattle.mlg_rules.specs.Area.{ended, areaOf, infoStart};
+ghost use Rattle.mlg_rules.specs.Fields.{sizes};
 ghost use Rattle.wire.specs.Put.{putOf};
 ghost use Rattle.wire.specs.Writer.{leaves};
-ghost use Rattle.mlgfile.specs.Header.{bodyNumber};
-ghost use Rattle.mlgfile.specs.Writing.{numberBytes, headerFor, headerBytes, lengthsNumber, headerNumber};
+ghost use Rattle.mlg_rules.specs.Header.{bodyNumber};
+ghost use Rattle.mlg_rules.specs.Writing.{numberBytes, headerFor, headerBytes, lengthsNumber, writeHeaderNumber};
 use crate::Header;
 use crate::fields::check_fields;
 use crate::layout::field_len;
@@ -40,7 +40,7 @@ pub(crate) fn sizes_of(version: u16, fields: &[u8], count: u16) -> usize
     let mut left = count as usize;
     let mut total: usize = 0;
     while left != 0 {
-        total += field::size_of(fields[at]) as usize;
+        total += mlg_values::size_of(fields[at]) as usize;
         at += len;
         left -= 1;
     }
@@ -101,7 +101,7 @@ pub(crate) fn header_number(
     info: &[u8],
     room: usize,
 ) -> u8
-    ensures { λ r. ⌜ r ≡ headerNumber version time (now (fields .entry)) (now (names .entry)) (now (info .entry)) room ⌝ }
+    ensures { λ r. ⌜ r ≡ writeHeaderNumber version time (now (fields .entry)) (now (names .entry)) (now (info .entry)) room ⌝ }
 {
     let a = lengths_number(version, fields, names, info);
     if a != 0 {

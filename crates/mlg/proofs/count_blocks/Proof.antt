@@ -2,8 +2,8 @@ use borrow.Author.Needs.{needs}
 use Rattle.mlg.proofs.count_blocks.Statement.{statement}
 use Rattle.mlg.proofs.count_blocks.Tie as tie
 use mathlib.Core.Path.{sym, _∙_}
-use Rattle.mlgfile.proofs.Logs.{log-placed}
-use Rattle.mlgfile.proofs.Tallies.{head-stop, head-go}
+use Rattle.mlg_rules.proofs.Logs.{log-placed}
+use Rattle.mlg_rules.proofs.Tallies.{head-stop, head-go}
 
 read-header-requires : tie.Need-read-header-requires
 read-header-requires c κs = search needs

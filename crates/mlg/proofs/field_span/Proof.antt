@@ -6,11 +6,11 @@ use native.Mathlib.Omega.{arith}
 use borrow.Author.Tests.{le-leb, lt-leb}
 use lib.ListN.{length}
 use Rattle.wire.proofs.Orders.{else-some, else-none, if-yes, if-no}
-use Rattle.field.specs.Layout.{fieldLen}
-use Rattle.mlgfile.specs.declared.Header.{Header}
-use Rattle.mlgfile.specs.Parts.{fieldSpan}
-use Rattle.mlgfile.proofs.Layouts.{header-most, fields-most}
-use Rattle.mlgfile.proofs.Spans.{refused, given, placed-in, field-fits}
+use Rattle.mlg_rules.specs.Layout.{fieldLen}
+use Rattle.mlg_rules.specs.declared.Header.{Header}
+use Rattle.mlg_rules.specs.Parts.{fieldSpanOf}
+use Rattle.mlg_rules.proofs.Layouts.{header-most, fields-most}
+use Rattle.mlg_rules.proofs.Spans.{refused, given, placed-in, field-fits}
 
 head-number-requires : tie.Need-head-number-requires
 head-number-requires c κs = search needs
@@ -19,7 +19,7 @@ part-requires : tie.Need-part-requires
 part-requires c κs = search needs
 
 returns : tie.Need-returns
-unfolding fieldSpan
+unfolding fieldSpanOf
 returns c = refused _ _ _ _ _ _ (c .before .before .before .before .args .file .now) (c .part .ensures) (else-some _ _ _ (c .before .before .head-number .ensures) (c .before .if1 .taken)) (c .before .if1 .taken)
 
 numbers-requires : tie.Need-numbers-requires
@@ -29,7 +29,7 @@ part-requires-2 : tie.Need-part-requires-2
 part-requires-2 c κs = search needs
 
 returns-2 : tie.Need-returns-2
-unfolding fieldSpan
+unfolding fieldSpanOf
 returns-2 c = let k = rw (c .before .before .before .numbers .ensures) at (c .before .if2 .taken) in
     refused _ _ _ 23 _ _ (c .before .before .before .before .before .before .before .args .file .now) (c .part2 .ensures) (else-none _ _ 23 _ (c .before .before .before .before .before .head-number .ensures) (c .before .before .before .before .if1 .left) (if-yes 23 _ 0 (le-leb _ _ k))) (λ z. omega arith)
 
@@ -49,7 +49,7 @@ part-requires-3 : tie.Need-part-requires-3
 part-requires-3 c κs = search needs
 
 returns-3 : tie.Need-returns-3
-unfolding fieldSpan
+unfolding fieldSpanOf
 returns-3 c = let k = rw (c .before .before .before .before .before .numbers .ensures) at (c .before .before .before .if2 .left) in
     let e = c .before .before .field-len .ensures ∙ ap (λ (h : Header). fieldLen (h .version)) (c .before .before .before .before .before .numbers .ensures) in
     let f = field-fits (length (c .before .before .before .before .before .before .before .before .before .args .file .now)) _ (c .before .before .before .before .before .before .before .before .before .args .index) (placed-in (c .before .before .before .before .before .before .before .before .before .args .file .now) (sym (c .before .before .before .before .before .before .before .head-number .ensures) ∙ c .before .before .before .before .before .before .if1 .left)) k in

@@ -6,9 +6,9 @@ use Prim.Native.Nat.{_-_}
 use native.Mathlib.Omega.{arith}
 use Rattle.wire.specs.Text.{textLen}
 use Rattle.wire.proofs.Parts.{tail-part}
-use Rattle.mlgfile.specs.declared.Header.{Header}
-use Rattle.mlgfile.specs.Parts.{infoSpan, infoLength}
-use Rattle.mlgfile.proofs.Spans.{refused, given, placed-in, info-none, info-some, info-fits}
+use Rattle.mlg_rules.specs.declared.Header.{Header}
+use Rattle.mlg_rules.specs.Parts.{infoSpanOf, infoLength}
+use Rattle.mlg_rules.proofs.Spans.{refused, given, placed-in, info-none, info-some, info-fits}
 
 head-number-requires : tie.Need-head-number-requires
 head-number-requires c κs = search needs
@@ -17,7 +17,7 @@ part-requires : tie.Need-part-requires
 part-requires c κs = search needs
 
 returns : tie.Need-returns
-unfolding infoSpan
+unfolding infoSpanOf
 returns c = refused _ _ _ _ _ _ (c .before .before .before .before .args .file .now) (c .part .ensures) (c .before .before .head-number .ensures) (c .before .if1 .taken)
 
 numbers-requires : tie.Need-numbers-requires
@@ -30,7 +30,7 @@ part-requires-2 : tie.Need-part-requires-2
 part-requires-2 c κs = search needs
 
 returns-2 : tie.Need-returns-2
-unfolding infoSpan
+unfolding infoSpanOf
 returns-2 c = let z = rw (c .before .before .before .numbers .ensures) at (c .before .if2 .taken) in
     given _ _ _ 0 0 (c .before .before .before .before .before .before .before .args .file .now) (c .part2 .ensures) (sym (c .before .before .before .before .before .head-number .ensures) ∙ c .before .before .before .before .if1 .left) (sym z) (sym (info-none (c .before .before .before .before .before .before .before .args .file .now) _ z)) (omega arith)
 
@@ -52,7 +52,7 @@ part-requires-3 : tie.Need-part-requires-3
 part-requires-3 c κs = search needs
 
 returns-3 : tie.Need-returns-3
-unfolding infoSpan
+unfolding infoSpanOf
 returns-3 c = let p = rw (← c .before .before .before .before .before .numbers .ensures) at (placed-in (c .before .before .before .before .before .before .before .before .before .args .file .now) (sym (c .before .before .before .before .before .before .before .head-number .ensures) ∙ c .before .before .before .before .before .before .if1 .left)) in
     let t = c .before .text-len .ensures ∙ ap textLen (tail-part (c .before .before .before .before .before .before .before .before .before .args .file .now) (c .before .before .before .before .before .numbers .result .info)) in
     given _ _ _ _ _ (c .before .before .before .before .before .before .before .before .before .args .file .now) (c .part3 .ensures) (sym (c .before .before .before .before .before .before .before .head-number .ensures) ∙ c .before .before .before .before .before .before .if1 .left)

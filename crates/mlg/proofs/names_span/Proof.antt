@@ -3,9 +3,9 @@ use Rattle.mlg.proofs.names_span.Statement.{statement}
 use Rattle.mlg.proofs.names_span.Tie as tie
 use mathlib.Core.Path.{sym, _∙_, ap}
 use native.Mathlib.Omega.{arith}
-use Rattle.mlgfile.specs.Parts.{namesSpan}
-use Rattle.mlgfile.specs.Header.{fieldsEnd}
-use Rattle.mlgfile.proofs.Spans.{refused, given, placed-in, names-fit}
+use Rattle.mlg_rules.specs.Parts.{namesSpanOf}
+use Rattle.mlg_rules.specs.Header.{fieldsEnd}
+use Rattle.mlg_rules.proofs.Spans.{refused, given, placed-in, names-fit}
 
 head-number-requires : tie.Need-head-number-requires
 head-number-requires c κs = search needs
@@ -14,7 +14,7 @@ part-requires : tie.Need-part-requires
 part-requires c κs = search needs
 
 returns : tie.Need-returns
-unfolding namesSpan
+unfolding namesSpanOf
 returns c = refused _ _ _ _ _ _ (c .before .before .before .before .args .file .now) (c .part .ensures) (c .before .before .head-number .ensures) (c .before .if1 .taken)
 
 numbers-requires : tie.Need-numbers-requires
@@ -34,7 +34,7 @@ part-requires-2 : tie.Need-part-requires-2
 part-requires-2 c κs = search needs
 
 returns-2 : tie.Need-returns-2
-unfolding namesSpan
+unfolding namesSpanOf
 returns-2 c = let p = rw (← c .before .before .before .numbers .ensures) at (placed-in (c .before .before .before .before .before .before .before .args .file .now) (sym (c .before .before .before .before .before .head-number .ensures) ∙ c .before .before .before .before .if1 .left)) in
     let f = names-fit _ (c .before .before .before .numbers .result) p in
     given _ _ _ _ _ (c .before .before .before .before .before .before .before .args .file .now) (c .part2 .ensures) (sym (c .before .before .before .before .before .head-number .ensures) ∙ c .before .before .before .before .if1 .left)

@@ -1,13 +1,13 @@
 use borrow.Author.Needs.{needs}
 use Rattle.mlg.proofs.read_block.Statement.{statement}
 use Rattle.mlg.proofs.read_block.Tie as tie
-use Rattle.mlgfile.proofs.Alone.{block-alone}
+use Rattle.mlg_rules.proofs.Alone.{block-alone}
 use Prim.Native.Nat.{ℕ, _-_}
 use lib.ListN.{length, take, drop}
 use mathlib.Core.Path.{sym, _∙_, ap}
 use Rattle.wire.proofs.Parts.{tail-part}
-use Rattle.mlgfile.specs.Block.{blockOf, counterOf}
-use Rattle.mlgfile.proofs.Cases.{at-past, at-within, block-means}
+use Rattle.mlg_rules.specs.Block.{blockOf, counterAfter}
+use Rattle.mlg_rules.proofs.Cases.{at-past, at-within, block-means}
 
 returns : tie.Need-returns
 returns c = (block-means (c .before .before .args .size) (c .before .before .args .earlier) (c .before .before .args .file .now) (c .before .before .args .at) (sym (at-past _ _ _ _ (c .if1 .taken))), block-alone)
@@ -32,7 +32,7 @@ returns-2 c = (
   block-means (c .before .before .before .before .before .args .size) (c .before .before .before .before .before .args .earlier) (c .before .before .before .before .before .args .file .now) (c .before .before .before .before .before .args .at)
       (c .block-of .ensures
       ∙ ap (λ (k : ℕ). blockOf (c .before .before .before .before .before .args .size) k (c .before .before .before .before .before .args .at) (take (length (c .before .before .before .before .before .args .file .now) - c .before .before .before .before .before .args .at) (drop (c .before .before .before .before .before .args .at) (c .before .before .before .before .before .args .file .now)))) (c .before .counter-of .ensures)
-      ∙ ap (blockOf (c .before .before .before .before .before .args .size) (counterOf (c .before .before .before .before .before .args .earlier)) (c .before .before .before .before .before .args .at)) (tail-part (c .before .before .before .before .before .args .file .now) (c .before .before .before .before .before .args .at))
+      ∙ ap (blockOf (c .before .before .before .before .before .args .size) (counterAfter (c .before .before .before .before .before .args .earlier)) (c .before .before .before .before .before .args .at)) (tail-part (c .before .before .before .before .before .args .file .now) (c .before .before .before .before .before .args .at))
       ∙ sym (at-within (c .before .before .before .before .before .args .size) (c .before .before .before .before .before .args .earlier) (c .before .before .before .before .before .args .file .now) (c .before .before .before .before .before .args .at) (c .before .before .before .if1 .left))),
   block-alone,
 )

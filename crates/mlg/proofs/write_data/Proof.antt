@@ -2,13 +2,13 @@ use borrow.Author.Needs.{needs}
 use Rattle.mlg.proofs.write_data.Statement.{statement}
 use Rattle.mlg.proofs.write_data.Tie as tie
 use mathlib.Core.Path.{refl, sym, _∙_, ap}
-use Rattle.mlgfile.proofs.BlockBack.{data-back}
+use Rattle.mlg_rules.proofs.BlockBack.{data-back}
 use Prim.Native.Nat.{ℕ}
 use lib.ListN.{length}
 use Rattle.wire.proofs.Writes.{refuses, writes, left}
 use Rattle.wire.specs.Writer.{leaves}
-use Rattle.mlgfile.specs.Writing.{dataBytes}
-use Rattle.mlgfile.proofs.BlockBytes.{data-fits, data-length}
+use Rattle.mlg_rules.specs.Writing.{dataBytes}
+use Rattle.mlg_rules.proofs.BlockBytes.{data-fits, data-length}
 
 data-number-requires : tie.Need-data-number-requires
 data-number-requires c κs = search needs

@@ -2,12 +2,12 @@ use borrow.Author.Needs.{needs}
 use Rattle.mlg.proofs.write_header.Statement.{statement}
 use Rattle.mlg.proofs.write_header.Tie as tie
 use mathlib.Core.Path.{refl, sym, _∙_}
-use Rattle.mlgfile.proofs.HeaderBack.{header-back}
-use Rattle.mlgfile.proofs.LogBack.{log-back}
-use Rattle.mlgfile.proofs.HeaderSame.{log-same}
+use Rattle.mlg_rules.proofs.HeaderBack.{header-back}
+use Rattle.mlg_rules.proofs.LogBack.{log-back}
+use Rattle.mlg_rules.proofs.HeaderSame.{log-same}
 use lib.ListN.{length}
 use Rattle.wire.proofs.Writes.{refuses, writes, left}
-use Rattle.mlgfile.proofs.HeaderBytes.{header-fits, header-length}
+use Rattle.mlg_rules.proofs.HeaderBytes.{header-fits, header-length}
 
 header-number-requires : tie.Need-header-number-requires
 header-number-requires c κs = search needs

@@ -2,15 +2,15 @@ use borrow.Author.Needs.{needs}
 use Rattle.mlg.proofs.write_mark.Statement.{statement}
 use Rattle.mlg.proofs.write_mark.Tie as tie
 use mathlib.Core.Path.{refl, sym, _∙_, ap}
-use Rattle.mlgfile.proofs.BlockBack.{mark-back}
-use Rattle.mlgfile.proofs.Rewrite.{block-same}
+use Rattle.mlg_rules.proofs.BlockBack.{mark-back}
+use Rattle.mlg_rules.proofs.Rewrite.{block-same}
 use Prim.Native.Nat.{ℕ}
 use native.Mathlib.Omega.{arith}
 use lib.ListN.{length}
 use Rattle.wire.proofs.Writes.{refuses, writes, left}
 use Rattle.wire.specs.Writer.{leaves}
-use Rattle.mlgfile.specs.Writing.{markBytes}
-use Rattle.mlgfile.proofs.BlockBytes.{mark-fits, mark-length}
+use Rattle.mlg_rules.specs.Writing.{markBytes}
+use Rattle.mlg_rules.proofs.BlockBytes.{mark-fits, mark-length}
 
 mark-number-requires : tie.Need-mark-number-requires
 mark-number-requires c κs = search needs

@@ -4,8 +4,8 @@ use Rattle.mlg.proofs.blocks.block_number.Tie as tie
 use mathlib.Core.Path.{_∙_}
 use native.Mathlib.Omega.{arith}
 use Rattle.wire.proofs.Orders.{order}
-use Rattle.mlgfile.specs.Block.{blockNumber}
-use Rattle.mlgfile.proofs.Cases.{len-data, len-mark, known-mark}
+use Rattle.mlg_rules.specs.Block.{restNumber}
+use Rattle.mlg_rules.proofs.Cases.{len-data, len-mark, known-mark}
 
 shared-slice-read-kind : tie.Need-shared-slice-read-kind
 shared-slice-read-kind c = search needs
@@ -14,25 +14,25 @@ block-len-requires : tie.Need-block-len-requires
 block-len-requires c κs = search needs
 
 returns : tie.Need-returns
-unfolding blockNumber
+unfolding restNumber
 returns c = rw (← c .before .block-len .ensures) (search order depth 9)
 
 returns-2 : tie.Need-returns-2
-unfolding blockNumber
+unfolding restNumber
 returns-2 c = rw (← c .before .before .block-len .ensures) (search order depth 9)
 
 sum-number-requires : tie.Need-sum-number-requires
 sum-number-requires c κs = omega (arith, c .before .before .before .block-len .ensures, len-data (c .before .before .before .before .before .before .args .size) _ (c .if3 .taken))
 
 returns-3 : tie.Need-returns-3
-unfolding blockNumber
+unfolding restNumber
 returns-3 c = rw (← c .before .before .before .before .block-len .ensures, c .before .if3 .taken) (search order depth 9)
 
 text-number-requires : tie.Need-text-number-requires
 text-number-requires c κs = let k = known-mark (c .before .before .before .before .before .before .args .size) _ (λ z. c .before .before .if1 .left (c .before .before .before .block-len .ensures ∙ z)) (c .if3 .left) in omega (arith, c .before .before .before .block-len .ensures, len-mark (c .before .before .before .before .before .before .args .size) _ k)
 
 returns-4 : tie.Need-returns-4
-unfolding blockNumber
+unfolding restNumber
 returns-4 c = let k = known-mark (c .before .before .before .before .before .before .before .args .size) _ (λ z. c .before .before .before .if1 .left (c .before .before .before .before .block-len .ensures ∙ z)) (c .before .if3 .left) in rw (← c .before .before .before .before .block-len .ensures, k) (search order depth 9)
 
 pub block-number-spec : {M : Type 1} → statement M

@@ -2,13 +2,14 @@ use borrow.Author.Needs.{needs}
 use Rattle.mlg.proofs.blocks.counter_of.Statement.{statement}
 use Rattle.mlg.proofs.blocks.counter_of.Tie as tie
 use mathlib.Core.Path.{refl}
-use Rattle.mlgfile.specs.Block.{counterOf}
+use Rattle.wire.specs.Log.{counterOf}
+use Rattle.mlg_rules.specs.Block.{counterModulus}
 
 cast-result : tie.Need-cast-result
 cast-result c = search needs
 
 returns : tie.Need-returns
-unfolding counterOf
+unfolding counterOf counterModulus
 returns c = refl
 
 pub counter-of-spec : {M : Type 1} → statement M

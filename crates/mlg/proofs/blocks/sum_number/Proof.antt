@@ -8,7 +8,7 @@ use lib.ListN.{take, drop}
 use Rattle.wire.specs.Sum.{sumOf}
 use Rattle.wire.proofs.Orders.{order, if-yes, not-yes}
 use borrow.Author.Tests.{ne-eqb}
-use Rattle.mlgfile.specs.Block.{lastOf}
+use Rattle.mlg_rules.specs.Block.{lastOf}
 
 add-sum-of : tie.Need-add-sum-of
 add-sum-of c = search needs

@@ -2,7 +2,7 @@ use borrow.Author.Needs.{needs}
 use Rattle.mlg.proofs.blocks.text_number.Statement.{statement}
 use Rattle.mlg.proofs.blocks.text_number.Tie as tie
 use Rattle.wire.proofs.Orders.{order}
-use Rattle.mlgfile.specs.Block.{lastOf}
+use Rattle.mlg_rules.specs.Block.{lastOf}
 
 mark-len-requires : tie.Need-mark-len-requires
 mark-len-requires c κs = search needs

@@ -4,14 +4,14 @@ use Prim.Native.Nat.{_+_, _*_, _-_, _≤_}
 use mathlib.Core.Path.{_≡_, refl, sym, _∙_}
 use native.Mathlib.Omega.{arith}
 use lib.ListN.{length, drop, take, getD}
-use Rattle.field.specs.Layout.{fieldLen}
-use Rattle.mlgfile.specs.Area.{areaOf}
-use Rattle.mlgfile.specs.Fields.{fieldsNumber, sizes}
+use Rattle.mlg_rules.specs.Layout.{fieldLen}
+use Rattle.mlg_rules.specs.Area.{areaOf}
+use Rattle.mlg_rules.specs.Fields.{fieldsNumber, sizes}
 use Rattle.wire.proofs.Orders.{else-some}
-use Rattle.field.proofs.Layouts.{field-least}
-use Rattle.field.proofs.Types.{size-most}
-use Rattle.mlgfile.proofs.Layouts.{one-of}
-use Rattle.mlgfile.proofs.EachField.{fields-at, fields-next, sizes-next, fields-done, sizes-done}
+use Rattle.mlg_rules.proofs.Layouts.{field-least}
+use Rattle.mlg_rules.proofs.Types.{size-most}
+use Rattle.mlg_rules.proofs.Layouts.{one-of}
+use Rattle.mlg_rules.proofs.EachField.{fields-at, fields-next, sizes-next, fields-done, sizes-done}
 
 abbrev Inv-loop : tie.InvT-loop
 Inv-loop v fields count base names info len at₀ left₀ total₀ at left total = (len ≡ fieldLen v) × (at + fieldLen v * left ≤ length fields) × (total + 8 * left ≤ 8 * count) × (fieldsNumber v base (areaOf names info) left (drop at fields) ≡ fieldsNumber v base (areaOf names info) count fields) × (total + sizes v left (drop at fields) ≡ sizes v count fields)

@@ -1,16 +1,16 @@
 use borrow.Author.Needs.{needs}
 use Rattle.mlg.proofs.fields.field_at.Statement.{statement}
 use Rattle.mlg.proofs.fields.field_at.Tie as tie
-use Rattle.mlgfile.specs.Area.{areaOf}
+use Rattle.mlg_rules.specs.Area.{areaOf}
 use Prim.Native.Nat.{_-_}
 use mathlib.Core.Path.{_∙_, ap}
 use native.Mathlib.Omega.{arith}
 use lib.ListN.{length, drop, length-drop}
 use lib.Seq.{length-take-le}
-use Rattle.field.specs.Layout.{fieldLen}
-use Rattle.mlgfile.specs.Fields.{fieldNumber}
-use Rattle.field.specs.Field.{fieldSize}
-use Rattle.field.proofs.Layouts.{field-least}
+use Rattle.mlg_rules.specs.Layout.{fieldLen}
+use Rattle.mlg_rules.specs.Fields.{fieldNumber}
+use Rattle.mlg_rules.specs.Field.{fieldSize}
+use Rattle.mlg_rules.proofs.Layouts.{field-least}
 use Rattle.wire.proofs.Parts.{part-is}
 
 field-len-requires : tie.Need-field-len-requires

@@ -2,7 +2,7 @@ use borrow.Author.Needs.{needs}
 use Rattle.mlg.proofs.fields.names_number.Statement.{statement}
 use Rattle.mlg.proofs.fields.names_number.Tie as tie
 use native.Mathlib.Omega.{arith}
-use Rattle.mlgfile.specs.Fields.{namesNumber}
+use Rattle.mlg_rules.specs.Fields.{namesNumber}
 use Rattle.wire.proofs.Orders.{order}
 
 shared-slice-read-t : tie.Need-shared-slice-read-t

@@ -7,7 +7,7 @@ use lib.Dec.{leb}
 use lib.ListN.{take, drop}
 use native.Mathlib.Nat.{add-sub-cancel-left}
 use Rattle.wire.specs.Text.{textLen}
-use Rattle.mlgfile.specs.Fields.{unended}
+use Rattle.mlg_rules.specs.Fields.{unended}
 
 add-text-len : tie.Need-add-text-len
 add-text-len c = search needs

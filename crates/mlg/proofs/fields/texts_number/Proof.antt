@@ -1,10 +1,10 @@
 use Rattle.mlg.proofs.fields.texts_number.Statement.{statement}
 use Rattle.mlg.proofs.fields.texts_number.Tie as tie
 use native.Mathlib.Omega.{arith}
-use Rattle.mlgfile.specs.Fields.{textsNumber}
+use Rattle.mlg_rules.specs.Fields.{textsNumber}
 use Rattle.wire.proofs.Orders.{order}
-use Rattle.field.proofs.Layouts.{field-least}
-use Rattle.mlgfile.proofs.Layouts.{category-least}
+use Rattle.mlg_rules.proofs.Layouts.{field-least}
+use Rattle.mlg_rules.proofs.Layouts.{category-least}
 
 open-text-requires : tie.Need-open-text-requires
 open-text-requires c κs = omega (arith, field-least (c .before .args .version))

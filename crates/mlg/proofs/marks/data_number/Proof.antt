@@ -2,21 +2,21 @@ use borrow.Author.Needs.{needs}
 use Rattle.mlg.proofs.marks.data_number.Statement.{statement}
 use Rattle.mlg.proofs.marks.data_number.Tie as tie
 use Rattle.wire.proofs.Orders.{order}
-use Rattle.mlgfile.specs.Writing.{dataNumber}
+use Rattle.mlg_rules.specs.Writing.{writeDataNumber}
 
 returns : tie.Need-returns
-unfolding dataNumber
+unfolding writeDataNumber
 returns c = search order depth 9
 
 add-if2 : tie.Need-add-if2
 add-if2 c = search needs
 
 returns-2 : tie.Need-returns-2
-unfolding dataNumber
+unfolding writeDataNumber
 returns-2 c = search order depth 9
 
 returns-3 : tie.Need-returns-3
-unfolding dataNumber
+unfolding writeDataNumber
 returns-3 c = search order depth 9
 
 pub data-number-spec : {M : Type 1} → statement M

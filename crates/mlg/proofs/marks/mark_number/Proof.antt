@@ -2,25 +2,25 @@ use borrow.Author.Needs.{needs}
 use Rattle.mlg.proofs.marks.mark_number.Statement.{statement}
 use Rattle.mlg.proofs.marks.mark_number.Tie as tie
 use Rattle.wire.proofs.Orders.{order}
-use Rattle.mlgfile.specs.Writing.{markNumber}
+use Rattle.mlg_rules.specs.Writing.{writeMarkNumber}
 
 returns : tie.Need-returns
-unfolding markNumber
+unfolding writeMarkNumber
 returns c = search order depth 9
 
 text-len-requires : tie.Need-text-len-requires
 text-len-requires c κs = search needs
 
 returns-2 : tie.Need-returns-2
-unfolding markNumber
+unfolding writeMarkNumber
 returns-2 c = rw (← c .before .text-len .ensures) (search order depth 9)
 
 returns-3 : tie.Need-returns-3
-unfolding markNumber
+unfolding writeMarkNumber
 returns-3 c = rw (← c .before .before .text-len .ensures) (search order depth 9)
 
 returns-4 : tie.Need-returns-4
-unfolding markNumber
+unfolding writeMarkNumber
 returns-4 c = rw (← c .before .before .text-len .ensures) (search order depth 9)
 
 pub mark-number-spec : {M : Type 1} → statement M

@@ -1,7 +1,7 @@
 use borrow.Author.Needs.{needs}
 use Rattle.mlg.proofs.marks.padded_text.Statement.{statement}
 use Rattle.mlg.proofs.marks.padded_text.Tie as tie
-use Rattle.mlgfile.proofs.BlockBytes.{pad-put}
+use Rattle.mlg_rules.proofs.BlockBytes.{pad-put}
 
 slice-aggregate-put : tie.Need-slice-aggregate-put
 slice-aggregate-put c = search needs

@@ -1,7 +1,7 @@
 use borrow.Author.Needs.{needs}
 use Rattle.mlg.proofs.marks.put_data.Statement.{statement}
 use Rattle.mlg.proofs.marks.put_data.Tie as tie
-use Rattle.mlgfile.proofs.BlockBytes.{data-put}
+use Rattle.mlg_rules.proofs.BlockBytes.{data-put}
 
 start-bytes-requires : tie.Need-start-bytes-requires
 start-bytes-requires c κs = search needs

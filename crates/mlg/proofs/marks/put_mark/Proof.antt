@@ -2,7 +2,7 @@ use borrow.Author.Needs.{needs}
 use Rattle.mlg.proofs.marks.put_mark.Statement.{statement}
 use Rattle.mlg.proofs.marks.put_mark.Tie as tie
 use native.Mathlib.Omega.{arith}
-use Rattle.mlgfile.proofs.BlockBytes.{mark-put}
+use Rattle.mlg_rules.proofs.BlockBytes.{mark-put}
 
 start-bytes-requires : tie.Need-start-bytes-requires
 start-bytes-requires c κs = search needs

@@ -1,7 +1,7 @@
 use borrow.Author.Needs.{needs}
 use Rattle.mlg.proofs.marks.start_bytes.Statement.{statement}
 use Rattle.mlg.proofs.marks.start_bytes.Tie as tie
-use Rattle.mlgfile.specs.Writing.{startBytes}
+use Rattle.mlg_rules.specs.Writing.{startBytes}
 
 two-bytes-requires : tie.Need-two-bytes-requires
 two-bytes-requires c κs = search needs

@@ -1,7 +1,7 @@
 use borrow.Author.Needs.{needs}
 use Rattle.mlg.proofs.parts.names_end.Statement.{statement}
 use Rattle.mlg.proofs.parts.names_end.Tie as tie
-use Rattle.mlgfile.proofs.Spans.{names-none, names-some}
+use Rattle.mlg_rules.proofs.Spans.{names-none, names-some}
 
 cast-info : tie.Need-cast-info
 cast-info c = search needs

@@ -5,11 +5,11 @@ use Prim.Native.Nat.{_-_}
 use mathlib.Core.Path.{_∙_, ap}
 use native.Mathlib.Omega.{arith}
 use lib.ListN.{length-drop}
-use Rattle.mlgfile.specs.Header.{fieldsEnd}
-use Rattle.field.specs.Layout.{headerLen}
-use Rattle.mlgfile.specs.Fields.{sizes}
-use Rattle.mlgfile.proofs.Places.{placed}
-use Rattle.mlgfile.proofs.Areas.{file-area, file-rest, same-fields}
+use Rattle.mlg_rules.specs.Header.{fieldsEnd}
+use Rattle.mlg_rules.specs.Layout.{headerLen}
+use Rattle.mlg_rules.specs.Fields.{sizes}
+use Rattle.mlg_rules.proofs.Places.{placed}
+use Rattle.mlg_rules.proofs.Areas.{file-area, file-rest, same-fields}
 
 fields-end-requires : tie.Need-fields-end-requires
 fields-end-requires c κs = search needs

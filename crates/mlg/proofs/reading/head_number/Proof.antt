@@ -2,14 +2,14 @@ use borrow.Author.Needs.{needs}
 use Rattle.mlg.proofs.reading.head_number.Statement.{statement}
 use Rattle.mlg.proofs.reading.head_number.Tie as tie
 use mathlib.Core.Path.{sym, _∙_}
-use Rattle.mlgfile.specs.Header.{headNumber, bodyNumber}
+use Rattle.mlg_rules.specs.Header.{readHeaderNumber, bodyNumber}
 use Rattle.wire.proofs.Orders.{order}
 
 name-number-requires : tie.Need-name-number-requires
 name-number-requires c κs = search needs
 
 returns : tie.Need-returns
-unfolding headNumber bodyNumber
+unfolding readHeaderNumber bodyNumber
 returns c = search order depth 12
 
 numbers-requires : tie.Need-numbers-requires
@@ -19,21 +19,21 @@ places-number-requires : tie.Need-places-number-requires
 places-number-requires c κs = search needs
 
 returns-2 : tie.Need-returns-2
-unfolding headNumber bodyNumber
+unfolding readHeaderNumber bodyNumber
 returns-2 c = rw (← c .before .before .numbers .ensures) (search order depth 12)
 
 file-fields-requires : tie.Need-file-fields-requires
 file-fields-requires c κs = sym (c .before .places-number .ensures) ∙ c .if2 .left
 
 returns-3 : tie.Need-returns-3
-unfolding headNumber bodyNumber
+unfolding readHeaderNumber bodyNumber
 returns-3 c = rw (← c .before .before .before .before .numbers .ensures) (search order depth 12)
 
 last-number-requires : tie.Need-last-number-requires
 last-number-requires c κs = (c .before .file-fields .ensures .1 (c .if3 .left), sym (c .before .before .before .places-number .ensures) ∙ c .before .before .if2 .left)
 
 returns-4 : tie.Need-returns-4
-unfolding headNumber bodyNumber
+unfolding readHeaderNumber bodyNumber
 returns-4 c = rw (← c .before .before .before .before .before .numbers .ensures) (search order depth 12)
 
 pub head-number-spec : {M : Type 1} → statement M

@@ -4,10 +4,10 @@ use Rattle.mlg.proofs.reading.last_number.Tie as tie
 use native.Mathlib.Omega.{arith}
 use mathlib.Core.Path.{ap, _∙_}
 use Rattle.wire.specs.Text.{zeros}
-use Rattle.mlgfile.specs.Header.{lastNumber, areaIn, fieldsEnd}
-use Rattle.mlgfile.proofs.Areas.{area-part}
+use Rattle.mlg_rules.specs.Header.{lastNumber, areaIn, fieldsEnd}
+use Rattle.mlg_rules.proofs.Areas.{area-part}
 use Rattle.wire.proofs.Orders.{order}
-use Rattle.mlgfile.proofs.Places.{placed}
+use Rattle.mlg_rules.proofs.Places.{placed}
 
 cast-size : tie.Need-cast-size
 cast-size c = search needs

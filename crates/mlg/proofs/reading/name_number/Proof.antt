@@ -1,7 +1,7 @@
 use borrow.Author.Needs.{needs}
 use Rattle.mlg.proofs.reading.name_number.Statement.{statement}
 use Rattle.mlg.proofs.reading.name_number.Tie as tie
-use Rattle.mlgfile.specs.Header.{nameNumber}
+use Rattle.mlg_rules.specs.Header.{nameNumber}
 use Rattle.wire.proofs.Orders.{order}
 
 header-len-requires : tie.Need-header-len-requires

@@ -2,8 +2,8 @@ use borrow.Author.Needs.{needs}
 use Rattle.mlg.proofs.reading.numbers.Statement.{statement}
 use Rattle.mlg.proofs.reading.numbers.Tie as tie
 use native.Mathlib.Omega.{arith}
-use Rattle.mlgfile.specs.Header.{numbersOf}
-use Rattle.field.proofs.Layouts.{info-most}
+use Rattle.mlg_rules.specs.Header.{numbersOf}
+use Rattle.mlg_rules.proofs.Layouts.{info-most}
 
 be16-requires : tie.Need-be16-requires
 be16-requires c κs = search needs

@@ -1,7 +1,7 @@
 use borrow.Author.Needs.{needs}
 use Rattle.mlg.proofs.reading.places_number.Statement.{statement}
 use Rattle.mlg.proofs.reading.places_number.Tie as tie
-use Rattle.mlgfile.specs.Header.{placesNumber}
+use Rattle.mlg_rules.specs.Header.{placesNumber}
 use Rattle.wire.proofs.Orders.{order}
 
 fields-end-requires : tie.Need-fields-end-requires

@@ -4,8 +4,8 @@ use Prim.Native.Nat.{_+_, _-_, _≤_, _<_, _^_}
 use mathlib.Core.Path.{_≡_, refl, sym, _∙_}
 use native.Mathlib.Omega.{arith}
 use lib.ListN.{length}
-use Rattle.mlgfile.specs.Log.{logFrom, logOf, tallyOf}
-use Rattle.mlgfile.proofs.Tallies.{from, tally-next, tally-stop, tally-none, tally-all, at-fits, goes-by}
+use Rattle.mlg_rules.specs.Log.{logFrom, logOf, tallyOf}
+use Rattle.mlg_rules.proofs.Tallies.{from, tally-next, tally-stop, tally-none, tally-all, at-fits, goes-by}
 
 abbrev Inv-loop : tie.InvT-loop
 Inv-loop file size begin left₀ at₀ n₀ left at n = (at < 2 ^ 64) × (n + left ≤ length file + 1) × (from size n (logFrom left size n file at) ≡ tallyOf size (logOf size file begin))

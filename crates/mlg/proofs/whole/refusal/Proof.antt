@@ -2,8 +2,8 @@ use borrow.Author.Needs.{needs}
 use Rattle.mlg.proofs.whole.refusal.Statement.{statement}
 use Rattle.mlg.proofs.whole.refusal.Tie as tie
 use mathlib.Core.Path.{sym, ap}
-use Rattle.mlgfile.specs.Header.{headAnswer}
-use Rattle.mlgfile.specs.declared.Head.{Head}
+use Rattle.mlg_rules.specs.Header.{headAnswer}
+use Rattle.mlg_rules.specs.declared.Head.{Head}
 
 enum-told : tie.Need-enum-told
 enum-told c = search needs

@@ -2,8 +2,8 @@ use borrow.Author.Needs.{needs}
 use Rattle.mlg.proofs.whole.stop_number.Statement.{statement}
 use Rattle.mlg.proofs.whole.stop_number.Tie as tie
 use mathlib.Core.Path.{sym, ap}
-use Rattle.mlgfile.specs.Block.{blockAnswer}
-use Rattle.mlgfile.specs.declared.Block.{Block}
+use Rattle.mlg_rules.specs.Block.{blockAnswer}
+use Rattle.mlg_rules.specs.declared.Block.{Block}
 
 enum-told : tie.Need-enum-told
 enum-told c = search needs

@@ -3,9 +3,9 @@ use Rattle.mlg.proofs.writing.body_number.Statement.{statement}
 use Rattle.mlg.proofs.writing.body_number.Tie as tie
 use mathlib.Core.Path.{_∙_}
 use native.Mathlib.Omega.{arith}
-use Rattle.mlgfile.proofs.Fits.{fit, body-is}
-use Rattle.field.proofs.Layouts.{field-least}
-use Rattle.mlgfile.proofs.Layouts.{fields-fit, header-most, header-some}
+use Rattle.mlg_rules.proofs.Fits.{fit, body-is}
+use Rattle.mlg_rules.proofs.Layouts.{field-least}
+use Rattle.mlg_rules.proofs.Layouts.{fields-fit, header-most, header-some}
 
 field-len-requires : tie.Need-field-len-requires
 field-len-requires c κs = search needs

@@ -4,12 +4,12 @@ use Rattle.mlg.proofs.writing.header_for.Tie as tie
 use Prim.Native.Nat.{_+_}
 use native.Mathlib.Omega.{arith}
 use lib.ListN.{length}
-use Rattle.mlgfile.specs.Writing.{headerFor}
-use Rattle.mlgfile.proofs.Areas.{area-length}
-use Rattle.mlgfile.proofs.Fits.{fit}
-use Rattle.mlgfile.proofs.HeaderBytes.{start-most}
-use Rattle.field.proofs.Layouts.{field-least}
-use Rattle.mlgfile.proofs.Layouts.{fields-fit}
+use Rattle.mlg_rules.specs.Writing.{headerFor}
+use Rattle.mlg_rules.proofs.Areas.{area-length}
+use Rattle.mlg_rules.proofs.Fits.{fit}
+use Rattle.mlg_rules.proofs.HeaderBytes.{start-most}
+use Rattle.mlg_rules.proofs.Layouts.{field-least}
+use Rattle.mlg_rules.proofs.Layouts.{fields-fit}
 
 field-len-requires : tie.Need-field-len-requires
 field-len-requires c κs = search needs

@@ -4,33 +4,33 @@ use Rattle.mlg.proofs.writing.header_number.Tie as tie
 use mathlib.Core.Path.{refl, sym, _∙_}
 use borrow.Author.Tests.{lt-ltb, le-ltb}
 use Rattle.wire.proofs.Orders.{else-some, else-none, if-yes, if-no}
-use Rattle.mlgfile.specs.Writing.{headerNumber}
-use Rattle.mlgfile.proofs.HeaderBytes.{header-length}
+use Rattle.mlg_rules.specs.Writing.{writeHeaderNumber}
+use Rattle.mlg_rules.proofs.HeaderBytes.{header-length}
 
 lengths-number-requires : tie.Need-lengths-number-requires
 lengths-number-requires c κs = search needs
 
 returns : tie.Need-returns
-unfolding headerNumber
+unfolding writeHeaderNumber
 returns c = else-some _ _ _ (c .before .lengths-number .ensures) (c .if1 .taken)
 
 body-number-requires : tie.Need-body-number-requires
 body-number-requires c κs = sym (c .before .lengths-number .ensures) ∙ c .if1 .left
 
 returns-2 : tie.Need-returns-2
-unfolding headerNumber
+unfolding writeHeaderNumber
 returns-2 c = else-none _ _ _ _ (c .before .before .before .lengths-number .ensures) (c .before .before .if1 .left) (else-some _ _ _ (c .before .body-number .ensures) (c .if2 .taken))
 
 total-len-requires : tie.Need-total-len-requires
 total-len-requires c κs = sym (c .before .before .before .lengths-number .ensures) ∙ c .before .before .if1 .left
 
 returns-3 : tie.Need-returns-3
-unfolding headerNumber
+unfolding writeHeaderNumber
 returns-3 c = let l = c .before .total-len .ensures .0 ∙ sym (header-length (c .before .before .before .before .before .before .before .before .before .args .version) (c .before .before .before .before .before .before .before .before .before .args .time) (c .before .before .before .before .before .before .before .before .before .args .fields .now) (c .before .before .before .before .before .before .before .before .before .args .names .now) (c .before .before .before .before .before .before .before .before .before .args .info .now)) in
     else-none _ _ _ _ (c .before .before .before .before .before .lengths-number .ensures) (c .before .before .before .before .if1 .left) (else-none _ _ _ _ (c .before .before .before .body-number .ensures) (c .before .before .if2 .left) (if-yes 27 _ 0 (lt-ltb _ _ (rw l at (c .if3 .taken)))))
 
 returns-4 : tie.Need-returns-4
-unfolding headerNumber
+unfolding writeHeaderNumber
 returns-4 c = let l = c .before .total-len .ensures .0 ∙ sym (header-length (c .before .before .before .before .before .before .before .before .before .args .version) (c .before .before .before .before .before .before .before .before .before .args .time) (c .before .before .before .before .before .before .before .before .before .args .fields .now) (c .before .before .before .before .before .before .before .before .before .args .names .now) (c .before .before .before .before .before .before .before .before .before .args .info .now)) in
     else-none _ _ _ _ (c .before .before .before .before .before .lengths-number .ensures) (c .before .before .before .before .if1 .left) (else-none _ _ _ _ (c .before .before .before .body-number .ensures) (c .before .before .if2 .left) (if-no 27 _ 0 0 (le-ltb _ _ (rw l at (c .if3 .left))) refl))
 

@@ -1,6 +1,6 @@
 use Rattle.mlg.proofs.writing.info_start.Statement.{statement}
 use Rattle.mlg.proofs.writing.info_start.Tie as tie
-use Rattle.mlgfile.proofs.HeaderBytes.{start-none, start-some}
+use Rattle.mlg_rules.proofs.HeaderBytes.{start-none, start-some}
 
 returns : tie.Need-returns
 returns c = start-none (c .before .args .at) (c .before .args .info .now) (c .if1 .taken)

@@ -4,10 +4,10 @@ use Rattle.mlg.proofs.writing.lengths_number.Tie as tie
 use native.Mathlib.Omega.{arith}
 use borrow.Author.Tests.{lt-ltb, le-ltb, eq-eqb}
 use Rattle.wire.proofs.Orders.{order, if-yes, if-no, not-no}
-use Rattle.mlgfile.specs.Writing.{lengthsNumber}
-use Rattle.mlgfile.proofs.Fits.{too-long, not-long, ended-most}
-use Rattle.field.proofs.Layouts.{field-least}
-use Rattle.mlgfile.proofs.Layouts.{fields-fit, fields-few, header-most}
+use Rattle.mlg_rules.specs.Writing.{lengthsNumber}
+use Rattle.mlg_rules.proofs.Fits.{too-long, not-long, ended-most}
+use Rattle.mlg_rules.proofs.Layouts.{field-least}
+use Rattle.mlg_rules.proofs.Layouts.{fields-fit, fields-few, header-most}
 
 field-len-requires : tie.Need-field-len-requires
 field-len-requires c κs = search needs

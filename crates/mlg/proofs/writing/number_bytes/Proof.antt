@@ -1,8 +1,8 @@
 use borrow.Author.Needs.{needs}
 use Rattle.mlg.proofs.writing.number_bytes.Statement.{statement}
 use Rattle.mlg.proofs.writing.number_bytes.Tie as tie
-use Rattle.field.specs.Layout.{layoutOf}
-use Rattle.mlgfile.specs.Writing.{numberBytes}
+use Rattle.mlg_rules.specs.Layout.{layoutOf}
+use Rattle.mlg_rules.specs.Writing.{numberBytes}
 
 two-bytes-requires : tie.Need-two-bytes-requires
 two-bytes-requires c κs = search needs

@@ -2,8 +2,8 @@ use borrow.Author.Needs.{needs}
 use Rattle.mlg.proofs.writing.put_ended.Statement.{statement}
 use Rattle.mlg.proofs.writing.put_ended.Tie as tie
 use native.Mathlib.Omega.{arith}
-use Rattle.mlgfile.proofs.Areas.{ended-length}
-use Rattle.mlgfile.proofs.HeaderBytes.{put-empty, put-zero}
+use Rattle.mlg_rules.proofs.Areas.{ended-length}
+use Rattle.mlg_rules.proofs.HeaderBytes.{put-empty, put-zero}
 
 put-requires : tie.Need-put-requires
 put-requires c κs = search needs

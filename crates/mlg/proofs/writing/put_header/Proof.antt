@@ -3,10 +3,10 @@ use Rattle.mlg.proofs.writing.put_header.Statement.{statement}
 use Rattle.mlg.proofs.writing.put_header.Tie as tie
 use mathlib.Core.Path.{_∙_, ap}
 use native.Mathlib.Omega.{arith}
-use Rattle.mlgfile.specs.Writing.{numberBytes}
-use Rattle.mlgfile.proofs.Areas.{area-length}
-use Rattle.mlgfile.proofs.Fits.{fit}
-use Rattle.mlgfile.proofs.HeaderBytes.{header-length, header-put}
+use Rattle.mlg_rules.specs.Writing.{numberBytes}
+use Rattle.mlg_rules.proofs.Areas.{area-length}
+use Rattle.mlg_rules.proofs.Fits.{fit}
+use Rattle.mlg_rules.proofs.HeaderBytes.{header-length, header-put}
 
 header-for-requires : tie.Need-header-for-requires
 header-for-requires c κs = c .before .before .before .before .pre .0

@@ -4,12 +4,12 @@ use Prim.Native.Nat.{_+_, _*_, _-_, _≤_}
 use mathlib.Core.Path.{_≡_}
 use native.Mathlib.Omega.{arith}
 use lib.ListN.{length, drop, getD}
-use Rattle.field.specs.Layout.{fieldLen}
-use Rattle.mlgfile.specs.Fields.{sizes}
-use Rattle.field.proofs.Layouts.{field-least}
-use Rattle.field.proofs.Types.{size-most}
-use Rattle.mlgfile.proofs.Layouts.{one-of}
-use Rattle.mlgfile.proofs.EachField.{sizes-first, sizes-done}
+use Rattle.mlg_rules.specs.Layout.{fieldLen}
+use Rattle.mlg_rules.specs.Fields.{sizes}
+use Rattle.mlg_rules.proofs.Layouts.{field-least}
+use Rattle.mlg_rules.proofs.Types.{size-most}
+use Rattle.mlg_rules.proofs.Layouts.{one-of}
+use Rattle.mlg_rules.proofs.EachField.{sizes-first, sizes-done}
 
 abbrev Inv-loop : tie.InvT-loop
 Inv-loop version fields count len at₀ left₀ total₀ at left total = (len ≡ fieldLen version) × (at + fieldLen version * left ≤ length fields) × (total + 8 * left ≤ 8 * count) × (total + sizes version left (drop at fields) ≡ sizes version count fields)

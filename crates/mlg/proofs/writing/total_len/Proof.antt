@@ -2,8 +2,8 @@ use borrow.Author.Needs.{needs}
 use Rattle.mlg.proofs.writing.total_len.Statement.{statement}
 use Rattle.mlg.proofs.writing.total_len.Tie as tie
 use native.Mathlib.Omega.{arith}
-use Rattle.mlgfile.proofs.Areas.{area-length}
-use Rattle.mlgfile.proofs.Fits.{fit}
+use Rattle.mlg_rules.proofs.Areas.{area-length}
+use Rattle.mlg_rules.proofs.Fits.{fit}
 
 header-len-requires : tie.Need-header-len-requires
 header-len-requires c κs = search needs
