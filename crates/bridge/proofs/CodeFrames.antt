@@ -228,7 +228,7 @@ module _ (s : Bridge) (b : List ℕ) (f : Frame) where
           go : (awaiting s f ≡ none) ⊎ ((j : ℕ) × (awaiting s f ≡ some j)) → AwaitsOk s f k
           go (inl z) = absurd (true≢false (sym (ap isNone z) ∙ reply-found))
           go (inr (j, z)) =
-              let g : k ≡ j = reply-at .0 ∙ ap from z in
+              let g : k ≡ j = reply-at .0 ∙ ap orZero z in
               rw g (awaits-ok s f j (lowest-some (awaits s f) j z .passes))
 
       reply-fits : 128 * k + slot s k .progress + f .len ≤ length b
