@@ -19,7 +19,6 @@ use Rattle.wire.proofs.Puts.{put-sets}
 use Rattle.bus_rules.specs.Ident.{idOf, idOffset, idKind, packNumber, packOf, partsOf}
 use Rattle.bus_rules.specs.Frames.{rsp, content, headNumber, receiveNumber, readHeadOf}
 use Rattle.bus_rules.specs.Request.{request, requestBytesNumber, wroteRequest, requestBytesOf}
-use Rattle.bus_rules.specs.Holder.{noAnswer}
 use Rattle.bus_rules.specs.declared.Parts.{Parts}
 use Rattle.bus_rules.specs.declared.Packed.{Packed}
 use Rattle.bus_rules.specs.declared.Packed.the-variants as P
@@ -30,7 +29,7 @@ use Rattle.bus_rules.proofs.FrameLaws.{part-length}
 use Rattle.bridge_rules.specs.declared.Bridge.{Bridge}
 use Rattle.bridge_rules.specs.declared.Slot.{Slot}
 use Rattle.bridge_rules.specs.State.{Frame, slot, sound, isReady, isNone, orZero, orFour, nextReady, withSlots, waiting, isWaiting, asks, moved}
-use Rattle.bridge_rules.specs.Answers.{lentNumber, steppedOf}
+use Rattle.bridge_rules.specs.Answers.{lentNumber, yieldedOf, steppedOf}
 use Rattle.bridge_rules.specs.Turn.{agedBridge, turnOf, sendFor, chunkLen, outgoing, advanced, requested, sentSlot}
 use Rattle.bridge_rules.specs.Incoming.{awaits, awaiting, contentNumber, replyNumber, frameOf}
 use Rattle.bridge_rules.specs.declared.Stepped.{Stepped}
@@ -88,12 +87,12 @@ readies s k h l r = ready-ok (s .tickets) (slot s k) (true-sound s h .each k l) 
 
 module _ (s : Bridge) (b : List ℕ) where
   pub turn-refused : (n : ℕ) → n ≡ lentNumber s (length b) → (n ≡ 0 → ⊥)
-      → _≡_ {A = Stepped} (record { bridge = s; answer = noAnswer n }) (steppedOf (turnOf s b))
+      → _≡_ {A = Stepped} (record { bridge = s; answer = yieldedOf n none }) (steppedOf (turnOf s b))
   unfolding turnOf steppedOf
   turn-refused n e h = rw (← e, ne-eqb n 0 h)
 
   module _ (e : lentNumber s (length b) ≡ 0) (a : Bridge) (q : a ≡ agedBridge s) where
-    pub turn-idles : nextReady a ≡ none → _≡_ {A = Stepped} (record { bridge = a; answer = noAnswer 0 }) (steppedOf (turnOf s b))
+    pub turn-idles : nextReady a ≡ none → _≡_ {A = Stepped} (record { bridge = a; answer = yieldedOf 0 none }) (steppedOf (turnOf s b))
     unfolding turnOf steppedOf sendFor
     turn-idles z = rw (← q, z, eq-eqb _ 0 e)
 
@@ -204,7 +203,7 @@ module _ (s : Bridge) (f : Frame) (h : sound s ≡ true) (p : Parts) (e : readHe
 
 module _ (s : Bridge) (b : List ℕ) (f : Frame) where
   pub frame-refused : (n : ℕ) → n ≡ replyNumber s (length b) f → (n ≡ 0 → ⊥)
-      → _≡_ {A = Stepped} (record { bridge = s; answer = noAnswer n }) (steppedOf (frameOf s b f)) × (b ≡ frameOf s b f .buffer)
+      → _≡_ {A = Stepped} (record { bridge = s; answer = yieldedOf n none }) (steppedOf (frameOf s b f)) × (b ≡ frameOf s b f .buffer)
   unfolding frameOf steppedOf
   frame-refused n e h = rw (← e, ne-eqb n 0 h) (refl, refl)
 
@@ -240,7 +239,7 @@ module _ (s : Bridge) (b : List ℕ) (f : Frame) where
       unfolding content
       reply-puts = put-sets b (128 * k + slot s k .progress) (content f) (omega (arith, reply-fits, length-take (f .len) (f .bytes)))
 
-      pub frame-is : _≡_ {A = Stepped} (record { bridge = withSlots s (set (s .slots) k (advanced (slot s k))); answer = noAnswer 0 }) (steppedOf (frameOf s b f))
+      pub frame-is : _≡_ {A = Stepped} (record { bridge = withSlots s (set (s .slots) k (advanced (slot s k))); answer = yieldedOf 0 none }) (steppedOf (frameOf s b f))
           × (putOf b (128 * k + slot s k .progress) (content f) ≡ frameOf s b f .buffer)
       unfolding frameOf steppedOf
       frame-is = rw (reply-puts, ← reply-at .0, eq-eqb _ 0 e) (refl, refl)

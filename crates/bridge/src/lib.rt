@@ -20,6 +20,7 @@ pub use bridge_rules::Span;
 pub use bridge_rules::Stepped;
 pub use bridge_rules::WAITING;
 pub use bridge_rules::WRITE;
+pub use bridge_rules::Yielded;
 
 // A number, and a done read's part of the buffer.
 pub struct Shown<'a> {

@@ -3,11 +3,11 @@ ghost use Prim.Native.Nat.{_<_};
 ghost use mathlib.Core.Path.{_≡_};
 ghost use mathlib.Core.Bool.{false, cond, not, _&&_, _||_};
 ghost use mathlib.Core.List.{[], _∷_};
+ghost use mathlib.Core.Option.{none};
 ghost use lib.ListN.{getD};
 ghost use lib.Dec.{eqb};
-ghost use Rattle.bus_rules.specs.Holder.{noAnswer};
 ghost use Rattle.bridge_rules.specs.State.{waiting, asks, carries, isFree, isReady, blank, withSlots, moved, askNumber, soundPhase, soundSlot, soundSlots, distinct, sound, firstSlot, orFour, lowestFree, heldSlot, nextReady};
-ghost use Rattle.bridge_rules.specs.Answers.{lentNumber};
+ghost use Rattle.bridge_rules.specs.Answers.{lentNumber, yieldedOf};
 ghost use Rattle.bridge_rules.specs.Turn.{aged, agedBridge, chunkLen, advanced};
 use crate::Bridge;
 use crate::DONE;
@@ -19,6 +19,7 @@ use crate::Slot;
 use crate::Stepped;
 use crate::WAITING;
 use crate::WRITE;
+use crate::Yielded;
 
 // A slot of this kind sends REQ and may wait.
 pub(crate) fn asks(kind: u8) -> bool
@@ -202,7 +203,7 @@ pub(crate) fn lent_number(b: Bridge, n: usize) -> u8
 
 // A bridge with a number and no frame.
 pub(crate) fn plain(b: Bridge, number: u8) -> Stepped
-    ensures { λ r. ⌜ r ≡ record { bridge = b; answer = noAnswer number } ⌝ }
+    ensures { λ r. ⌜ r ≡ record { bridge = b; answer = yieldedOf number none } ⌝ }
 {
     let bytes = [0u8; 8];
     let frame = bus::Frame {
@@ -210,9 +211,9 @@ pub(crate) fn plain(b: Bridge, number: u8) -> Stepped
         len: 0,
         bytes: bytes,
     };
-    let answer = bus::Served {
+    let answer = Yielded {
         number: number,
-        answers: 0,
+        frames: 0,
         frame: frame,
     };
     Stepped {

@@ -3,6 +3,7 @@ use crate::Bridge;
 use crate::Slot;
 use crate::Stepped;
 use crate::WAITING;
+use crate::Yielded;
 use crate::state::advance;
 use crate::state::age_all;
 use crate::state::asks;
@@ -118,9 +119,9 @@ fn send(b: Bridge, k: usize, buffer: &[u8]) -> Stepped
         own: b.own,
         last: k as u8,
     };
-    let answer = bus::Served {
+    let answer = Yielded {
         number: 0,
-        answers: 1,
+        frames: 1,
         frame: frame,
     };
     Stepped {

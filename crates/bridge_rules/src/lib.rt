@@ -47,11 +47,19 @@ pub struct Opened {
     pub number: u8,
 }
 
-// What a turn or an incoming frame hands back: the answer is a number and a turn's frame.
+// What a turn or an incoming frame answers: a number, how many frames it yields (0 or 1), and the frame, all 0 where there is none.
+#[repr(C)]
+pub struct Yielded {
+    pub number: u8,
+    pub frames: u8,
+    pub frame: bus_rules::Frame,
+}
+
+// What a turn or an incoming frame hands back.
 #[repr(C)]
 pub struct Stepped {
     pub bridge: Bridge,
-    pub answer: bus_rules::Served,
+    pub answer: Yielded,
 }
 
 // What a closing or a reset hands back.

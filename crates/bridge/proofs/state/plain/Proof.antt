@@ -2,10 +2,9 @@ use Rattle.bridge.proofs.state.plain.Statement.{statement}
 use Rattle.bridge.proofs.state.plain.Tie as tie
 use mathlib.Core.Path.{refl}
 use Rattle.bus_rules.specs.Frames.{noFrame}
-use Rattle.bus_rules.specs.Holder.{noAnswer}
 
 returns : tie.Need-returns
-unfolding noAnswer noFrame
+unfolding noFrame
 returns c = refl
 
 pub plain-spec : {M : Type 1} → statement M
