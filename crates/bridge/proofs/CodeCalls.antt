@@ -39,20 +39,20 @@ module _ (s : Bridge) (b : List ℕ) (a : Ask) where
     pub open-at : (k : ℕ) → k ≡ orFour (lowestFree s) → (k ≡ orZero (lowestFree s)) × (k < 4)
     open-at k q = free-from s k q open-room
 
-    pub open-ticket : s .tickets < 4294967295
+    pub open-ticket : s .issued < 4294967295
     open-ticket = open-facts s (length b) a e .ticketed
 
     pub open-few : askCount a ≤ 128
     open-few = open-facts s (length b) a e .law .few
 
-    pub open-is : (x : Slot) → x ≡ opened a (s .tickets + 1)
+    pub open-is : (x : Slot) → x ≡ opened a (s .issued + 1)
         → _≡_ {A = Opened} (record {
-          bridge = record { slots = set (s .slots) (orZero (lowestFree s)) x; tickets = x .ticket; own = s .own; last = s .last };
+          bridge = record { slots = set (s .slots) (orZero (lowestFree s)) x; issued = x .ticket; own = s .own; last = s .last };
           ticket = x .ticket;
           number = 0;
         }) (openedOf (openOf s b a))
     unfolding openOf openedOf opened
-    open-is x q = rw (q, add-one (s .tickets), eq-eqb _ 0 e)
+    open-is x q = rw (q, add-one (s .issued), eq-eqb _ 0 e)
 
 -- a write's bytes fit its slot's part of the buffer, and are stored there
 module _ (s : Bridge) (b : List ℕ) (d t o : ℕ) (bs : List ℕ) (e : openNumber s (length b) (write d t o bs) ≡ 0) where
@@ -125,7 +125,7 @@ unfolding slotSpan
 slotSpan-fits s k h l = go (asks (slot s k .kind))
   where
     few : slot s k .count ≤ 128
-    few = count-few (s .tickets) (slot s k) (true-sound s h .each k l)
+    few = count-few (s .issued) (slot s k) (true-sound s h .each k l)
 
     go : (b : Bool) → cond b (record { number = 0; start = 128 * k; count = slot s k .count }) (noSpan 0) .start
         + cond b (record { number = 0; start = 128 * k; count = slot s k .count }) (noSpan 0) .count ≤ 512

@@ -80,8 +80,8 @@ unfolding sentSlot
 sent-goes-on x e = rw e
 
 -- what is known of a ready slot of a sound bridge
-pub readies : (s : Bridge) (k : ℕ) → sound s ≡ true → k < 4 → isReady (slot s k .phase) ≡ true → ReadyOk (s .tickets) (slot s k)
-readies s k h l r = ready-ok (s .tickets) (slot s k) (true-sound s h .each k l) r
+pub readies : (s : Bridge) (k : ℕ) → sound s ≡ true → k < 4 → isReady (slot s k .phase) ≡ true → ReadyOk (s .issued) (slot s k)
+readies s k h l r = ready-ok (s .issued) (slot s k) (true-sound s h .each k l) r
 
 -- ── A turn ─────────────────────────────────────────────────────────────────────────────────────────────────────────
 
@@ -175,7 +175,7 @@ module _ (s : Bridge) (f : Frame) (h : sound s ≡ true) (p : Parts) (e : readHe
   unfolding partsOf
   whose j l z =
       let a = awaits-ok s f j z in
-      let w = wait-ok (s .tickets) (slot s j) (true-sound s h .each j l) (a .waits) in
+      let w = wait-ok (s .issued) (slot s j) (true-sound s h .each j l) (a .waits) in
       let o : p .offset ≡ idOffset (f .id) = ap (λ (x : Parts). x .offset) (head-is (s .own) f p e .1) in
       omega (arith, a .place, w .mid .below, w .common .few)
 
@@ -232,7 +232,7 @@ module _ (s : Bridge) (b : List ℕ) (f : Frame) where
 
       reply-fits : 128 * k + slot s k .progress + f .len ≤ length b
       reply-fits =
-          let w = wait-ok (s .tickets) (slot s k) (true-sound s (reply-lent .0) .each k (reply-at .1)) (reply-awaited .waits) in
+          let w = wait-ok (s .issued) (slot s k) (true-sound s (reply-lent .0) .each k (reply-at .1)) (reply-awaited .waits) in
           omega (arith, reply-at .1, reply-lent .1, reply-awaited .len, w .common .few, w .mid .below, len-inside (slot s k .count) (slot s k .progress) (w .mid .below))
 
       reply-puts : putOf b (128 * k + slot s k .progress) (content f) ≡ sets b (128 * k + slot s k .progress) (content f)

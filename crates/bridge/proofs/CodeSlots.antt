@@ -54,13 +54,13 @@ module _ (t : ℕ) (l : List Slot) (ok : Bool) (i : ℕ) where
   unfolding soundSlots
   slots-end h = rw (drop-of-length-le l h, and-true)
 
-pub sound-parts : (s : Bridge) → s .tickets ≤ 4294967295 → length (s .slots) ≡ 4
-    → (leb (s .own) 15 && leb (s .last) 3 && soundSlots (s .tickets) (s .slots) && distinct (s .slots)) ≡ sound s
+pub sound-parts : (s : Bridge) → s .issued ≤ 4294967295 → length (s .slots) ≡ 4
+    → (leb (s .own) 15 && leb (s .last) 3 && soundSlots (s .issued) (s .slots) && distinct (s .slots)) ≡ sound s
 unfolding sound
-sound-parts s t h = rw (le-leb (s .tickets) 4294967295 t, eq-eqb (length (s .slots)) 4 h) (go (leb (s .own) 15) (leb (s .last) 3))
+sound-parts s t h = rw (le-leb (s .issued) 4294967295 t, eq-eqb (length (s .slots)) 4 h) (go (leb (s .own) 15) (leb (s .last) 3))
   where
-    go : (a b : Bool) → (a && b && soundSlots (s .tickets) (s .slots) && distinct (s .slots))
-        ≡ (a && b && true && true && soundSlots (s .tickets) (s .slots) && distinct (s .slots))
+    go : (a b : Bool) → (a && b && soundSlots (s .issued) (s .slots) && distinct (s .slots))
+        ≡ (a && b && true && true && soundSlots (s .issued) (s .slots) && distinct (s .slots))
     go true true = refl
     go true false = refl
     go false b = refl

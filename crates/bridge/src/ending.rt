@@ -53,7 +53,7 @@ fn fresh(own: u8) -> Bridge
     let slots = [x, x, x, x];
     Bridge {
         slots: slots,
-        tickets: 0,
+        issued: 0,
         own: own,
         last: 3,
     }

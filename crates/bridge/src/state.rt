@@ -131,9 +131,9 @@ fn sound_phase(x: Slot) -> bool
     false
 }
 
-// Whether a slot is sound, where `tickets` is the last ticket given.
-fn sound_slot(x: Slot, tickets: u32) -> bool
-    ensures { λ r. ⌜ r ≡ soundSlot tickets x ⌝ }
+// Whether a slot is sound, where `issued` is the last ticket given.
+fn sound_slot(x: Slot, issued: u32) -> bool
+    ensures { λ r. ⌜ r ≡ soundSlot issued x ⌝ }
 {
     if x.phase == FREE {
         return (x.kind == 0)
@@ -148,19 +148,19 @@ fn sound_slot(x: Slot, tickets: u32) -> bool
     }
     (asks(x.kind) | carries(x.kind))
         & (0 < x.ticket)
-        & (x.ticket <= tickets)
+        & (x.ticket <= issued)
         & (ask_number(x.device, x.table, x.offset, x.count as usize) == 0)
         & sound_phase(x)
 }
 
-fn sound_slots(slots: [Slot; 4], tickets: u32) -> bool
-    ensures { λ r. ⌜ r ≡ soundSlots tickets slots ⌝ }
+fn sound_slots(slots: [Slot; 4], issued: u32) -> bool
+    ensures { λ r. ⌜ r ≡ soundSlots issued slots ⌝ }
 {
     let mut ok = true;
     let mut i: usize = 0;
     while i < 4 {
         let x = slots[i];
-        ok = ok & sound_slot(x, tickets);
+        ok = ok & sound_slot(x, issued);
         i += 1;
     }
     ok
@@ -185,7 +185,7 @@ pub(crate) fn sound(b: Bridge) -> bool
     ensures { λ r. ⌜ r ≡ sound b ⌝ }
 {
     let slots = b.slots;
-    (b.own <= 15) & (b.last <= 3) & sound_slots(slots, b.tickets) & distinct(slots)
+    (b.own <= 15) & (b.last <= 3) & sound_slots(slots, b.issued) & distinct(slots)
 }
 
 // 11 and 10, by which a call judges the bridge and a buffer of length n; else 0.
@@ -306,7 +306,7 @@ pub(crate) fn with_slots(b: Bridge, slots: [Slot; 4]) -> Bridge
 {
     Bridge {
         slots: slots,
-        tickets: b.tickets,
+        issued: b.issued,
         own: b.own,
         last: b.last,
     }

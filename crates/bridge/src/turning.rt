@@ -115,7 +115,7 @@ fn send(b: Bridge, k: usize, buffer: &[u8]) -> Stepped
     slots[k] = y;
     let t = Bridge {
         slots: slots,
-        tickets: b.tickets,
+        issued: b.issued,
         own: b.own,
         last: k as u8,
     };

@@ -36,10 +36,10 @@ module _ (r : Run) (w : Lawful r) (x : Transfer r) where
       × (view r x n .progress ≡ view r x (suc n) .progress → view r x n .sends ≤ view r x (suc n) .sends)
   grows n (stays a v c e f g) p = (omega (arith, ap (λ (y : Slot). y .progress) a), λ q. omega (arith, ap (λ (y : Slot). y .sends) a))
   grows n (waits a v c d u) p =
-      let k = aged-keeps (state r n .tickets) (view r x n) (okAt r w x n) in
+      let k = aged-keeps (state r n .issued) (view r x n) (okAt r w x n) in
       (omega (arith, ap (λ (y : Slot). y .progress) c, k .0), λ q. omega (arith, ap (λ (y : Slot). y .sends) c, k .1))
   grows n (served a v c d e g i) p =
-      let k = aged-keeps (state r n .tickets) (view r x n) (okAt r w x n) in
+      let k = aged-keeps (state r n .issued) (view r x n) (okAt r w x n) in
       let s = sent-read (aged (view r x n)) (ap asks (aged-same (view r x n) .kind) ∙ p) in
       (omega (arith, ap (λ (y : Slot). y .progress) d, s .1, k .0), λ q. omega (arith, ap (λ (y : Slot). y .sends) d, s .2, k .1))
   grows n (gets f a c d e g i j m o) p =
@@ -72,18 +72,18 @@ module _ (r : Run) (w : Lawful r) (x : Transfer r) where
 
   -- a slot that waits asks
   waits-asks : (n : ℕ) → view r x n .phase ≡ waiting → asks (view r x n .kind) ≡ true
-  waits-asks n e = wait-ok (state r n .tickets) (view r x n) (okAt r w x n) (ap isWaiting e) .isRead
+  waits-asks n e = wait-ok (state r n .issued) (view r x n) (okAt r w x n) (ap isWaiting e) .isRead
 
   gave-up-stays : (n : ℕ) → Move r x n → view r x n .phase ≡ gaveUp → view r x (suc n) .phase ≡ gaveUp
   gave-up-stays n (stays a v c e f g) p = ap (λ (y : Slot). y .phase) a ∙ p
-  gave-up-stays n (waits a v c d u) p = go (ageCase (state r n .tickets) (view r x n) (okAt r w x n))
+  gave-up-stays n (waits a v c d u) p = go (ageCase (state r n .issued) (view r x n) (okAt r w x n))
     where
       go : AgeCase (view r x n) → view r x (suc n) .phase ≡ gaveUp
       go (asleep q z) = ap (λ (y : Slot). y .phase) (c ∙ q) ∙ p
       go (ticks q b c d e) = phases (view r x n .phase) gaveUp waiting p q (λ z. omega arith)
       go (again q b c d e) = phases (view r x n .phase) gaveUp waiting p q (λ z. omega arith)
       go (expires q b c d e f) = phases (view r x n .phase) gaveUp waiting p q (λ z. omega arith)
-  gave-up-stays n (served a v c d e g i) p = go (ageCase (state r n .tickets) (view r x n) (okAt r w x n))
+  gave-up-stays n (served a v c d e g i) p = go (ageCase (state r n .issued) (view r x n) (okAt r w x n))
     where
       go : AgeCase (view r x n) → view r x (suc n) .phase ≡ gaveUp
       go (asleep q z) = phases (view r x n .phase) gaveUp ready p (ap (λ (y : Slot). y .phase) (sym q) ∙ c .phase) (λ z. omega arith)
@@ -107,12 +107,12 @@ module _ (r : Run) (w : Lawful r) (x : Transfer r) where
       go (stays a v k e f g) = no-both (q .turned) e
       go (waits a v k d (idle f g i)) = none-some (sym f ∙ q .yields)
       go (waits a v k d (elsewhere t f g i u m o)) = absurd
-          (g (sends-own r w x c j (q .chunk) t (state r j .tickets) (aged (slot (state r j) t)) i (sym u ∙ q .yields) f .0))
+          (g (sends-own r w x c j (q .chunk) t (state r j .issued) (aged (slot (state r j) t)) i (sym u ∙ q .yields) f .0))
       go (served a v k d e g i) =
-          let o = sends-own r w x c j (q .chunk) (slotOf r x) (state r j .tickets) (aged (view r x j)) k (sym i
+          let o = sends-own r w x c j (q .chunk) (slotOf r x) (state r j .issued) (aged (view r x j)) k (sym i
           ∙ q .yields) (openedAt r w x .bound) in
           let z = sent-read (aged (view r x j)) (o .2) in
-          let b = aged-keeps (state r j .tickets) (view r x j) (okAt r w x j) in
+          let b = aged-keeps (state r j .issued) (view r x j) (okAt r w x j) in
           record {
             phase = ap (λ (y : Slot). y .phase) d ∙ z .0;
             progress = ap (λ (y : Slot). y .progress) d ∙ z .1 ∙ o .1;
@@ -160,7 +160,7 @@ module _ (r : Run) (w : Lawful r) (x : Transfer r) where
                 );
                 over = λ q. absurd (omega (arith, q, t, p));
               }
-          go (waits a v k d f) = age (ageCase (state r n .tickets) (view r x n) (okAt r w x n))
+          go (waits a v k d f) = age (ageCase (state r n .issued) (view r x n) (okAt r w x n))
             where
               t : turns r j (suc n) ≡ suc (turns r j n)
               t = turns-more r j n v l
@@ -169,8 +169,8 @@ module _ (r : Run) (w : Lawful r) (x : Transfer r) where
               age (asleep q z) = no-both (ap isWaiting (wt .0)) z
               age (ticks q b g i m) =
                   let ph : view r x (suc n) .phase ≡ waiting = ap (λ (y : Slot). y .phase) k ∙ b in
-                  let wk : WaitOk (state r (suc n) .tickets) (view r x (suc n))
-                  = wait-ok (state r (suc n) .tickets) (view r x (suc n)) (okAt r w x (suc n)) (ap isWaiting ph) in
+                  let wk : WaitOk (state r (suc n) .issued) (view r x (suc n))
+                  = wait-ok (state r (suc n) .issued) (view r x (suc n)) (okAt r w x (suc n)) (ap isWaiting ph) in
                   let lf : view r x (suc n) .left ≡ aged (view r x n) .left = ap (λ (y : Slot). y .left) k in
                   record {
                     soon = λ z. (
@@ -182,8 +182,8 @@ module _ (r : Run) (w : Lawful r) (x : Transfer r) where
                     over = λ z. absurd (omega (arith, z, t, g, lf, wt .2, wk .some));
                   }
               age (again q b g i m) =
-                  let rk : ReadyOk (state r (suc n) .tickets) (view r x (suc n))
-                  = ready-ok (state r (suc n) .tickets) (view r x (suc n)) (okAt r w x (suc n))
+                  let rk : ReadyOk (state r (suc n) .issued) (view r x (suc n))
+                  = ready-ok (state r (suc n) .issued) (view r x (suc n)) (okAt r w x (suc n))
                   (ap isReady (ap (λ (y : Slot). y .phase) k ∙ g))
                   in
                   record {
@@ -194,7 +194,7 @@ module _ (r : Run) (w : Lawful r) (x : Transfer r) where
                 soon = λ z. absurd (omega (arith, z, t, b, wt .2));
                 over = λ z z′. ap (λ (y : Slot). y .phase) k ∙ g;
               }
-          go (served a v k d e g i) = age (ageCase (state r n .tickets) (view r x n) (okAt r w x n))
+          go (served a v k d e g i) = age (ageCase (state r n .issued) (view r x n) (okAt r w x n))
             where
               t : turns r j (suc n) ≡ suc (turns r j n)
               t = turns-more r j n v l
@@ -374,8 +374,8 @@ module _ (r : Run) (w : Lawful r) (x : Transfer r) where
       b₂₃ = grown (suc (t .j₂)) (t .j₃) (omega (arith, t .second .sent .stands .0)) (waits-asks (suc (t .j₂)) (a₂ .phase)) (t .order₂)
           (t .third .sent .stands) .sends (a₂ .progress ∙ sym (a₃ .before))
 
-      wk : WaitOk (state r (suc (t .j₃)) .tickets) (view r x (suc (t .j₃)))
-      wk = wait-ok (state r (suc (t .j₃)) .tickets) (view r x (suc (t .j₃))) (okAt r w x (suc (t .j₃))) (ap isWaiting (a₃ .phase))
+      wk : WaitOk (state r (suc (t .j₃)) .issued) (view r x (suc (t .j₃)))
+      wk = wait-ok (state r (suc (t .j₃)) .issued) (view r x (suc (t .j₃))) (okAt r w x (suc (t .j₃))) (ap isWaiting (a₃ .phase))
 
       three : view r x (suc (t .j₃)) .sends ≡ 3
       three = omega (arith, a₁ .sends, a₂ .sends, a₃ .sends, b₁₂, b₂₃, wk .thrice)

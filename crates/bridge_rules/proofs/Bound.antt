@@ -91,7 +91,7 @@ module _ (r : Run) (w : Lawful r) (x : Transfer r) where
   -- after aging, before the turn's send: what may still be used when this slot is not served yet
   aged-budget : (j n : ℕ) → Budget r x j n → aged (view r x n) .phase ≡ ready
       → turns r j n ≤ 9 * aged (view r x n) .progress + 3 + 24 * aged (view r x n) .sends
-  aged-budget j n b e = go (aged-ready (state r n .tickets) (view r x n) (okAt r w x n) e)
+  aged-budget j n b e = go (aged-ready (state r n .issued) (view r x n) (okAt r w x n) e)
     where
       go : ReadyAfter (view r x n) → turns r j n ≤ 9 * aged (view r x n) .progress + 3 + 24 * aged (view r x n) .sends
       go (inl p) = rw (p .1) (omega (arith, b .ifReady (p .0)))
@@ -110,7 +110,7 @@ module _ (r : Run) (w : Lawful r) (x : Transfer r) where
 
       ifReady : view r x (suc n) .phase ≡ ready → turns r j (suc n) + dist (state r (suc n) .last) (slotOf r x) ≤ 9 * view r x (suc n)
           .progress + 3 + 24 * view r x (suc n) .sends
-      ifReady p = pick (aged-ready (state r n .tickets) (view r x n) (okAt r w x n) q) u
+      ifReady p = pick (aged-ready (state r n .issued) (view r x n) (okAt r w x n) q) u
         where
           q : aged (view r x n) .phase ≡ ready
           q = sym (ap (λ (y : Slot). y .phase) c) ∙ p
@@ -130,7 +130,7 @@ module _ (r : Run) (w : Lawful r) (x : Transfer r) where
       ifWaiting : view r x (suc n) .phase ≡ waiting → turns r j (suc n) + view r x (suc n) .left ≤ 9 * view r x (suc n)
           .progress + 24 * view r x (suc n) .sends
       ifWaiting p =
-          let q = aged-waiting (state r n .tickets) (view r x n) (okAt r w x n) (sym (ap (λ (y : Slot). y .phase) c) ∙ p) in
+          let q = aged-waiting (state r n .issued) (view r x n) (okAt r w x n) (sym (ap (λ (y : Slot). y .phase) c) ∙ p) in
           rw c (omega (arith, t, q .1, q .2, q .3, b .ifWaiting (q .0)))
   budget-step j n s l h (served a v c d e g i) b = go (c .common .told)
     where
@@ -190,7 +190,7 @@ module _ (r : Run) (w : Lawful r) (x : Transfer r) where
       h : Held r x n
       h = held r w x n s
 
-      go : SlotOk (state r n .tickets) (view r x n) → (view r x n .phase ≡ done) ⊎ (view r x n .phase ≡ gaveUp)
+      go : SlotOk (state r n .issued) (view r x n) → (view r x n .phase ≡ done) ⊎ (view r x n .phase ≡ gaveUp)
       go (okFree q) = absurd (let z : view r x n .ticket ≡ 0
           = ap (λ (y : Slot). y .ticket) q in omega (arith, z, h .ticket, openedAt r w x .ticketed))
       go (okReady q c m i v l) = absurd (omega (arith, b .ifReady q, m .at, m .below, h .count, i))

@@ -65,8 +65,8 @@ LawfulAsk a = LawfulArgs (askDevice a) (askTable a) (askOffset a) (askCount a)
 
 abbrev pub openResult : Bridge → List ℕ → Ask → ℕ → Result
 openResult s b a k = record {
-  answer = record { number = 0; ticket = suc (s .tickets); sent = none; shown = [] };
-  state = record { own = s .own; last = s .last; tickets = suc (s .tickets); slots = set (s .slots) k (opened a (suc (s .tickets))) };
+  answer = record { number = 0; ticket = suc (s .issued); sent = none; shown = [] };
+  state = record { own = s .own; last = s .last; issued = suc (s .issued); slots = set (s .slots) k (opened a (suc (s .issued))) };
   buffer = sets b (128 * k) (askGiven a);
 }
 
@@ -86,7 +86,7 @@ pub data Kind (s : Bridge) (b : List ℕ) (c : Call) : Type 0 where
       → (isNoted c && eqb (step s b c .answer .number) 0) ≡ false
       → ((f : Frame) → c ≡ frame itsOwn f → contentNumber (s .own) f ≡ 0 → (k : ℕ) → k < 4 → awaits s f k ≡ false)
       → Kind s b c
-  opens : (a : Ask) (k : ℕ) → c ≡ opening itsOwn a → lowestFree s ≡ some k → Lowest (freeAt s) k → LawfulAsk a → s .tickets < 4294967295
+  opens : (a : Ask) (k : ℕ) → c ≡ opening itsOwn a → lowestFree s ≡ some k → Lowest (freeAt s) k → LawfulAsk a → s .issued < 4294967295
       → step s b c ≡ openResult s b a k → Kind s b c
   sends : (k : ℕ) → c ≡ turn itsOwn → Found (readyAt (agedBridge s)) (suc (s .last)) 4 k → step s b c ≡ sendFor (agedBridge s) b (some k)
       → Kind s b c
@@ -264,7 +264,7 @@ aged-sound s h = record {
   last = h .last;
   tickets = h .tickets;
   four = length-map (s .slots) aged ∙ h .four;
-  each = λ k l. rw (slot-aged s k) (aged-ok (s .tickets) (slot s k) (h .each k l));
+  each = λ k l. rw (slot-aged s k) (aged-ok (s .issued) (slot s k) (h .each k l));
   apart = λ k j l m d. rw (slot-aged s k, slot-aged s j, aged-same (slot s k) .ticket, aged-same (slot s j) .ticket) (h .apart k j l m d);
 }
 
@@ -370,7 +370,7 @@ found-bound p start k f = omega (arith, f .is)
 pub sends-sound : (s : Bridge) (b : List ℕ) (k : ℕ) → Sound s → k < 4 → readyAt s k ≡ true → Sound (sendFor s b (some k) .state)
 unfolding sendFor
 sends-sound s b k h l r = set-sound s _ k (sentSlot (slot s k)) h l (h .own) (omega arith) (h .tickets) (omega arith) refl
-    (sent-ok (s .tickets) (slot s k) (ready-ok (s .tickets) (slot s k) (h .each k l) r))
+    (sent-ok (s .issued) (slot s k) (ready-ok (s .issued) (slot s k) (h .each k l) r))
     (keeps-apart s k (sentSlot (slot s k)) h l (sent-same (slot s k) .ticket))
 
 ticket-bound : (t : ℕ) (x : Slot) → SlotOk t x → x .ticket ≤ t
@@ -388,11 +388,11 @@ pub kind-sound : (s : Bridge) (b : List ℕ) (c : Call) → Sound s → length b
     → Sound (step s b c .state) × (length (step s b c .buffer) ≡ 512)
 kind-sound s b c h lb (nothing p q r t o w) = (rw p h, rw q lb)
 kind-sound s b c h lb (opens a k e f g l t z) = (
-  rw z (set-sound s _ k (opened a (suc (s .tickets))) h (g .bound) (h .own) (h .last) (omega arith) (omega arith) refl
-      (opened-ok a (s .tickets) l)
-      (λ j m d p q. let n : slot s j .ticket ≤ s .tickets
-      = ticket-bound (s .tickets) (slot s j) (h .each j m) in let o : opened a (suc (s .tickets)) .ticket ≡ suc (s .tickets)
-      = opened-ticket a (suc (s .tickets)) in omega arith)),
+  rw z (set-sound s _ k (opened a (suc (s .issued))) h (g .bound) (h .own) (h .last) (omega arith) (omega arith) refl
+      (opened-ok a (s .issued) l)
+      (λ j m d p q. let n : slot s j .ticket ≤ s .issued
+      = ticket-bound (s .issued) (slot s j) (h .each j m) in let o : opened a (suc (s .issued)) .ticket ≡ suc (s .issued)
+      = opened-ticket a (suc (s .issued)) in omega arith)),
   rw z (length-sets b (128 * k) (askGiven a) ∙ lb),
 )
 kind-sound s b c h lb (sends k e f z) = (
@@ -402,8 +402,8 @@ kind-sound s b c h lb (sends k e f z) = (
 kind-sound s b c h lb (idles e f z) = (rw z (idle-state (agedBridge s) b (aged-sound s h)), rw z (send-buffer (agedBridge s) b none lb))
 kind-sound s b c h lb (takes f k e r l a z) = (
   rw z (set-sound s _ k (advanced (slot s k)) h l (h .own) (h .last) (h .tickets) (omega arith) refl
-      (let w : WaitOk (s .tickets) (slot s k) = wait-ok (s .tickets) (slot s k) (h .each k l) (awaits-ok s f k a .waits) in advanced-ok
-      (s .tickets) (slot s k) (w .common) (w .mid))
+      (let w : WaitOk (s .issued) (slot s k) = wait-ok (s .issued) (slot s k) (h .each k l) (awaits-ok s f k a .waits) in advanced-ok
+      (s .issued) (slot s k) (w .common) (w .mid))
       (keeps-apart s k (advanced (slot s k)) h l (advanced-same (slot s k) .ticket))),
   rw z (length-sets b (128 * k + slot s k .progress) (content f) ∙ lb),
 )

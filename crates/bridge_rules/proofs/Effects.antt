@@ -82,7 +82,7 @@ turnedBy s b c = isTurn c && eqb (step s b c .answer .number) 0
 -- a turn that did not serve slot k
 pub data Unserved (s : Bridge) (b : List ℕ) (c : Call) (k : ℕ) : Type 0 where
   idle : step s b c .answer .sent ≡ none → isReady (aged (slot s k) .phase) ≡ false → step s b c .state .last ≡ s .last → Unserved s b c k
-  elsewhere : (j : ℕ) → j < 4 → j ≢ k → ReadyOk (s .tickets) (aged (slot s j))
+  elsewhere : (j : ℕ) → j < 4 → j ≢ k → ReadyOk (s .issued) (aged (slot s j))
       → step s b c .answer .sent ≡ some (sentFrame (s .own) j (aged (slot s j)) b)
       → step s b c .state .last ≡ j → (isReady (aged (slot s k) .phase) ≡ true → dist j k < dist (s .last) k) → Unserved s b c k
 
@@ -92,17 +92,17 @@ pub data Effect (s : Bridge) (b : List ℕ) (c : Call) (k : ℕ) : Type 0 where
       → ((f : Frame) → c ≡ frame itsOwn f → contentNumber (s .own) f ≡ 0 → awaits s f k ≡ false) → Effect s b c k
   ages : c ≡ turn itsOwn → turnedBy s b c ≡ true → slot (step s b c .state) k ≡ aged (slot s k) → step s b c .buffer ≡ b
       → Unserved s b c k → Effect s b c k
-  serves : c ≡ turn itsOwn → turnedBy s b c ≡ true → ReadyOk (s .tickets) (aged (slot s k))
+  serves : c ≡ turn itsOwn → turnedBy s b c ≡ true → ReadyOk (s .issued) (aged (slot s k))
       → slot (step s b c .state) k ≡ sentSlot (aged (slot s k)) → step s b c .buffer ≡ b
       → step s b c .state .last ≡ k
       → step s b c .answer .sent ≡ some (sentFrame (s .own) k (aged (slot s k)) b) → Effect s b c k
-  taken : (f : Frame) → c ≡ frame itsOwn f → contentNumber (s .own) f ≡ 0 → AwaitsOk s f k → WaitOk (s .tickets) (slot s k)
+  taken : (f : Frame) → c ≡ frame itsOwn f → contentNumber (s .own) f ≡ 0 → AwaitsOk s f k → WaitOk (s .issued) (slot s k)
       → slot (step s b c .state) k ≡ advanced (slot s k) → step s b c .buffer ≡ sets b (128 * k + slot s k .progress) (content f)
       → step s b c .state .last ≡ s .last → turnedBy s b c ≡ false → step s b c .answer .sent ≡ none
       → Effect s b c k
   opensHere : (a : Ask) → c ≡ opening itsOwn a → lowestFree s ≡ some k → isFree (slot s k .phase) ≡ true → LawfulAsk a
-      → slot (step s b c .state) k ≡ opened a (suc (s .tickets))
-      → step s b c .buffer ≡ sets b (128 * k) (askGiven a) → step s b c .answer .ticket ≡ suc (s .tickets) → step s b c .answer .number ≡ 0
+      → slot (step s b c .state) k ≡ opened a (suc (s .issued))
+      → step s b c .buffer ≡ sets b (128 * k) (askGiven a) → step s b c .answer .ticket ≡ suc (s .issued) → step s b c .answer .number ≡ 0
       → Effect s b c k
   closesHere : (t : ℕ) → c ≡ close t → step s b c .answer .number ≡ 0 → slot s k .ticket ≡ t → slot (step s b c .state) k ≡ blank
       → Effect s b c k
@@ -128,9 +128,9 @@ module _ (s : Bridge) (b : List ℕ) (c : Call) (h : Sound s) (k : ℕ) (l : k <
     where
       go : Dec (j ≡ k) → Effect s b c k
       go (yes p) = opensHere a e (f ∙ ap some p) (ap (freeAt s) (sym p)
-          ∙ g .passes) w (rw z (slot-set-same s _ k _ (h .four) (ap (λ (i : ℕ). set (s .slots) i (opened a (suc (s .tickets)))) p) l))
+          ∙ g .passes) w (rw z (slot-set-same s _ k _ (h .four) (ap (λ (i : ℕ). set (s .slots) i (opened a (suc (s .issued)))) p) l))
           (rw (z, p)) (rw z) (rw z)
-      go (no p) = still (same-slot (openResult s b a j) j (opened a (suc (s .tickets))) z refl p)
+      go (no p) = still (same-slot (openResult s b a j) j (opened a (suc (s .issued))) z refl p)
           (rw z (let u : 128 * j ≡ 128 * j + 0 = omega arith in rw u (window-sets k j b (askGiven a) 0 (λ v. p (sym v)) (given-short a w))))
           (rw z) (rw e) (rw z) (λ f q. absurd (no-frame (ap isOpening e) f q))
   effect (sends j e f z) = go (ℕ-discrete j k)
@@ -138,8 +138,8 @@ module _ (s : Bridge) (b : List ℕ) (c : Call) (h : Sound s) (k : ℕ) (l : k <
       bound : j < 4
       bound = omega (arith, f .is)
 
-      ready : (i : ℕ) → i < 4 → readyAt (agedBridge s) i ≡ true → ReadyOk (s .tickets) (aged (slot s i))
-      ready i m r = rw (slot-aged s i) at (ready-ok (s .tickets) (slot (agedBridge s) i) (aged-sound s h .each i m) r)
+      ready : (i : ℕ) → i < 4 → readyAt (agedBridge s) i ≡ true → ReadyOk (s .issued) (aged (slot s i))
+      ready i m r = rw (slot-aged s i) at (ready-ok (s .issued) (slot (agedBridge s) i) (aged-sound s h .each i m) r)
 
       go : Dec (j ≡ k) → Effect s b c k
       go (yes p) = serves e (rw (z, e)) (ready k l (ap (readyAt (agedBridge s)) (sym p) ∙ f .passes))
@@ -171,8 +171,8 @@ module _ (s : Bridge) (b : List ℕ) (c : Call) (h : Sound s) (k : ℕ) (l : k <
           rw (dist-is (s .last) k (h .last) l, slot-aged s k) at q
   effect (takes f j e r m a z) = go (ℕ-discrete j k)
     where
-      w : WaitOk (s .tickets) (slot s j)
-      w = wait-ok (s .tickets) (slot s j) (h .each j m) (awaits-ok s f j a .waits)
+      w : WaitOk (s .issued) (slot s j)
+      w = wait-ok (s .issued) (slot s j) (h .each j m) (awaits-ok s f j a .waits)
 
       go : Dec (j ≡ k) → Effect s b c k
       go (yes p) = taken f e r (rw p at (awaits-ok s f j a)) (rw p at w)
@@ -196,7 +196,7 @@ module _ (s : Bridge) (b : List ℕ) (c : Call) (h : Sound s) (k : ℕ) (l : k <
           only g q (inl u) =
               let same : f ≡ g = cc in
               let ak : AwaitsOk s g k = awaits-ok s g k u in
-              let wk : WaitOk (s .tickets) (slot s k) = wait-ok (s .tickets) (slot s k) (h .each k l) (ak .waits) in
+              let wk : WaitOk (s .issued) (slot s k) = wait-ok (s .issued) (slot s k) (h .each k l) (ak .waits) in
               let aj : AwaitsOk s f j = awaits-ok s f j a in
               let pl : 128 * j + slot s j .progress ≡ 128 * k + slot s k .progress = sym (aj .place)
               ∙ ap (λ (x : Frame). idOffset (x .id)) same ∙ ak .place in

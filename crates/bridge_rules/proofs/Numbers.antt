@@ -130,12 +130,12 @@ Later a P Q =
     (First Q 13
     Zero))))
 
-room-chain : (s : Bridge) (n : ℕ) (P Q : Type 0) → (isNone (lowestFree s) ≡ true) ↔ P → (4294967295 ≤ s .tickets) ↔ Q
+room-chain : (s : Bridge) (n : ℕ) (P Q : Type 0) → (isNone (lowestFree s) ≡ true) ↔ P → (4294967295 ≤ s .issued) ↔ Q
     → (roomNumber s ≡ n) ↔ First P 12 (First Q 13 Zero) n
 unfolding roomNumber
 room-chain s n P Q p q = first-if 12 (isNone (lowestFree s)) _ n P (First Q 13 Zero) p (λ z. first-if 13 _ 0 n Q Zero (
-  λ e. q .0 (omega (arith, leb-true _ (s .tickets) e)),
-  λ u. le-leb _ (s .tickets) (omega (arith, q .1 u)),
+  λ e. q .0 (omega (arith, leb-true _ (s .issued) e)),
+  λ u. le-leb _ (s .issued) (omega (arith, q .1 u)),
 ) (λ z. (sym, sym)))
 
 args-chain : (d t o c x n : ℕ) (rest : ℕ → Type 0) → (x ≡ n) ↔ rest n
@@ -158,7 +158,7 @@ args-chain d t o c x n rest r = (λ e. tests .0 (sym flat ∙ e), λ p. flat ∙
         (or-test (eqb c 0) (ltb 128 c) (1 ≤ c) (c ≤ 128) (none-test c) (over-test 128 c) (some-of c) (ltb-false 128 c))
         (λ y. first-if 8 (ltb 2048 (o + c)) x n (2048 < o + c) rest (ltb-test 2048 (o + c)) (λ u. r)))
 
-chain : (s : Bridge) (a : Ask) (n : ℕ) (P Q : Type 0) → (isNone (lowestFree s) ≡ true) ↔ P → (4294967295 ≤ s .tickets) ↔ Q
+chain : (s : Bridge) (a : Ask) (n : ℕ) (P Q : Type 0) → (isNone (lowestFree s) ≡ true) ↔ P → (4294967295 ≤ s .issued) ↔ Q
     → (later s a ≡ n) ↔ Later a P Q n
 chain s a n P Q p q = args-chain (askDevice a) (askTable a) (askOffset a) (askCount a) (roomNumber s) n (First P 12 (First Q 13 Zero))
     (room-chain s n P Q p q)
@@ -213,7 +213,7 @@ opening-numbers s b a n = (λ e. h .0 (sym (number-is s b a) ∙ e), λ p. numbe
     Full = (k : ℕ) → k < 4 → slot s k .phase ≢ free
 
     Used : Type 0
-    Used = 4294967295 ≤ s .tickets
+    Used = 4294967295 ≤ s .issued
 
     h : (openNumber s (length b) a ≡ n) ↔ OpeningNumber s b a n
     h = (λ e. tests .0 (sym flat ∙ e), λ p. flat ∙ tests .1 p)
@@ -346,14 +346,14 @@ module _ (r : Run) (w : Lawful r) (n : ℕ) where
       taken : (k : ℕ) → k < 4 → (x : Transfer r) × Stands r x n × (slotOf r x ≡ k) → isFree (slot (state r n) k .phase) ≡ false
       taken k l (x, s, e) = rw e at (held-slot r w x n s)
 
-  tickets-used : (4294967295 ≤ state r n .tickets) ↔ (4294967295 ≤ ledger r n .lastTicket)
-  tickets-used = (λ l. omega (arith, agrees r w n .lastTicket), λ l. omega (arith, agrees r w n .lastTicket))
+  tickets-used : (4294967295 ≤ state r n .issued) ↔ (4294967295 ≤ ledger r n .issued)
+  tickets-used = (λ l. omega (arith, agrees r w n .issued), λ l. omega (arith, agrees r w n .issued))
 
   abbrev Full : Type 0
   Full = (k : ℕ) → k < 4 → (x : Transfer r) × Stands r x n × (slotOf r x ≡ k)
 
   abbrev Used : Type 0
-  Used = 4294967295 ≤ ledger r n .lastTicket
+  Used = 4294967295 ≤ ledger r n .issued
 
   opening-number : (l : Lent) (a : Ask) → Shaped (opening l a) → (m : ℕ)
       → (step (state r n) (buffer r n) (opening l a) .answer .number ≡ m) ↔ OpeningInRun r n l a m
@@ -381,8 +381,8 @@ module _ (r : Run) (w : Lawful r) (n : ℕ) where
     is-reply : (k : ℕ) → k < 4 → awaits (state r n) f k ≡ true → (x : Transfer r) × (c : ℕ) × Replied r x c n
     is-reply k l a = go (occupied r w n k l (not-free (wk .phase)))
       where
-        wk : WaitOk (state r n .tickets) (slot (state r n) k)
-        wk = wait-ok (state r n .tickets) (slot (state r n) k) (storage-sound r w n .0 .each k l) (awaits-ok (state r n) f k a .waits)
+        wk : WaitOk (state r n .issued) (slot (state r n) k)
+        wk = wait-ok (state r n .issued) (slot (state r n) k) (storage-sound r w n .0 .each k l) (awaits-ok (state r n) f k a .waits)
 
         not-free : slot (state r n) k .phase ≡ waiting → isFree (slot (state r n) k .phase) ≡ false
         not-free p = ap isFree p
@@ -401,8 +401,8 @@ module _ (r : Run) (w : Lawful r) (n : ℕ) where
             h : Held r x n
             h = held r w x n s
 
-            wx : WaitOk (state r n .tickets) (view r x n)
-            wx = wait-ok (state r n .tickets) (view r x n) (okAt r w x n) (awaits-ok (state r n) f (slotOf r x) ax .waits)
+            wx : WaitOk (state r n .issued) (view r x n)
+            wx = wait-ok (state r n .issued) (view r x n) (okAt r w x n) (awaits-ok (state r n) f (slotOf r x) ax .waits)
 
             rd : isWrite (x .ask) ≡ false
             rd = read-of (x .ask) (h .kind) (wx .isRead)
@@ -535,7 +535,7 @@ module _ (r : Run) (w : Lawful r) (n : ℕ) where
   numbers = record {
     opens = λ l a e m. made (opening l a) m _ e (opening-number l a (shaped-as (opening l a) e) m);
     tickets = λ l a e z.
-        openedAt r w (record { at = n; lent = l; ask = a; call = e; accepted = z }) .ticketed ∙ ap suc (sym (agrees r w n .lastTicket));
+        openedAt r w (record { at = n; lent = l; ask = a; call = e; accepted = z }) .ticketed ∙ ap suc (sym (agrees r w n .issued));
     turns = λ l e m. made (turn l) m _ e (turns-number l (shaped-as (turn l) e) m);
     frames = λ l f e m. made (frame l f) m _ e (frames-number l f e (shaped-as (frame l f) e) m);
     replies = λ l f e z. reply-of l f e (shaped-as (frame l f) e) (zero-as (frame l f) e z);

@@ -143,14 +143,14 @@ module _ (r : Run) (w : Lawful r) (x : Transfer r) where
   ready-fails : (n c : ℕ) → Past r x n → r .calls n ≡ turn itsOwn → accepted r n ≡ true → aged (view r x n) .phase ≡ ready
       → aged (view r x n) .progress ≡ 8 * c
       → Fails r x c (aged (view r x n) .sends) (suc n) n
-  ready-fails n c h e a p q = go (ageCase (state r n .tickets) (view r x n) (okAt r w x n))
+  ready-fails n c h e a p q = go (ageCase (state r n .issued) (view r x n) (okAt r w x n))
     where
       go : AgeCase (view r x n) → Fails r x c (aged (view r x n) .sends) (suc n) n
       go (asleep u v) = rw u (fails-mono r x c (view r x n .sends) n (suc n) n n (omega arith) (omega arith)
           (h .ifReady (ap (λ (y : Slot). y .phase) (sym u) ∙ p) c (ap (λ (y : Slot). y .progress) (sym u) ∙ q)))
       go (ticks a b c d f) = phases (aged (view r x n) .phase) ready waiting p b (λ z. omega arith)
       go (again u v b d f) =
-          let wk : WaitOk (state r n .tickets) (view r x n) = wait-ok (state r n .tickets) (view r x n) (okAt r w x n) (ap isWaiting u) in
+          let wk : WaitOk (state r n .issued) (view r x n) = wait-ok (state r n .issued) (view r x n) (okAt r w x n) (ap isWaiting u) in
           let sc : view r x n .sends ≡ suc (view r x n .sends - 1) = omega (arith, wk .once) in
           let pd : Pending r x c (view r x n .sends - 1) (view r x n .left) n = h .ifWaiting u c (view r x n .sends - 1) (sym f ∙ q) sc in
           let fl : Fails r x c (suc (view r x n .sends - 1)) (suc n) n
@@ -181,7 +181,7 @@ module _ (r : Run) (w : Lawful r) (x : Transfer r) where
 
   past-waits : (n : ℕ) → Past r x n → r .calls n ≡ turn itsOwn → accepted r n ≡ true → view r x (suc n) ≡ aged (view r x n)
       → buffer r (suc n) ≡ buffer r n → Past r x (suc n)
-  past-waits n p e a c d = go (ageCase (state r n .tickets) (view r x n) (okAt r w x n))
+  past-waits n p e a c d = go (ageCase (state r n .issued) (view r x n) (okAt r w x n))
     where
       asking : asks (view r x (suc n) .kind) ≡ true
       asking = rw (c, aged-same (view r x n) .kind) (p .asking)
@@ -231,7 +231,7 @@ module _ (r : Run) (w : Lawful r) (x : Transfer r) where
       }
 
   past-served : (n : ℕ) → Stands r x n → Held r x n → Past r x n → r .calls n ≡ turn itsOwn → accepted r n ≡ true
-      → ReadyOk (state r n .tickets) (aged (view r x n))
+      → ReadyOk (state r n .issued) (aged (view r x n))
       → view r x (suc n) ≡ sentSlot (aged (view r x n)) → buffer r (suc n) ≡ buffer r n
       → answer r n .sent ≡ some (sentFrame (state r n .own) (slotOf r x) (aged (view r x n)) (buffer r n)) → Past r x (suc n)
   past-served n st h p e a o c d i = record {
@@ -262,7 +262,7 @@ module _ (r : Run) (w : Lawful r) (x : Transfer r) where
       progress = ap (λ (y : Slot). y .progress) c ∙ sr .1
 
       keeps : aged (view r x n) .progress ≡ view r x n .progress
-      keeps = aged-keeps (state r n .tickets) (view r x n) (okAt r w x n) .0
+      keeps = aged-keeps (state r n .issued) (view r x n) (okAt r w x n) .0
 
       ifWaiting : view r x (suc n) .phase ≡ waiting → (k s : ℕ) → view r x (suc n) .progress ≡ 8 * k → view r x (suc n) .sends ≡ suc s
           → Pending r x k s (view r x (suc n) .left) (suc n)
@@ -290,7 +290,7 @@ module _ (r : Run) (w : Lawful r) (x : Transfer r) where
 
   -- a frame that the slot awaits is the reply to its chunk
   pub awaited-replied : (n : ℕ) (f : Frame) → Stands r x n → Held r x n → Past r x n → r .calls n ≡ frame itsOwn f
-      → contentNumber (state r n .own) f ≡ 0 → AwaitsOk (state r n) f (slotOf r x) → (wk : WaitOk (state r n .tickets) (view r x n))
+      → contentNumber (state r n .own) f ≡ 0 → AwaitsOk (state r n) f (slotOf r x) → (wk : WaitOk (state r n .issued) (view r x n))
       → Replied r x (wk .mid .chunk) n
   awaited-replied n f st h p e cr aw wk = record {
     awaits = record {
@@ -309,7 +309,7 @@ module _ (r : Run) (w : Lawful r) (x : Transfer r) where
 
   past-gets : (n : ℕ) (f : Frame) → Stands r x n → Held r x n → Past r x n → r .calls n ≡ frame itsOwn f
       → contentNumber (state r n .own) f ≡ 0
-      → AwaitsOk (state r n) f (slotOf r x) → WaitOk (state r n .tickets) (view r x n) → view r x (suc n) ≡ advanced (view r x n)
+      → AwaitsOk (state r n) f (slotOf r x) → WaitOk (state r n .issued) (view r x n) → view r x (suc n) ≡ advanced (view r x n)
       → buffer r (suc n) ≡ sets (buffer r n) (128 * slotOf r x + view r x n .progress) (content f) → Past r x (suc n)
   past-gets n f st h p e cr aw wk c d = record {
     asking = rw (c, advanced-same (view r x n) .kind) (p .asking);

@@ -31,7 +31,7 @@ use Rattle.bridge_rules.proofs.Storages.{storage-sound, kindAt, effectA
 pub record Opened (r : Run) (x : Transfer r) : Type 0 where
   pub bound : slotOf r x < 4
   pub law : LawfulAsk (x .ask)
-  pub ticketed : ticket r x ≡ suc (state r (x .at) .tickets)
+  pub ticketed : ticket r x ≡ suc (state r (x .at) .issued)
   pub lowest : Lowest (freeAt (state r (x .at))) (slotOf r x)
   pub slot : slot (state r (suc (x .at))) (slotOf r x) ≡ opened (x .ask) (ticket r x)
   pub given : buffer r (suc (x .at)) ≡ sets (buffer r (x .at)) (128 * slotOf r x) (askGiven (x .ask))
@@ -55,15 +55,15 @@ module _ (r : Run) (w : Lawful r) (x : Transfer r) where
           let same : a ≡ x .ask = cc (x .call) in
           let kk : slotOf r x ≡ k = lowest-agrees (ledger r (x .at)) (state r (x .at)) k (storage-sound r w (x .at) .0) (agrees r w (x .at))
           g in
-          let tk : ticket r x ≡ suc (state r (x .at) .tickets) = ap (λ (u : Result). u .answer .ticket) z in
-          let slots : state r (suc (x .at)) .slots ≡ set (state r (x .at) .slots) k (opened a (suc (state r (x .at) .tickets)))
+          let tk : ticket r x ≡ suc (state r (x .at) .issued) = ap (λ (u : Result). u .answer .ticket) z in
+          let slots : state r (suc (x .at)) .slots ≡ set (state r (x .at) .slots) k (opened a (suc (state r (x .at) .issued)))
           = ap (λ (u : Result). u .state .slots) z in
           record {
             bound = rw kk (g .bound);
             law = rw (← same) l;
             ticketed = tk;
             lowest = rw kk g;
-            slot = rw (kk, tk, ← same) (slot-here (state r (x .at)) (state r (suc (x .at))) k (opened a (suc (state r (x .at) .tickets)))
+            slot = rw (kk, tk, ← same) (slot-here (state r (x .at)) (state r (suc (x .at))) k (opened a (suc (state r (x .at) .issued)))
                 (storage-sound r w (x .at) .0) slots (g .bound));
             given = rw (kk, ← same) (ap (λ (u : Result). u .buffer) z);
           }
@@ -102,12 +102,12 @@ pub data Move (r : Run) (x : Transfer r) (n : ℕ) : Type 0 where
       → Move r x n
   waits : r .calls n ≡ turn itsOwn → accepted r n ≡ true → view r x (suc n) ≡ aged (view r x n) → buffer r (suc n) ≡ buffer r n
       → Unserved (state r n) (buffer r n) (r .calls n) (slotOf r x) → Move r x n
-  served : r .calls n ≡ turn itsOwn → accepted r n ≡ true → ReadyOk (state r n .tickets) (aged (view r x n))
+  served : r .calls n ≡ turn itsOwn → accepted r n ≡ true → ReadyOk (state r n .issued) (aged (view r x n))
       → view r x (suc n) ≡ sentSlot (aged (view r x n)) → buffer r (suc n) ≡ buffer r n
       → state r (suc n) .last ≡ slotOf r x
       → answer r n .sent ≡ some (sentFrame (state r n .own) (slotOf r x) (aged (view r x n)) (buffer r n)) → Move r x n
   gets : (f : Frame) → r .calls n ≡ frame itsOwn f → contentNumber (state r n .own) f ≡ 0 → AwaitsOk (state r n) f (slotOf r x)
-      → WaitOk (state r n .tickets) (view r x n)
+      → WaitOk (state r n .issued) (view r x n)
       → view r x (suc n) ≡ advanced (view r x n) → buffer r (suc n)
       ≡ sets (buffer r n) (128 * slotOf r x + view r x n .progress) (content f)
       → state r (suc n) .last ≡ state r n .last → accepted r n ≡ false → answer r n .sent ≡ none
@@ -156,7 +156,7 @@ module _ (r : Run) (w : Lawful r) (x : Transfer r) where
       go (serves a b c d e g i) = served a b c d e g i
       go (taken f a c d e g i j m o) = gets f a c d e g i j m o
       go (opensHere a b c d e f g i j) =
-          let z : view r x n .ticket ≡ 0 = no-ticket (state r n .tickets) (view r x n)
+          let z : view r x n .ticket ≡ 0 = no-ticket (state r n .issued) (view r x n)
           (storage-sound r w n .0 .each (slotOf r x) (openedAt r w x .bound)) d in
           absurd (omega (arith, z, h .ticket, openedAt r w x .ticketed))
       go (closesHere t a b c d) = absurd (ends (b, inl (a ∙ ap close (sym c ∙ h .ticket))))
@@ -189,11 +189,11 @@ module _ (r : Run) (w : Lawful r) (x : Transfer r) where
           held-same r x n h (move-same n (move n s l h))
 
   -- its slot is sound and held
-  pub okAt : (n : ℕ) → SlotOk (state r n .tickets) (view r x n)
+  pub okAt : (n : ℕ) → SlotOk (state r n .issued) (view r x n)
   okAt n = storage-sound r w n .0 .each (slotOf r x) (openedAt r w x .bound)
 
   pub held-slot : (n : ℕ) → Stands r x n → isFree (view r x n .phase) ≡ false
-  held-slot n s = held-free (state r n .tickets) (view r x n) (okAt n) (omega (arith, held n s .ticket, openedAt r w x .ticketed))
+  held-slot n s = held-free (state r n .issued) (view r x n) (okAt n) (omega (arith, held n s .ticket, openedAt r w x .ticketed))
 
   -- a standing transfer that got to its count is done
   pub full-done : (n : ℕ) → Stands r x n → askCount (x .ask) ≤ view r x n .progress → view r x n .phase ≡ done
@@ -202,7 +202,7 @@ module _ (r : Run) (w : Lawful r) (x : Transfer r) where
       h : Held r x n
       h = held n s
 
-      go : SlotOk (state r n .tickets) (view r x n) → view r x n .phase ≡ done
+      go : SlotOk (state r n .issued) (view r x n) → view r x n .phase ≡ done
       go (okFree q) = absurd (omega (arith, ap (λ (y : Slot). y .ticket) q, h .ticket, openedAt r w x .ticketed))
       go (okReady q c m i v l) = absurd (omega (arith, m .below, h .count))
       go (okWaiting q c m v i i′ l l′) = absurd (omega (arith, m .below, h .count))

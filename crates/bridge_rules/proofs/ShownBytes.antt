@@ -90,7 +90,7 @@ module _ (r : Run) (w : Lawful r) (x : Transfer r) where
       h : Held r x n
       h = held r w x n s
 
-      go : SlotOk (state r n .tickets) (view r x n) → view r x n .progress ≡ askCount (x .ask)
+      go : SlotOk (state r n .issued) (view r x n) → view r x n .progress ≡ askCount (x .ask)
       go (okFree q) = phases (view r x n .phase) free done (ap (λ (y : Slot). y .phase) q) e (λ z. omega arith)
       go (okReady q c m i v l) = phases (view r x n .phase) ready done q e (λ z. omega arith)
       go (okWaiting q c m v i i′ l l′) = phases (view r x n .phase) waiting done q e (λ z. omega arith)

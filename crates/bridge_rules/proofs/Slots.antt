@@ -161,7 +161,7 @@ module _ (r : Run) (w : Lawful r) where
   pub record Sender (j : ℕ) (f : Frame) : Type 0 where
     pub y : Transfer r
     pub stands : Stands r y j
-    pub ready : ReadyOk (state r j .tickets) (aged (view r y j))
+    pub ready : ReadyOk (state r j .issued) (aged (view r y j))
     pub served : state r (suc j) .last ≡ slotOf r y
     pub is : f ≡ sentFrame (state r j .own) (slotOf r y) (aged (view r y j)) (buffer r j)
 
@@ -184,12 +184,12 @@ module _ (r : Run) (w : Lawful r) where
           bound : k < 4
           bound = omega (arith, g .is)
 
-          ready : ReadyOk (state r j .tickets) (aged (slot (state r j) k))
-          ready = rw (slot-aged (state r j) k) at (ready-ok (state r j .tickets) (slot (agedBridge (state r j)) k)
+          ready : ReadyOk (state r j .issued) (aged (slot (state r j) k))
+          ready = rw (slot-aged (state r j) k) at (ready-ok (state r j .issued) (slot (agedBridge (state r j)) k)
               (aged-sound (state r j) (storage-sound r w j .0) .each k bound) (g .passes))
 
           full : isFree (slot (state r j) k .phase) ≡ false
-          full = held-free (state r j .tickets) (slot (state r j) k) (storage-sound r w j .0 .each k bound)
+          full = held-free (state r j .issued) (slot (state r j) k) (storage-sound r w j .0 .each k bound)
               (omega (arith, ready .common .ticket, aged-same (slot (state r j) k) .ticket))
 
           sent : f ≡ sentFrame (state r j .own) k (aged (slot (state r j) k)) (buffer r j)

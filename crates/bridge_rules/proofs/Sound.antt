@@ -46,9 +46,9 @@ pub data SlotOk (t : ℕ) (x : Slot) : Type 0 where
 pub record Sound (s : Bridge) : Type 0 where
   pub own : s .own ≤ 15
   pub last : s .last ≤ 3
-  pub tickets : s .tickets ≤ 4294967295
+  pub tickets : s .issued ≤ 4294967295
   pub four : length (s .slots) ≡ 4
-  pub each : (k : ℕ) → k < 4 → SlotOk (s .tickets) (slot s k)
+  pub each : (k : ℕ) → k < 4 → SlotOk (s .issued) (slot s k)
   pub apart : (k j : ℕ) → k < 4 → j < 4 → k ≢ j → 0 < slot s k .ticket → slot s k .ticket ≢ slot s j .ticket
 
 -- ── the slot changes keep SlotOk ───────────────────────────────────────────────────────────────────────────────────
@@ -333,9 +333,9 @@ sound-true s h =
     rw (
       le-leb (s .own) 15 (h .own),
       le-leb (s .last) 3 (h .last),
-      le-leb (s .tickets) 4294967295 (h .tickets),
+      le-leb (s .issued) 4294967295 (h .tickets),
       eq-eqb (length (s .slots)) 4 (h .four),
-      slots-true (s .tickets) (s .slots) (λ k l. h .each k (omega (arith, h .four))),
+      slots-true (s .issued) (s .slots) (λ k l. h .each k (omega (arith, h .four))),
       distinct-true (s .slots) (λ k j l m. h .apart k j (omega (arith, h .four)) (omega (arith, h .four))),
     )
 
@@ -519,9 +519,9 @@ pub true-sound : (s : Bridge) → sound s ≡ true → Sound s
 unfolding sound slot
 true-sound s h =
     let a1 = and-true _ (distinct (s .slots)) h in
-    let a2 = and-true _ (soundSlots (s .tickets) (s .slots)) (a1 .0) in
+    let a2 = and-true _ (soundSlots (s .issued) (s .slots)) (a1 .0) in
     let a3 = and-true _ (eqb (length (s .slots)) 4) (a2 .0) in
-    let a4 = and-true _ (leb (s .tickets) 4294967295) (a3 .0) in
+    let a4 = and-true _ (leb (s .issued) 4294967295) (a3 .0) in
     let a5 = and-true (leb (s .own) 15) (leb (s .last) 3) (a4 .0) in
     let four : length (s .slots) ≡ 4 = eqb-true _ 4 (a3 .1) in
     record {
@@ -529,7 +529,7 @@ true-sound s h =
       last = leb-true _ _ (a5 .1);
       tickets = leb-true _ _ (a4 .1);
       four = four;
-      each = λ k l. true-slots (s .tickets) (s .slots) (a2 .1) k (omega arith);
+      each = λ k l. true-slots (s .issued) (s .slots) (a2 .1) k (omega arith);
       apart = λ k j l m d p. true-distinct (s .slots) (a1 .1) k j (omega arith) (omega arith) d p;
     }
 
@@ -563,9 +563,9 @@ grow-ok h x (okDone p c m u v) = okDone p (grow-common h x c) m u v
 grow-ok h x (okGaveUp p c m u v w) = okGaveUp p (grow-common h x c) m u v w
 
 -- one slot changed, and it keeps its ticket or gets a new one or none
-pub set-sound : (s s′ : Bridge) (k : ℕ) (y : Slot) → Sound s → k < 4 → s′ .own ≤ 15 → s′ .last ≤ 3 → s′ .tickets ≤ 4294967295
-    → s .tickets ≤ s′ .tickets
-    → s′ .slots ≡ set (s .slots) k y → SlotOk (s′ .tickets) y
+pub set-sound : (s s′ : Bridge) (k : ℕ) (y : Slot) → Sound s → k < 4 → s′ .own ≤ 15 → s′ .last ≤ 3 → s′ .issued ≤ 4294967295
+    → s .issued ≤ s′ .issued
+    → s′ .slots ≡ set (s .slots) k y → SlotOk (s′ .issued) y
     → ((j : ℕ) → j < 4 → j ≢ k → 0 < y .ticket → y .ticket ≢ slot s j .ticket)
     → Sound s′
 set-sound s s′ k y h l o a t t′ e ok d = record {
@@ -577,10 +577,10 @@ set-sound s s′ k y h l o a t t′ e ok d = record {
   apart = apart′;
 }
   where
-    each′ : (j : ℕ) → j < 4 → SlotOk (s′ .tickets) (slot s′ j)
+    each′ : (j : ℕ) → j < 4 → SlotOk (s′ .issued) (slot s′ j)
     each′ j m = go (ℕ-discrete j k)
       where
-        go : Dec (j ≡ k) → SlotOk (s′ .tickets) (slot s′ j)
+        go : Dec (j ≡ k) → SlotOk (s′ .issued) (slot s′ j)
         go (yes p) = rw (p, slot-set-same s s′ k y (h .four) e l) ok
         go (no p) = rw (slot-set-other s s′ k j y e p) (grow-ok t′ (slot s j) (h .each j m))
 
@@ -598,7 +598,7 @@ set-sound s s′ k y h l o a t t′ e ok d = record {
 pub sound-numbers : SoundNumbers
 sound-numbers s h k l = go (true-sound s h .each k l)
   where
-    go : SlotOk (s .tickets) (slot s k) → (slot s k .phase ≤ 4) × (slot s k .kind ≤ 1)
+    go : SlotOk (s .issued) (slot s k) → (slot s k .phase ≤ 4) × (slot s k .kind ≤ 1)
     go (okFree e) = (omega (arith, ap (λ (x : Slot). x .phase) e), omega (arith, ap (λ (x : Slot). x .kind) e))
     go (okReady e c m i v l) = (omega arith, told-small (slot s k .kind) (c .told))
     go (okWaiting e c m v i i′ l l′) = (omega arith, told-small (slot s k .kind) (c .told))

@@ -26,7 +26,7 @@ use Rattle.bridge_rules.proofs.Runs.{openedAt, view, held}
 holder : (s : Bridge) (k t : ℕ) → Sound s → k < 4 → slot s k .ticket ≡ t → 0 < t → (o : Option ℕ) → heldSlot s t ≡ o → o ≡ some k
 unfolding heldSlot
 holder s k t h l e p none q =
-    let f : isFree (slot s k .phase) ≡ false = held-free (s .tickets) (slot s k) (h .each k l) (omega arith) in
+    let f : isFree (slot s k .phase) ≡ false = held-free (s .issued) (slot s k) (h .each k l) (omega arith) in
     absurd (false≢true (sym (lowest-none (heldBy s t) q k l) ∙ rw (f, eq-eqb (slot s k .ticket) t e)))
 holder s k t h l e p (some j) q = go (ℕ-discrete j k)
   where

@@ -88,7 +88,7 @@ first-zero (t ∷ ts) (suc k) h e f = rw (ne-eqb t 0 (f 0 (omega arith)))
 -- the ledger's own number, last ticket and slots are the state's
 pub record Agrees (g : Ledger) (s : Bridge) : Type 0 where
   pub own : g .own ≡ s .own
-  pub lastTicket : g .lastTicket ≡ s .tickets
+  pub issued : g .issued ≡ s .issued
   pub four : length (g .tickets) ≡ 4
   pub each : (k : ℕ) → k < 4 → getD (g .tickets) k 0 ≡ slot s k .ticket
 
@@ -121,7 +121,7 @@ fresh-agrees : (o : ℕ) → Agrees (newLedger o) (fresh o)
 unfolding fresh
 fresh-agrees o = record {
   own = refl;
-  lastTicket = refl;
+  issued = refl;
   four = refl;
   each = λ k l. zeros-at k ∙ sym (ap (λ (x : Slot). x .ticket) (fresh-slot o k));
 }
@@ -130,17 +130,17 @@ fresh-agrees o = record {
 pub lowest-agrees : (g : Ledger) (s : Bridge) (k : ℕ) → Sound s → Agrees g s → Lowest (freeAt s) k → firstGivable (g .tickets) ≡ k
 lowest-agrees g s k h a w =
     first-zero (g .tickets) k (omega (arith, a .four, w .bound)) (a .each k (w .bound)
-    ∙ no-ticket (s .tickets) (slot s k) (h .each k (w .bound)) (w .passes))
+    ∙ no-ticket (s .issued) (slot s k) (h .each k (w .bound)) (w .passes))
     (λ e l z. let q : e < 4 = omega (arith, w .bound) in omega
-    (arith, has-ticket (s .tickets) (slot s e) (h .each e q) (w .below e l), a .each e q, z))
+    (arith, has-ticket (s .issued) (slot s e) (h .each e q) (w .below e l), a .each e q, z))
 
 -- a send keeps the own number and the tickets
-send-keeps : (s : Bridge) (b : List ℕ) (o : Option ℕ) → (sendFor s b o .state .own ≡ s .own) × (sendFor s b o .state .tickets ≡ s .tickets)
+send-keeps : (s : Bridge) (b : List ℕ) (o : Option ℕ) → (sendFor s b o .state .own ≡ s .own) × (sendFor s b o .state .issued ≡ s .issued)
 unfolding sendFor
 send-keeps s b none = (refl, refl)
 send-keeps s b (some k) = (refl, refl)
 
-aging-keeps : (s : Bridge) → (agedBridge s .own ≡ s .own) × (agedBridge s .tickets ≡ s .tickets)
+aging-keeps : (s : Bridge) → (agedBridge s .own ≡ s .own) × (agedBridge s .issued ≡ s .issued)
 unfolding agedBridge
 aging-keeps s = (refl, refl)
 
@@ -193,11 +193,11 @@ module _ (r : Run) (w : Lawful r) where
       to : {g : Ledger} {u : Result} → step (state r n) (buffer r n) (r .calls n) ≡ u → Agrees g (u .state) → Agrees g (state r (suc n))
       to {g} z b = subst (Agrees g) (sym (ap (λ (u : Result). u .state) z)) b
 
-      moves : isNoted (r .calls n) ≡ false → state r (suc n) .own ≡ state r n .own → state r (suc n) .tickets ≡ state r n .tickets →
+      moves : isNoted (r .calls n) ≡ false → state r (suc n) .own ≡ state r n .own → state r (suc n) .issued ≡ state r n .issued →
           Agrees (ledger r (suc n)) (state r (suc n))
       moves u o t = rw (unnoted n u) (record {
         own = a .own ∙ sym o;
-        lastTicket = a .lastTicket ∙ sym t;
+        issued = a .issued ∙ sym t;
         four = a .four;
         each = λ k l. a .each k l ∙ sym (kept n k l u);
       })
@@ -208,7 +208,7 @@ module _ (r : Run) (w : Lawful r) where
       sent o e z =
           let k = send-keeps (agedBridge (state r n)) (buffer r n) o in
           let a = aging-keeps (state r n) in
-          moves (ap isNoted e) (ap (λ (u : Result). u .state .own) z ∙ k .0 ∙ a .0) (ap (λ (u : Result). u .state .tickets) z ∙ k .1 ∙ a .1)
+          moves (ap isNoted e) (ap (λ (u : Result). u .state .own) z ∙ k .0 ∙ a .0) (ap (λ (u : Result). u .state .issued) z ∙ k .1 ∙ a .1)
 
       go : Kind (state r n) (buffer r n) (r .calls n) → Agrees (ledger r (suc n)) (state r (suc n))
       go (nothing p q s t o u) = subst (Agrees (ledger r (suc n))) (sym p) (rw (same (cases (isNoted (r .calls n)))) a)
@@ -219,8 +219,8 @@ module _ (r : Run) (w : Lawful r) where
       go (opens b k e f g l t z) =
           rw (noted-is n (openResult (state r n) (buffer r n) b k .answer) (opening itsOwn b) refl (answer-is z) e) (to z (record {
             own = a .own;
-            lastTicket = refl;
-            four = length-set (ledger r n .tickets) (firstGivable (ledger r n .tickets)) (suc (state r n .tickets)) ∙ a .four;
+            issued = refl;
+            four = length-set (ledger r n .tickets) (firstGivable (ledger r n .tickets)) (suc (state r n .issued)) ∙ a .four;
             each = each;
           }))
         where
@@ -230,23 +230,23 @@ module _ (r : Run) (w : Lawful r) where
           s′ : Bridge
           s′ = openResult (state r n) (buffer r n) b k .state
 
-          each : (j : ℕ) → j < 4 → getD (set (ledger r n .tickets) (firstGivable (ledger r n .tickets)) (suc (state r n .tickets))) j 0
+          each : (j : ℕ) → j < 4 → getD (set (ledger r n .tickets) (firstGivable (ledger r n .tickets)) (suc (state r n .issued))) j 0
               ≡ slot s′ j .ticket
           each j m = rw kk (pick (ℕ-discrete j k))
             where
-              pick : Dec (j ≡ k) → getD (set (ledger r n .tickets) k (suc (state r n .tickets))) j 0 ≡ slot s′ j .ticket
-              pick (yes p) = rw p (getD-set-same (ledger r n .tickets) k (suc (state r n .tickets)) 0 (omega (arith, a .four, g .bound))
-                  ∙ sym (ap (λ (x : Slot). x .ticket) (slot-set-same (state r n) s′ k (opened b (suc (state r n .tickets))) (h .four) refl
-                  (g .bound)) ∙ opened-ticket b (suc (state r n .tickets))))
-              pick (no p) = getD-set-other (ledger r n .tickets) k j (suc (state r n .tickets)) 0 p ∙ a .each j m
-                  ∙ sym (ap (λ (x : Slot). x .ticket) (slot-set-other (state r n) s′ k j (opened b (suc (state r n .tickets))) refl p))
+              pick : Dec (j ≡ k) → getD (set (ledger r n .tickets) k (suc (state r n .issued))) j 0 ≡ slot s′ j .ticket
+              pick (yes p) = rw p (getD-set-same (ledger r n .tickets) k (suc (state r n .issued)) 0 (omega (arith, a .four, g .bound))
+                  ∙ sym (ap (λ (x : Slot). x .ticket) (slot-set-same (state r n) s′ k (opened b (suc (state r n .issued))) (h .four) refl
+                  (g .bound)) ∙ opened-ticket b (suc (state r n .issued))))
+              pick (no p) = getD-set-other (ledger r n .tickets) k j (suc (state r n .issued)) 0 p ∙ a .each j m
+                  ∙ sym (ap (λ (x : Slot). x .ticket) (slot-set-other (state r n) s′ k j (opened b (suc (state r n .issued))) refl p))
       go (sends k e f z) = sent (some k) e z
       go (idles e f z) = sent none e z
-      go (takes f k e s l b z) = moves (ap isNoted e) (ap (λ (u : Result). u .state .own) z) (ap (λ (u : Result). u .state .tickets) z)
+      go (takes f k e s l b z) = moves (ap isNoted e) (ap (λ (u : Result). u .state .own) z) (ap (λ (u : Result). u .state .issued) z)
       go (closes t k e l p q z) =
           rw (noted-is n (plain 0) (close t) refl (answer-is z) e) (to z (record {
             own = a .own;
-            lastTicket = a .lastTicket;
+            issued = a .issued;
             four = length-map (ledger r n .tickets) (λ v. cond (eqb v t) 0 v) ∙ a .four;
             each = λ j m. freed-at (ledger r n .tickets) t j ∙ rw (a .each j m) (pick j m (ℕ-discrete j k));
           }))
@@ -260,7 +260,7 @@ module _ (r : Run) (w : Lawful r) where
               (sym (ap (λ (x : Slot). x .ticket) (slot-set-same (state r n) s′ k blank (h .four) refl l)))
           pick j m (no u) =
               let d : slot (state r n) j .ticket ≢ t = λ v. h .apart k j l m (λ i. u (sym i))
-              (has-ticket (state r n .tickets) (slot (state r n) k) (h .each k l) p) (q ∙ sym v) in
+              (has-ticket (state r n .issued) (slot (state r n) k) (h .each k l) p) (q ∙ sym v) in
               rw (ne-eqb (slot (state r n) j .ticket) t d) (sym (ap (λ (x : Slot). x .ticket)
               (slot-set-other (state r n) s′ k j blank refl u)))
       go (resets o e l z) = rw (noted-is n (plain 0) (reset o) refl (answer-is z) e) (to z (fresh-agrees o))

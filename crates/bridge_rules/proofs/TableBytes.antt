@@ -169,7 +169,7 @@ module _ (r : Run) (w : Lawful r) (x : Transfer r) (n : ℕ) (t : Timeline) (pre
       h : Held r y j
       h = held r w y j (sd .stands)
 
-      k : ReadyOk (state r j .tickets) (aged (view r y j))
+      k : ReadyOk (state r j .issued) (aged (view r y j))
       k = sd .ready
 
       d : Directory
@@ -208,7 +208,7 @@ module _ (r : Run) (w : Lawful r) (x : Transfer r) (n : ℕ) (t : Timeline) (pre
       }
         where
           an : Answered d mem (state r j .own) (slotOf r y) (aged (view r y j)) (ow .reply)
-          an = answered d mem (state r j .own) (slotOf r y) (state r j .tickets) (aged (view r y j)) (buffer r j) (ow .reply)
+          an = answered d mem (state r j .own) (slotOf r y) (state r j .issued) (aged (view r y j)) (buffer r j) (ow .reply)
               (openedAt r w y .bound) ownS k u sv
 
           sent : Sent r y (k .mid .chunk) j

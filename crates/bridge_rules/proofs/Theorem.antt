@@ -39,7 +39,7 @@ module _ (r : Run) (w : Lawful r) (x : Transfer r) (n : ℕ) (s : Stands r x n) 
       h : Held r x n
       h = held r w x n s
 
-      go : SlotOk (state r n .tickets) (view r x n) → ThreeFailed r x n
+      go : SlotOk (state r n .issued) (view r x n) → ThreeFailed r x n
       go (okFree q) = phases (view r x n .phase) free gaveUp (ap (λ (y : Slot). y .phase) q) e (λ z. omega arith)
       go (okReady q c m i v l) = phases (view r x n .phase) ready gaveUp q e (λ z. omega arith)
       go (okWaiting q c m v i i′ l l′) = phases (view r x n .phase) waiting gaveUp q e (λ z. omega arith)

@@ -119,9 +119,9 @@ module _ (s : Bridge) (b : List ℕ) (h : Sound s) (lb : length b ≡ 512) where
     bound : k < 4
     bound = omega (arith, found .is)
 
-    readied : ReadyOk (s .tickets) (aged (slot s k))
+    readied : ReadyOk (s .issued) (aged (slot s k))
     unfolding agedBridge
-    readied = rw (slot-aged s k) at (ready-ok (s .tickets) (slot (agedBridge s) k) (aged-sound s h .each k bound) (found .passes))
+    readied = rw (slot-aged s k) at (ready-ok (s .issued) (slot (agedBridge s) k) (aged-sound s h .each k bound) (found .passes))
 
     sent : step s b (turn itsOwn) .answer .sent ≡ some (sentFrame (s .own) k (aged (slot s k)) b)
     sent = ap (λ (u : Result). u .answer .sent) is ∙ ap (λ (o : Option ℕ). sendFor (agedBridge s) b o .answer .sent) z
@@ -155,7 +155,7 @@ module _ (s : Bridge) (b : List ℕ) (h : Sound s) (lb : length b ≡ 512) where
           k,
           first,
           subst (NextBytes (s .own) k (aged (slot s k)) b) (some-eq (sym sent ∙ e))
-              (next-bytes (s .tickets) (s .own) k (aged (slot s k)) b bound lb readied),
+              (next-bytes (s .issued) (s .own) k (aged (slot s k)) b bound lb readied),
         ),
         λ p. sent ∙ ap some (next-only (s .own) k (aged (slot s k)) b f (readied .common .told)
             (subst (λ (i : ℕ). NextBytes (s .own) i (aged (slot s i)) b f) (only (p .0) (p .1)) (p .2))),

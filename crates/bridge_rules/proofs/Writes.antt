@@ -65,7 +65,7 @@ module _ (r : Run) (w : Lawful r) (x : Transfer r) (wr : isWrite (x .ask) ≡ tr
   lg = given-count (x .ask) wr
 
   -- a write's slot sends the CMD of its current chunk
-  pub sends-write : (n : ℕ) → Held r x n → WritePast r x n → (c : ReadyOk (state r n .tickets) (aged (view r x n)))
+  pub sends-write : (n : ℕ) → Held r x n → WritePast r x n → (c : ReadyOk (state r n .issued) (aged (view r x n)))
       → sentFrame (state r n .own) (slotOf r x) (aged (view r x n)) (buffer r n) ≡ commandFrame r x (c .mid .chunk) n
   sends-write n h p c =
       sends-command r w x (c .mid .chunk) n (aged (view r x n))
@@ -88,7 +88,7 @@ module _ (r : Run) (w : Lawful r) (x : Transfer r) (wr : isWrite (x .ask) ≡ tr
           ap (λ (u : ℕ). getD (buffer r n) u 0) z ∙ p .bytes (8 * c .mid .chunk + k)
           (omega (arith, q, len-inside (askCount (x .ask)) (8 * c .mid .chunk) inside))
 
-  served-on : (n : ℕ) → x .at < n → Held r x n → WritePast r x n → accepted r n ≡ true → ReadyOk (state r n .tickets) (aged (view r x n))
+  served-on : (n : ℕ) → x .at < n → Held r x n → WritePast r x n → accepted r n ≡ true → ReadyOk (state r n .issued) (aged (view r x n))
       → view r x (suc n) ≡ sentSlot (aged (view r x n)) → buffer r (suc n) ≡ buffer r n
       → state r (suc n) .last ≡ slotOf r x → answer r n .sent
       ≡ some (sentFrame (state r n .own) (slotOf r x) (aged (view r x n)) (buffer r n)) → WritePast r x (suc n)
@@ -113,7 +113,7 @@ module _ (r : Run) (w : Lawful r) (x : Transfer r) (wr : isWrite (x .ask) ≡ tr
       at = c .mid .at
 
       keeps : aged (view r x n) .progress ≡ view r x n .progress
-      keeps = aged-keeps (state r n .tickets) (view r x n) (okAt r w x n) .0
+      keeps = aged-keeps (state r n .issued) (view r x n) (okAt r w x n) .0
 
       grown : view r x (suc n) .progress ≡ min (aged (view r x n) .progress + 8) (aged (view r x n) .count)
       grown = ap (λ (y : Slot). y .progress) (d ∙ sent-write (aged (view r x n)) isW) ∙ advanced-progress (aged (view r x n))
@@ -172,7 +172,7 @@ module _ (r : Run) (w : Lawful r) (x : Transfer r) (wr : isWrite (x .ask) ≡ tr
   }
   step-on n s l h (waits a v c d u) p =
       let z : view r x (suc n) .progress ≡ view r x n .progress = ap (λ (y : Slot). y .progress) c
-      ∙ aged-keeps (state r n .tickets) (view r x n) (okAt r w x n) .0 in
+      ∙ aged-keeps (state r n .issued) (view r x n) (okAt r w x n) .0 in
       record {
         bytes = λ i q. ap (λ (b : List ℕ). getD b (128 * slotOf r x + i) 0) d ∙ p .bytes i q;
         j = p .j;
@@ -217,20 +217,20 @@ module _ (r : Run) (w : Lawful r) (x : Transfer r) (wr : isWrite (x .ask) ≡ tr
           let same : Same (view r x j) (aged (view r x j)) = aged-same (view r x j) in
           ap (λ (y : Slot). y .progress) (d ∙ sent-write (aged (view r x j)) (carries-of (x .ask) (same .kind ∙ h .kind) wr))
           ∙ advanced-progress (aged (view r x j))
-          ∙ ap₂ (λ (a b : ℕ). min (a + 8) b) (aged-keeps (state r j .tickets) (view r x j) (okAt r w x j) .0) (same .count ∙ h .count)
+          ∙ ap₂ (λ (a b : ℕ). min (a + 8) b) (aged-keeps (state r j .issued) (view r x j) (okAt r w x j) .0) (same .count ∙ h .count)
       go (gets f a k d e g i t m o) = absurd (true≢false (sym (q .turned) ∙ m))
 
   -- while it carries, its progress grows
   carry-grows : (n : ℕ) → Held r x n → Move r x n → view r x n .progress ≤ view r x (suc n) .progress
   carry-grows n h (stays a v c e f g) = omega (arith, ap (λ (y : Slot). y .progress) a)
   carry-grows n h (waits a v c d u) =
-      omega (arith, ap (λ (y : Slot). y .progress) c, aged-keeps (state r n .tickets) (view r x n) (okAt r w x n) .0)
+      omega (arith, ap (λ (y : Slot). y .progress) c, aged-keeps (state r n .issued) (view r x n) (okAt r w x n) .0)
   carry-grows n h (served a v c d e g i) =
       let same : Same (view r x n) (aged (view r x n)) = aged-same (view r x n) in
       let z : view r x (suc n) .progress ≡ min (aged (view r x n) .progress + 8) (aged (view r x n) .count)
       = ap (λ (y : Slot). y .progress) (d ∙ sent-write (aged (view r x n)) (carries-of (x .ask) (same .kind ∙ h .kind) wr))
       ∙ advanced-progress (aged (view r x n)) in
-      omega (arith, z, aged-keeps (state r n .tickets) (view r x n) (okAt r w x n) .0, c .mid .below)
+      omega (arith, z, aged-keeps (state r n .issued) (view r x n) (okAt r w x n) .0, c .mid .below)
   carry-grows n h (gets f a c d e g i j m o) = kinds-clash (view r x n .kind) (carries-of (x .ask) (h .kind) wr) (e .isRead)
 
   progress-le : (m n : ℕ) → x .at < m → m ≤ n → Stands r x n → view r x m .progress ≤ view r x n .progress

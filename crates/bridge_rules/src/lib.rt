@@ -34,7 +34,7 @@ pub struct Slot {
 #[repr(C)]
 pub struct Bridge {
     pub slots: [Slot; 4],
-    pub tickets: u32,
+    pub issued: u32,
     pub own: u8,
     pub last: u8,
 }

@@ -79,7 +79,7 @@ fn unmade() -> Bridge {
     let slots = [x, x, x, x];
     Bridge {
         slots: slots,
-        tickets: 0,
+        issued: 0,
         own: 200,
         last: 9,
     }

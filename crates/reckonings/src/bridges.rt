@@ -32,7 +32,7 @@ fn fresh() -> Bridge {
     let slots = [x, x, x, x];
     let any = Bridge {
         slots: slots,
-        tickets: 0,
+        issued: 0,
         own: 0,
         last: 0,
     };

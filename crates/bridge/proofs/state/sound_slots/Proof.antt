@@ -10,10 +10,10 @@ use Rattle.bridge_rules.specs.State.{soundSlots}
 use Rattle.bridge.proofs.CodeSlots.{slots-step, slots-end}
 
 abbrev Inv-loop : tie.InvT-loop
-Inv-loop tickets slots ok₀ i₀ ok i = (i ≤ 4) × (soundSlots tickets slots ≡ (ok && soundSlots tickets (drop i slots))) × (length slots ≡ 4)
+Inv-loop issued slots ok₀ i₀ ok i = (i ≤ 4) × (soundSlots issued slots ≡ (ok && soundSlots issued (drop i slots))) × (length slots ≡ 4)
 
 abbrev μ-loop : tie.MeasureT-loop
-μ-loop tickets slots ok₀ i₀ ok i = 4 - i
+μ-loop issued slots ok₀ i₀ ok i = 4 - i
 
 loop-holds : tie.Need-loop-holds Inv-loop μ-loop
 loop-holds c = (omega arith, refl, search needs)
@@ -37,13 +37,13 @@ loop-again : tie.Need-loop-again Inv-loop μ-loop
 loop-again c =
     let a = c .before .before .before .before .args in
     let l = c .before .before .before .loop in
-    (omega arith, rw (c .sound-slot .ensures) (l .inv .1 ∙ slots-step (a .tickets) (a .t1) (l .ok) (l .i) (omega arith)), l .inv .2)
+    (omega arith, rw (c .sound-slot .ensures) (l .inv .1 ∙ slots-step (a .issued) (a .t1) (l .ok) (l .i) (omega arith)), l .inv .2)
 
 returns : tie.Need-returns Inv-loop μ-loop
 returns c =
     let a = c .before .before .args in
     let l = c .before .loop in
-    sym (l .inv .1 ∙ slots-end (a .tickets) (a .t1) (l .ok) (l .i) (omega arith))
+    sym (l .inv .1 ∙ slots-end (a .issued) (a .t1) (l .ok) (l .i) (omega arith))
 
 pub sound-slots-spec : {M : Type 1} → statement M
 sound-slots-spec =
