@@ -68,11 +68,3 @@ pub struct Changed {
     pub bridge: Bridge,
     pub number: u8,
 }
-
-// A number, and where a done read's bytes lie in the buffer.
-#[repr(C)]
-pub struct Span {
-    pub number: u8,
-    pub start: usize,
-    pub count: usize,
-}

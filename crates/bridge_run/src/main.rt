@@ -187,7 +187,7 @@ fn shown(w: World, ticket: u32) {
     let p = span(w.bridge, &buffer, ticket);
     text(b"bytes ");
     number(p.number as u64);
-    bytes(&buffer, p.start, p.count);
+    bytes(&buffer, p.start, p.len);
     text(b"\n");
 }
 

@@ -7,7 +7,7 @@ use native.Mathlib.Omega.{arith}
 use lib.ListN.{length}
 use Rattle.bridge_rules.specs.State.{slot, orFour}
 use Rattle.bridge_rules.specs.Incoming.{replyNumber, awaiting}
-use Rattle.bridge.proofs.CodeFrames.{frame-refused, reply-at, frame-is}
+use Rattle.bridge.proofs.Replies.{frame-refused, reply-at, frame-is}
 
 judge-reply-requires : tie.Need-judge-reply-requires
 judge-reply-requires c κs = search needs
@@ -50,8 +50,8 @@ add-put-content c = omega (arith, four (c .before .before .before))
 put-content-requires : tie.Need-put-content-requires
 put-content-requires c κs = search needs
 
-advance-requires : tie.Need-advance-requires
-advance-requires c κs = search needs
+advanced-requires : tie.Need-advanced-requires
+advanced-requires c κs = search needs
 
 mul-slots : tie.Need-mul-slots
 mul-slots c = omega (arith, four (c .before .before .before .before .before .before .before))
@@ -74,7 +74,7 @@ returns-2 c =
     let s = c .before .before .before .before .before .before .before .before .before in
     let a = s .before .before .before .before .args in
     let g = frame-is (a .b) (a .buffer .now) (a .f) (judged s) _ (awaited s) in
-    (c .plain2 .ensures ∙ rw (c .before .with-slots .ensures, c .before .before .advance .ensures) (g .0), c .before .before .before .before .before .put-content .ensures ∙ g .1)
+    (c .plain2 .ensures ∙ rw (c .before .with-slots .ensures, c .before .before .advanced .ensures) (g .0), c .before .before .before .before .before .put-content .ensures ∙ g .1)
 
 pub frame-spec : {M : Type 1} → statement M
 frame-spec =
@@ -89,7 +89,7 @@ frame-spec =
     cast-put-content
     add-put-content
     put-content-requires
-    advance-requires
+    advanced-requires
     mul-slots
     array-set-from-slots
     with-slots-requires

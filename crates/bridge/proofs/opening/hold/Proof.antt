@@ -2,7 +2,7 @@ use borrow.Author.Needs.{needs}
 use Rattle.bridge.proofs.opening.hold.Statement.{statement}
 use Rattle.bridge.proofs.opening.hold.Tie as tie
 use native.Mathlib.Omega.{arith}
-use Rattle.bridge.proofs.CodeSlots.{free-from}
+use Rattle.bridge.proofs.Searches.{free-from}
 
 lowest-free-requires : tie.Need-lowest-free-requires
 lowest-free-requires c κs = search needs

@@ -4,7 +4,7 @@ use Rattle.bridge.proofs.opening.open_write.Tie as tie
 use mathlib.Core.Path.{sym, _∙_}
 use native.Mathlib.Omega.{arith}
 use Rattle.bridge_rules.specs.Opening.{write, opened, openNumber}
-use Rattle.bridge.proofs.CodeCalls.{open-refused, open-room, open-ticket, open-few, open-at, open-stored, open-is}
+use Rattle.bridge.proofs.Openings.{open-refused, open-room, open-ticket, open-few, open-at, open-stored, open-is}
 
 open-number-requires : tie.Need-open-number-requires
 open-number-requires c κs = search needs

@@ -3,7 +3,7 @@ use Rattle.bridge.proofs.opening.room_number.Statement.{statement}
 use Rattle.bridge.proofs.opening.room_number.Tie as tie
 use Rattle.bridge_rules.specs.Opening.{roomNumber}
 use Rattle.wire.proofs.Orders.{order}
-use Rattle.bridge.proofs.CodeSlots.{free-none, free-some}
+use Rattle.bridge.proofs.Searches.{free-none, free-some}
 
 lowest-free-requires : tie.Need-lowest-free-requires
 lowest-free-requires c κs = search needs

@@ -1,7 +1,7 @@
 use borrow.Author.Needs.{needs}
 use Rattle.bridge.proofs.tickets.span.Statement.{statement}
 use Rattle.bridge.proofs.tickets.span.Tie as tie
-use Rattle.bridge.proofs.CodeCalls.{span-fits}
+use Rattle.bridge.proofs.Spans.{span-fits}
 
 span-of-requires : tie.Need-span-of-requires
 span-of-requires c κs = search needs
