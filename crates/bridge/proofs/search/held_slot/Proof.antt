@@ -33,7 +33,12 @@ first-slot-requires c κs = search needs
 
 returns : tie.Need-returns
 unfolding heldSlot slot firstSlot
-returns c = c .first-slot .ensures ∙ rw (c .before .before .before .before .before .before .before .holds .ensures, c .before .before .before .before .before .holds2 .ensures, c .before .before .before .holds3 .ensures, c .before .holds4 .ensures)
+returns c =
+    let fourth = c .before in
+    let third = fourth .before .before in
+    let second = third .before .before in
+    let first = second .before .before in
+    c .first-slot .ensures ∙ rw (first .holds .ensures, second .holds2 .ensures, third .holds3 .ensures, fourth .holds4 .ensures)
 
 pub held-slot-spec : {M : Type 1} → statement M
 held-slot-spec =

@@ -33,7 +33,12 @@ first-slot-requires c κs = search needs
 
 returns : tie.Need-returns
 unfolding lowestFree slot firstSlot
-returns c = c .first-slot .ensures ∙ rw (c .before .before .before .before .before .before .before .givable .ensures, c .before .before .before .before .before .givable2 .ensures, c .before .before .before .givable3 .ensures, c .before .givable4 .ensures)
+returns c =
+    let fourth = c .before in
+    let third = fourth .before .before in
+    let second = third .before .before in
+    let first = second .before .before in
+    c .first-slot .ensures ∙ rw (first .givable .ensures, second .givable2 .ensures, third .givable3 .ensures, fourth .givable4 .ensures)
 
 pub lowest-free-spec : {M : Type 1} → statement M
 lowest-free-spec =

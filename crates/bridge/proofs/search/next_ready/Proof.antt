@@ -41,13 +41,18 @@ loop-less : tie.Need-loop-less Inv-loop μ-loop
 loop-less c = search needs
 
 loop-again : tie.Need-loop-again Inv-loop μ-loop
-loop-again c = (omega arith, c .before .before .before .before .loop .inv .1 ∙ misses _ _ _ (omega arith) (sym (c .before .is-ready .ensures) ∙ c .if2 .left))
+loop-again c =
+    let inv = c .before .before .before .before .loop .inv in
+    (omega arith, inv .1 ∙ misses _ _ _ (omega arith) (sym (c .before .is-ready .ensures) ∙ c .if2 .left))
 
 returns : tie.Need-returns Inv-loop μ-loop
 returns c = sym (ap orFour (whole _ ∙ c .before .loop .inv .1 ∙ ends _ _ _ (c .if1 .taken)))
 
 returns-2 : tie.Need-returns-2 Inv-loop μ-loop
-returns-2 c = sym (ap orFour (whole _ ∙ c .before .before .before .before .loop .inv .1 ∙ hits _ _ _ (omega arith) (sym (c .before .is-ready .ensures) ∙ c .if2 .taken)))
+returns-2 c =
+    let inv = c .before .before .before .before .loop .inv in
+    let is = sym (c .before .is-ready .ensures) ∙ c .if2 .taken in
+    sym (ap orFour (whole _ ∙ inv .1 ∙ hits _ _ _ (omega arith) is))
 
 pub next-ready-spec : {M : Type 1} → statement M
 next-ready-spec =

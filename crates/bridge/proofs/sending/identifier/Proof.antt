@@ -20,10 +20,16 @@ enum-told : tie.Need-enum-told
 enum-told c = search needs
 
 returns : tie.Need-returns
-returns c = not-refused (c .enum-told .given .1) (c .before .before .pack .ensures .0 .0 ∙ packs _ (c .before .before .before .before .before .pre .1) (c .before .before .before .before .before .pre .0) (c .before .before .before .before .before .pre .2) (c .before .before .before .before .before .pre .3) (c .before .before .before .before .before .pre .4))
+returns c =
+    let n = c .before .before in
+    let h = n .before .before .before .pre in
+    not-refused (c .enum-told .given .1) (n .pack .ensures .0 .0 ∙ packs _ (h .1) (h .0) (h .2) (h .3) (h .4))
 
 returns-2 : tie.Need-returns-2
-returns-2 c = is-id (c .before .id .given .1) (c .before .before .before .pack .ensures .0 .0 ∙ packs _ (c .before .before .before .before .before .before .pre .1) (c .before .before .before .before .before .before .pre .0) (c .before .before .before .before .before .before .pre .2) (c .before .before .before .before .before .before .pre .3) (c .before .before .before .before .before .before .pre .4))
+returns-2 c =
+    let n = c .before .before .before in
+    let h = n .before .before .before .pre in
+    is-id (c .before .id .given .1) (n .pack .ensures .0 .0 ∙ packs _ (h .1) (h .0) (h .2) (h .3) (h .4))
 
 pub identifier-spec : {M : Type 1} → statement M
 identifier-spec =

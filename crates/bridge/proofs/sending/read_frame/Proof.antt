@@ -41,7 +41,16 @@ array-read-t22 c = search needs
 
 returns : tie.Need-returns
 unfolding readFrame frameWith padded request
-returns c = rw (c .before .before .before .before .identifier .ensures, c .before .request-bytes .ensures .0 ∙ requests _ (omega arith) (omega (arith, c .before .before .before .next-len .ensures, len-eight (c .before .before .before .before .before .args .x .count) (c .before .before .before .before .before .args .x .progress))) (omega arith), c .before .before .before .next-len .ensures)
+returns c =
+    let n = c .before .before .before in
+    let x = n .before .before .args .x in
+    let few = n .next-len .ensures in
+    let asked = c .before .request-bytes .ensures .0 in
+    rw (
+      n .before .identifier .ensures,
+      asked ∙ requests _ (omega arith) (omega (arith, few, len-eight (x .count) (x .progress))) (omega arith),
+      few,
+    )
 
 pub read-frame-spec : {M : Type 1} → statement M
 read-frame-spec =

@@ -35,14 +35,21 @@ part-padded-start : tie.Need-part-padded-start
 part-padded-start c = search needs
 
 part-padded-end : tie.Need-part-padded-end
-part-padded-end c = omega (arith, c .before .next-len .ensures, goes-inside (c .before .before .before .before .args .k) (c .before .before .before .before .args .x) (c .before .before .before .before .args .buffer .now) (c .before .before .before .before .pre .1) (c .before .before .before .before .pre .4) (c .before .before .before .before .pre .5) (c .before .before .before .before .pre .7))
+part-padded-end c =
+    let s = c .before .before .before .before in
+    let inside = goes-inside (s .args .k) (s .args .x) (s .args .buffer .now) (s .pre .1) (s .pre .4) (s .pre .5) (s .pre .7) in
+    omega (arith, c .before .next-len .ensures, inside)
 
 padded-requires : tie.Need-padded-requires
 padded-requires c κs = search needs
 
 returns : tie.Need-returns
 unfolding writeFrame frameWith outgoing
-returns c = rw (goes-length (c .before .before .before .before .before .before .args .k) (c .before .before .before .before .before .before .args .x) (c .before .before .before .before .before .before .args .buffer .now) (c .before .before .before .before .before .before .pre .1) (c .before .before .before .before .before .before .pre .4) (c .before .before .before .before .before .before .pre .5) (c .before .before .before .before .before .before .pre .7), c .before .before .before .before .identifier .ensures, c .padded .ensures, part-is (c .before .before .before .before .before .before .args .buffer .now) _ _, c .before .before .before .next-len .ensures)
+returns c =
+    let n = c .before .before .before in
+    let s = n .before .before .before in
+    let all = goes-length (s .args .k) (s .args .x) (s .args .buffer .now) (s .pre .1) (s .pre .4) (s .pre .5) (s .pre .7) in
+    rw (all, n .before .identifier .ensures, c .padded .ensures, part-is (s .args .buffer .now) _ _, n .next-len .ensures)
 
 pub write-frame-spec : {M : Type 1} → statement M
 write-frame-spec =

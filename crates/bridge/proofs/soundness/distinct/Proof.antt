@@ -58,7 +58,20 @@ apart-requires-6 : tie.Need-apart-requires-6
 apart-requires-6 c κs = search needs
 
 returns : tie.Need-returns
-returns c = rw (c .before .before .before .before .before .before .before .before .before .before .before .before .before .before .before .apart .ensures, c .before .before .before .before .before .before .before .before .before .before .before .before .apart2 .ensures, c .before .before .before .before .before .before .before .before .before .apart3 .ensures, c .before .before .before .before .before .before .apart4 .ensures, c .before .before .before .apart5 .ensures, c .apart6 .ensures) (distinct-four (c .before .before .before .before .before .before .before .before .before .before .before .before .before .before .before .before .before .before .args .t1) (search needs))
+returns c =
+    let five = c .before .before .before in
+    let four = five .before .before .before in
+    let three = four .before .before .before in
+    let two = three .before .before .before in
+    let one = two .before .before .before in
+    rw (
+      one .apart .ensures,
+      two .apart2 .ensures,
+      three .apart3 .ensures,
+      four .apart4 .ensures,
+      five .apart5 .ensures,
+      c .apart6 .ensures,
+    ) (distinct-four (one .before .before .before .args .t1) (search needs))
 
 pub distinct-spec : {M : Type 1} → statement M
 distinct-spec =

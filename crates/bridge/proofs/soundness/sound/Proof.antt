@@ -12,7 +12,8 @@ distinct-requires c κs = search needs
 returns : tie.Need-returns
 returns c =
     let s = c .before .before .before .before .before in
-    rw (c .before .sound-slots .ensures, c .distinct .ensures) (sound-parts (s .args .b) (search needs) (four-slots (s .args .b) _ (s .good .0 .1 .1 .0 .1 .0 .1)))
+    let four = four-slots (s .args .b) _ (s .good .0 .1 .1 .0 .1 .0 .1) in
+    rw (c .before .sound-slots .ensures, c .distinct .ensures) (sound-parts (s .args .b) (search needs) four)
 
 pub sound-spec : {M : Type 1} → statement M
 sound-spec = tie.close (tie.spec sound-slots-requires distinct-requires returns)

@@ -25,7 +25,15 @@ sound-phase-requires c κs = search needs
 
 returns-2 : tie.Need-returns-2
 unfolding soundSlot
-returns-2 c = rw (c .sound-phase .ensures, c .before .ask-number .ensures, c .before .before .before .before .before .carries .ensures, c .before .before .before .before .before .before .asks .ensures, ne-eqb _ 0 (c .before .before .before .before .before .before .before .if1 .left))
+returns-2 c =
+    let kinds = c .before .before .before .before .before in
+    rw (
+      c .sound-phase .ensures,
+      c .before .ask-number .ensures,
+      kinds .carries .ensures,
+      kinds .before .asks .ensures,
+      ne-eqb _ 0 (kinds .before .before .if1 .left),
+    )
 
 pub sound-slot-spec : {M : Type 1} → statement M
 sound-slot-spec =

@@ -8,7 +8,8 @@ span-of-requires c κs = search needs
 
 returns : tie.Need-returns
 returns c =
-    (c .span-of .ensures, span-fits (c .before .before .args .b) (c .before .before .args .buffer .now) (c .before .before .args .ticket) _ (c .span-of .ensures))
+    let a = c .before .before .args in
+    (c .span-of .ensures, span-fits (a .b) (a .buffer .now) (a .ticket) _ (c .span-of .ensures))
 
 pub span-spec : {M : Type 1} → statement M
 span-spec = tie.close (tie.spec span-of-requires returns)

@@ -17,13 +17,17 @@ moved-requires-2 : tie.Need-moved-requires-2
 moved-requires-2 c κs = search needs
 
 returns-2 : tie.Need-returns-2
-returns-2 c = c .moved2 .ensures ∙ age-again _ (c .before .before .before .before .before .pre) (c .before .before .before .if1 .left) (c .before .if2 .taken)
+returns-2 c =
+    let t = c .before .before .before in
+    c .moved2 .ensures ∙ age-again _ (t .before .before .pre) (t .if1 .left) (c .before .if2 .taken)
 
 moved-requires-3 : tie.Need-moved-requires-3
 moved-requires-3 c κs = search needs
 
 returns-3 : tie.Need-returns-3
-returns-3 c = c .moved3 .ensures ∙ age-over _ (c .before .before .before .before .before .pre) (c .before .before .before .if1 .left) (c .before .if2 .left)
+returns-3 c =
+    let t = c .before .before .before in
+    c .moved3 .ensures ∙ age-over _ (t .before .before .pre) (t .if1 .left) (c .before .if2 .left)
 
 pub aged-spec : {M : Type 1} → statement M
 aged-spec =

@@ -66,7 +66,9 @@ returns c =
     let s = c .before .before .before .before .before in
     let b = s .args .b in
     let l = c .before .before .loop in
-    c .with-slots .ensures ∙ ap (withSlots b) (sym (l .inv .1 ∙ rests _ (l .i) (l .slots) (omega arith)) ∙ aged-four (b .last) (b .slots) (four-slots b _ (s .good .0 .1 .1 .0 .1 .0 .1)))
+    let none = l .inv .1 ∙ rests _ (l .i) (l .slots) (omega arith) in
+    let all = aged-four (b .last) (b .slots) (four-slots b _ (s .good .0 .1 .1 .0 .1 .0 .1)) in
+    c .with-slots .ensures ∙ ap (withSlots b) (sym none ∙ all)
 
 pub aged-bridge-spec : {M : Type 1} → statement M
 aged-bridge-spec =

@@ -15,12 +15,17 @@ array-copy-out-x c = search needs
 
 sent-frame-requires : tie.Need-sent-frame-requires
 unfolding slot
-sent-frame-requires c κs = let w = readies (c .before .before .before .args .b) (c .before .before .before .args .k) (c .before .before .before .pre .0) (c .before .before .before .pre .1) (c .before .before .before .pre .2) in
-    (true-sound (c .before .before .before .args .b) (c .before .before .before .pre .0) .own, c .before .before .before .pre .1, w .common .device, w .common .table, w .mid .below, w .common .few, w .common .inside, c .before .before .before .pre .3)
+sent-frame-requires c κs =
+    let s = c .before .before .before in
+    let w = readies (s .args .b) (s .args .k) (s .pre .0) (s .pre .1) (s .pre .2) in
+    let x = w .common in
+    (true-sound (s .args .b) (s .pre .0) .own, s .pre .1, x .device, x .table, w .mid .below, x .few, x .inside, s .pre .3)
 
 sent-slot-requires : tie.Need-sent-slot-requires
 unfolding slot
-sent-slot-requires c κs = readies (c .before .before .before .before .args .b) (c .before .before .before .before .args .k) (c .before .before .before .before .pre .0) (c .before .before .before .before .pre .1) (c .before .before .before .before .pre .2) .sends
+sent-slot-requires c κs =
+    let s = c .before .before .before .before in
+    readies (s .args .b) (s .args .k) (s .pre .0) (s .pre .1) (s .pre .2) .sends
 
 mul-slots : tie.Need-mul-slots
 mul-slots c = search needs
