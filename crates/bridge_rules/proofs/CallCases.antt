@@ -66,8 +66,8 @@ heldBy s t k = not (isFree (slot s k .phase)) && eqb (slot s k .ticket) t
 
 abbrev pub openResult : Bridge → List ℕ → Ask → ℕ → Result
 openResult s b a k = record {
-  answer = record { number = 0; ticket = suc (s .tickets); sent = none; shown = [] };
-  state = record { own = s .own; last = s .last; tickets = suc (s .tickets); slots = set (s .slots) k (opened a (suc (s .tickets))) };
+  answer = record { number = 0; ticket = suc (s .issued); sent = none; shown = [] };
+  state = record { own = s .own; last = s .last; issued = suc (s .issued); slots = set (s .slots) k (opened a (suc (s .issued))) };
   buffer = sets b (128 * k) (askGiven a);
 }
 
@@ -99,7 +99,7 @@ module _ (s : Bridge) (b : List ℕ) (c : Call) where
     pub found : lowestFree s ≡ some k
     pub lowest : Lowest (freeAt s) k
     pub lawful : LawfulAsk ask
-    pub room : s .tickets < 4294967295
+    pub room : s .issued < 4294967295
     pub result : step s b c ≡ openResult s b ask k
 
   -- a turn sends for slot k

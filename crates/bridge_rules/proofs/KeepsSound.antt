@@ -37,16 +37,16 @@ pub case-sound : (s : Bridge) (b : List ℕ) (c : Call) → Sound s → length b
     → Sound (step s b c .state) × (length (step s b c .buffer) ≡ 512)
 case-sound s b c h lb (nothing u) = (rw (u .state) h, rw (u .buffer) lb)
 case-sound s b c h lb (opens u) = (
-  rw (u .result) (set-sound s _ (u .k) (opened (u .ask) (suc (s .tickets))) h (record {
+  rw (u .result) (set-sound s _ (u .k) (opened (u .ask) (suc (s .issued))) h (record {
     bound = u .lowest .bound;
     own = h .own;
     last = h .last;
-    tickets = omega (arith, u .room);
+    issued = omega (arith, u .room);
     more = omega arith;
     slots = refl;
-    ok = opened-ok (u .ask) (s .tickets) (u .lawful);
-    given = omega (arith, opened-ticket (u .ask) (suc (s .tickets)));
-    apart = λ j m d p q. omega (arith, h .given j m, opened-ticket (u .ask) (suc (s .tickets)), q);
+    ok = opened-ok (u .ask) (s .issued) (u .lawful);
+    given = omega (arith, opened-ticket (u .ask) (suc (s .issued)));
+    apart = λ j m d p q. omega (arith, h .given j m, opened-ticket (u .ask) (suc (s .issued)), q);
   })),
   rw (u .result) (length-sets b (128 * u .k) (askGiven (u .ask)) ∙ lb),
 )
@@ -61,7 +61,7 @@ case-sound s b c h lb (takes u) = (
     bound = u .bound;
     own = h .own;
     last = h .last;
-    tickets = h .tickets;
+    issued = h .issued;
     more = omega arith;
     slots = refl;
     ok = advanced-ok (slot s (u .k)) (w .held) (w .partway);
@@ -78,7 +78,7 @@ case-sound s b c h lb (closes u) = (
     bound = u .bound;
     own = h .own;
     last = h .last;
-    tickets = h .tickets;
+    issued = h .issued;
     more = omega arith;
     slots = refl;
     ok = okFree refl;

@@ -36,7 +36,7 @@ first-zero (t ∷ ts) (suc k) h e f = rw (ne-eqb t 0 (f 0 (omega arith)))
 -- the ledger's own number, last ticket and slots are the state's
 pub record Agrees (g : Ledger) (s : Bridge) : Type 0 where
   pub own : g .own ≡ s .own
-  pub lastTicket : g .lastTicket ≡ s .tickets
+  pub issued : g .issued ≡ s .issued
   pub four : length (g .tickets) ≡ 4
   pub each : (k : ℕ) → k < 4 → getD (g .tickets) k 0 ≡ slot s k .ticket
 
@@ -69,7 +69,7 @@ fresh-agrees : (o : ℕ) → Agrees (newLedger o) (fresh o)
 unfolding fresh
 fresh-agrees o = record {
   own = refl;
-  lastTicket = refl;
+  issued = refl;
   four = refl;
   each = λ k l. zeros-at k ∙ sym (ticket-eq (fresh-slot o k));
 }
@@ -83,12 +83,12 @@ lowest-agrees g s k h a w =
     (arith, has-ticket (slot s e) (h .each e q) (w .below e l), a .each e q, z))
 
 -- a send keeps the own number and the tickets
-send-keeps : (s : Bridge) (b : List ℕ) (o : Option ℕ) → (sendFor s b o .state .own ≡ s .own) × (sendFor s b o .state .tickets ≡ s .tickets)
+send-keeps : (s : Bridge) (b : List ℕ) (o : Option ℕ) → (sendFor s b o .state .own ≡ s .own) × (sendFor s b o .state .issued ≡ s .issued)
 unfolding sendFor
 send-keeps s b none = (refl, refl)
 send-keeps s b (some k) = (refl, refl)
 
-aging-keeps : (s : Bridge) → (agedBridge s .own ≡ s .own) × (agedBridge s .tickets ≡ s .tickets)
+aging-keeps : (s : Bridge) → (agedBridge s .own ≡ s .own) × (agedBridge s .issued ≡ s .issued)
 unfolding agedBridge
 aging-keeps s = (refl, refl)
 
@@ -133,11 +133,11 @@ module _ (r : Run) (w : Lawful r) where
       to : {g : Ledger} {u : Result} → step (state r n) (buffer r n) (r .calls n) ≡ u → Agrees g (u .state) → Agrees g (state r (suc n))
       to {g} z b = subst (Agrees g) (sym (ap (λ (u : Result). u .state) z)) b
 
-      moves : isNoted (r .calls n) ≡ false → state r (suc n) .own ≡ state r n .own → state r (suc n) .tickets ≡ state r n .tickets →
+      moves : isNoted (r .calls n) ≡ false → state r (suc n) .own ≡ state r n .own → state r (suc n) .issued ≡ state r n .issued →
           Agrees (ledger r (suc n)) (state r (suc n))
       moves u o t = rw (unnoted n u) (record {
         own = a .own ∙ sym o;
-        lastTicket = a .lastTicket ∙ sym t;
+        issued = a .issued ∙ sym t;
         four = a .four;
         each = λ k l. a .each k l ∙ sym (same-tickets n k l u);
       })
@@ -148,7 +148,7 @@ module _ (r : Run) (w : Lawful r) where
       sent o e z =
           let k = send-keeps (agedBridge (state r n)) (buffer r n) o in
           let a = aging-keeps (state r n) in
-          moves (ap isNoted e) (ap (λ (u : Result). u .state .own) z ∙ k .0 ∙ a .0) (ap (λ (u : Result). u .state .tickets) z ∙ k .1 ∙ a .1)
+          moves (ap isNoted e) (ap (λ (u : Result). u .state .own) z ∙ k .0 ∙ a .0) (ap (λ (u : Result). u .state .issued) z ∙ k .1 ∙ a .1)
 
       go : CallCase (state r n) (buffer r n) (r .calls n) → Agrees (ledger r (suc n)) (state r (suc n))
       go (nothing u) = subst (Agrees (ledger r (suc n))) (sym (u .state)) (rw (same (cases (isNoted (r .calls n)))) a)
@@ -160,8 +160,8 @@ module _ (r : Run) (w : Lawful r) where
           rw (noted-is n (openResult (state r n) (buffer r n) (u .ask) (u .k) .answer) (opening itsOwn (u .ask)) refl
           (answer-is (u .result)) (u .call)) (to (u .result) (record {
             own = a .own;
-            lastTicket = refl;
-            four = length-set (ledger r n .tickets) (firstGivable (ledger r n .tickets)) (suc (state r n .tickets)) ∙ a .four;
+            issued = refl;
+            four = length-set (ledger r n .tickets) (firstGivable (ledger r n .tickets)) (suc (state r n .issued)) ∙ a .four;
             each = each;
           }))
         where
@@ -172,27 +172,27 @@ module _ (r : Run) (w : Lawful r) where
           s′ = openResult (state r n) (buffer r n) (u .ask) (u .k) .state
 
           new : Slot
-          new = opened (u .ask) (suc (state r n .tickets))
+          new = opened (u .ask) (suc (state r n .issued))
 
-          each : (j : ℕ) → j < 4 → getD (set (ledger r n .tickets) (firstGivable (ledger r n .tickets)) (suc (state r n .tickets))) j 0
+          each : (j : ℕ) → j < 4 → getD (set (ledger r n .tickets) (firstGivable (ledger r n .tickets)) (suc (state r n .issued))) j 0
               ≡ slot s′ j .ticket
           each j m = rw kk (pick (ℕ-discrete j (u .k)))
             where
-              pick : Dec (j ≡ u .k) → getD (set (ledger r n .tickets) (u .k) (suc (state r n .tickets))) j 0 ≡ slot s′ j .ticket
+              pick : Dec (j ≡ u .k) → getD (set (ledger r n .tickets) (u .k) (suc (state r n .issued))) j 0 ≡ slot s′ j .ticket
               pick (yes p) =
-                  rw p (getD-set-same (ledger r n .tickets) (u .k) (suc (state r n .tickets)) 0 (omega (arith, a .four, u .lowest .bound))
+                  rw p (getD-set-same (ledger r n .tickets) (u .k) (suc (state r n .issued)) 0 (omega (arith, a .four, u .lowest .bound))
                   ∙ sym (ticket-eq (slot-set-same (state r n) s′ (u .k) new (h .four) refl (u .lowest .bound))
-                  ∙ opened-ticket (u .ask) (suc (state r n .tickets))))
-              pick (no p) = getD-set-other (ledger r n .tickets) (u .k) j (suc (state r n .tickets)) 0 p ∙ a .each j m
+                  ∙ opened-ticket (u .ask) (suc (state r n .issued))))
+              pick (no p) = getD-set-other (ledger r n .tickets) (u .k) j (suc (state r n .issued)) 0 p ∙ a .each j m
                   ∙ sym (ticket-eq (slot-set-other (state r n) s′ (u .k) j new refl p))
       go (sends u) = sent (some (u .k)) (u .call) (u .result)
       go (idles u) = sent none (u .call) (u .result)
       go (takes u) = moves (ap isNoted (u .call)) (ap (λ (v : Result). v .state .own) (u .result))
-          (ap (λ (v : Result). v .state .tickets) (u .result))
+          (ap (λ (v : Result). v .state .issued) (u .result))
       go (closes u) =
           rw (noted-is n (plain 0) (close (u .t)) refl (answer-is (u .result)) (u .call)) (to (u .result) (record {
             own = a .own;
-            lastTicket = a .lastTicket;
+            issued = a .issued;
             four = length-map (ledger r n .tickets) (λ v. cond (eqb v (u .t)) 0 v) ∙ a .four;
             each = λ j m. freed-at (ledger r n .tickets) (u .t) j ∙ rw (a .each j m) (pick j m (ℕ-discrete j (u .k)));
           }))

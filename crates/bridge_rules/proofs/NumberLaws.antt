@@ -84,7 +84,7 @@ lent-ok s n e =
 pub record OpenFacts (s : Bridge) (a : Ask) : Type 0 where
   pub law : LawfulAsk a
   pub slotted : isNone (lowestFree s) ≡ false
-  pub ticketed : s .tickets < 4294967295
+  pub ticketed : s .issued < 4294967295
 
 pub open-facts : (s : Bridge) (n : ℕ) (a : Ask) → openNumber s n a ≡ 0 → OpenFacts s a
 unfolding openNumber roomNumber
@@ -96,7 +96,7 @@ open-facts s n a e =
     record {
       law = args-lawful _ _ _ _ (h2 .0);
       slotted = h3 .0;
-      ticketed = omega (arith, leb-false _ (s .tickets) (h4 .0));
+      ticketed = omega (arith, leb-false _ (s .issued) (h4 .0));
     }
 
 pub open-lent : (s : Bridge) (n : ℕ) (a : Ask) → openNumber s n a ≡ 0 → (sound s ≡ true) × (n ≡ 512)

@@ -116,14 +116,14 @@ module _ (r : Run) (w : Lawful r) (n : ℕ) where
       taken : (k : ℕ) → k < 4 → (x : Transfer r) × Stands r x n × (slotOf r x ≡ k) → isFree (slot (state r n) k .phase) ≡ false
       taken k l (x, s, e) = rw e at (held-slot r w x n s)
 
-  tickets-used : (4294967295 ≤ state r n .tickets) ↔ (4294967295 ≤ ledger r n .lastTicket)
-  tickets-used = (λ l. omega (arith, agrees r w n .lastTicket), λ l. omega (arith, agrees r w n .lastTicket))
+  tickets-used : (4294967295 ≤ state r n .issued) ↔ (4294967295 ≤ ledger r n .issued)
+  tickets-used = (λ l. omega (arith, agrees r w n .issued), λ l. omega (arith, agrees r w n .issued))
 
   abbrev Full : Type 0
   Full = (k : ℕ) → k < 4 → (x : Transfer r) × Stands r x n × (slotOf r x ≡ k)
 
   abbrev Used : Type 0
-  Used = 4294967295 ≤ ledger r n .lastTicket
+  Used = 4294967295 ≤ ledger r n .issued
 
   opening-number : (l : Lent) (a : Ask) → Shaped (opening l a) → (m : ℕ)
       → (step (state r n) (buffer r n) (opening l a) .answer .number ≡ m) ↔ OpeningInRun r n l a m
@@ -305,7 +305,7 @@ module _ (r : Run) (w : Lawful r) (n : ℕ) where
   numbers = record {
     opens = λ l a e m. made (opening l a) m _ e (opening-number l a (shaped-as (opening l a) e) m);
     tickets = λ l a e z.
-        openedAt r w (record { at = n; lent = l; ask = a; call = e; accepted = z }) .ticketed ∙ ap suc (sym (agrees r w n .lastTicket));
+        openedAt r w (record { at = n; lent = l; ask = a; call = e; accepted = z }) .ticketed ∙ ap suc (sym (agrees r w n .issued));
     turns = λ l e m. made (turn l) m _ e (turns-number l (shaped-as (turn l) e) m);
     frames = λ l f e m. made (frame l f) m _ e (frames-number l f e (shaped-as (frame l f) e) m);
     replies = λ l f e z. reply-of l f e (shaped-as (frame l f) e) (zero-as (frame l f) e z);

@@ -35,12 +35,12 @@ AfterLent a P Q =
     (First Q 13
     Zero))))
 
-room-chain : (s : Bridge) (n : ℕ) (P Q : Type 0) → (isNone (lowestFree s) ≡ true) ↔ P → (4294967295 ≤ s .tickets) ↔ Q
+room-chain : (s : Bridge) (n : ℕ) (P Q : Type 0) → (isNone (lowestFree s) ≡ true) ↔ P → (4294967295 ≤ s .issued) ↔ Q
     → (roomNumber s ≡ n) ↔ First P 12 (First Q 13 Zero) n
 unfolding roomNumber
 room-chain s n P Q p q = first-if 12 (isNone (lowestFree s)) _ n P (First Q 13 Zero) p (λ z. first-if 13 _ 0 n Q Zero (
-  λ e. q .0 (omega (arith, leb-true _ (s .tickets) e)),
-  λ u. le-leb _ (s .tickets) (omega (arith, q .1 u)),
+  λ e. q .0 (omega (arith, leb-true _ (s .issued) e)),
+  λ u. le-leb _ (s .issued) (omega (arith, q .1 u)),
 ) (λ z. (sym, sym)))
 
 args-chain : (d t o c x n : ℕ) (rest : ℕ → Type 0) → (x ≡ n) ↔ rest n
@@ -63,7 +63,7 @@ args-chain d t o c x n rest r = (λ e. tests .0 (sym flat ∙ e), λ p. flat ∙
         (or-test (eqb c 0) (ltb 128 c) (1 ≤ c) (c ≤ 128) (none-test c) (over-test 128 c) (some-of c) (ltb-false 128 c))
         (λ y. first-if 8 (ltb 2048 (o + c)) x n (2048 < o + c) rest (ltb-test 2048 (o + c)) (λ u. r)))
 
-pub chain : (s : Bridge) (a : Ask) (n : ℕ) (P Q : Type 0) → (isNone (lowestFree s) ≡ true) ↔ P → (4294967295 ≤ s .tickets) ↔ Q
+pub chain : (s : Bridge) (a : Ask) (n : ℕ) (P Q : Type 0) → (isNone (lowestFree s) ≡ true) ↔ P → (4294967295 ≤ s .issued) ↔ Q
     → (afterLent s a ≡ n) ↔ AfterLent a P Q n
 chain s a n P Q p q = args-chain (askDevice a) (askTable a) (askOffset a) (askCount a) (roomNumber s) n (First P 12 (First Q 13 Zero))
     (room-chain s n P Q p q)
@@ -118,7 +118,7 @@ opening-numbers s b a n = (λ e. h .0 (sym (number-is s b a) ∙ e), λ p. numbe
     Full = (k : ℕ) → k < 4 → slot s k .phase ≢ free
 
     Used : Type 0
-    Used = 4294967295 ≤ s .tickets
+    Used = 4294967295 ≤ s .issued
 
     h : (openNumber s (length b) a ≡ n) ↔ OpeningNumber s b a n
     h = (λ e. tests .0 (sym flat ∙ e), λ p. flat ∙ tests .1 p)

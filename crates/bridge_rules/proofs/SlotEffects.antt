@@ -223,7 +223,7 @@ module _ (s : Bridge) (b : List ℕ) (c : Call) (h : Sound s) (k : ℕ) (l : k <
         number = rw (u .result);
       })
       go (no p) = keeps (unchanged (record {
-        after = same-slot (openResult s b (u .ask) (u .k)) (u .k) (opened (u .ask) (suc (s .tickets))) (u .result) refl p;
+        after = same-slot (openResult s b (u .ask) (u .k)) (u .k) (opened (u .ask) (suc (s .issued))) (u .result) refl p;
         part = rw (u .result) (let e : 128 * u .k ≡ 128 * u .k + 0 = omega arith in
             rw e (sets-elsewhere k (u .k) b (askGiven (u .ask)) 0 (λ v. p (sym v)) (given-short (u .ask) (u .lawful))));
         last = rw (u .result);

@@ -33,18 +33,18 @@ pub record SlotSet (s s′ : Bridge) (k : ℕ) (y : Slot) : Type 0 where
   pub bound : k < 4
   pub own : s′ .own ≤ 15
   pub last : s′ .last ≤ 3
-  pub tickets : s′ .tickets ≤ 4294967295
-  pub more : s .tickets ≤ s′ .tickets
+  pub issued : s′ .issued ≤ 4294967295
+  pub more : s .issued ≤ s′ .issued
   pub slots : s′ .slots ≡ set (s .slots) k y
   pub ok : SlotOk y
-  pub given : y .ticket ≤ s′ .tickets
+  pub given : y .ticket ≤ s′ .issued
   pub apart : (j : ℕ) → j < 4 → j ≢ k → 0 < y .ticket → y .ticket ≢ slot s j .ticket
 
 pub set-sound : (s s′ : Bridge) (k : ℕ) (y : Slot) → Sound s → SlotSet s s′ k y → Sound s′
 set-sound s s′ k y h n = record {
   own = n .own;
   last = n .last;
-  tickets = n .tickets;
+  issued = n .issued;
   four = ap length (n .slots) ∙ length-set (s .slots) k y ∙ h .four;
   each = λ j m. each j m (ℕ-discrete j k);
   given = λ j m. given j m (ℕ-discrete j k);
@@ -61,7 +61,7 @@ set-sound s s′ k y h n = record {
     each j m (yes p) = rw (p, same) (n .ok)
     each j m (no p) = rw (other j p) (h .each j m)
 
-    given : (j : ℕ) → j < 4 → Dec (j ≡ k) → slot s′ j .ticket ≤ s′ .tickets
+    given : (j : ℕ) → j < 4 → Dec (j ≡ k) → slot s′ j .ticket ≤ s′ .issued
     given j m (yes p) = rw (p, same) (n .given)
     given j m (no p) = rw (other j p) (omega (arith, h .given j m, n .more))
 
@@ -87,7 +87,7 @@ unfolding agedBridge
 aged-sound s h = record {
   own = h .own;
   last = h .last;
-  tickets = h .tickets;
+  issued = h .issued;
   four = length-map (s .slots) aged ∙ h .four;
   each = λ k l. rw (slot-aged s k) (aged-ok (slot s k) (h .each k l));
   given = λ k l. rw (slot-aged s k, aged-same (slot s k) .ticket) (h .given k l);
@@ -100,7 +100,7 @@ sends-sound s b k h l r = set-sound s _ k (sentSlot (slot s k)) h (record {
   bound = l;
   own = h .own;
   last = omega arith;
-  tickets = h .tickets;
+  issued = h .issued;
   more = omega arith;
   slots = refl;
   ok = sent-ok (slot s k) (ready-ok (slot s k) (h .each k l) r);
@@ -123,7 +123,7 @@ unfolding fresh
 fresh-sound o h = record {
   own = h;
   last = omega arith;
-  tickets = omega arith;
+  issued = omega arith;
   four = refl;
   each = λ k l. okFree (fresh-slot o k);
   given = λ k l. none k;

@@ -20,10 +20,10 @@ use Rattle.bridge_rules.proofs.SlotOk.{HeldOk, Partway, SlotOk, okFree,
 pub record Sound (s : Bridge) : Type 0 where
   pub own : s .own ≤ 15
   pub last : s .last ≤ 3
-  pub tickets : s .tickets ≤ 4294967295
+  pub issued : s .issued ≤ 4294967295
   pub four : length (s .slots) ≡ 4
   pub each : (k : ℕ) → k < 4 → SlotOk (slot s k)
-  pub given : (k : ℕ) → k < 4 → slot s k .ticket ≤ s .tickets
+  pub given : (k : ℕ) → k < 4 → slot s k .ticket ≤ s .issued
   pub apart : (k j : ℕ) → k < 4 → j < 4 → k ≢ j → 0 < slot s k .ticket → slot s k .ticket ≢ slot s j .ticket
 
 -- ── from the facts to the test ─────────────────────────────────────────────────────────────────────────────────────
@@ -117,9 +117,9 @@ sound-true s h =
     rw (
       le-leb (s .own) 15 (h .own),
       le-leb (s .last) 3 (h .last),
-      le-leb (s .tickets) 4294967295 (h .tickets),
+      le-leb (s .issued) 4294967295 (h .issued),
       eq-eqb (length (s .slots)) 4 (h .four),
-      slots-true (s .tickets) (s .slots) (λ k l. (h .each k (omega (arith, h .four)), h .given k (omega (arith, h .four)))),
+      slots-true (s .issued) (s .slots) (λ k l. (h .each k (omega (arith, h .four)), h .given k (omega (arith, h .four)))),
       distinct-true (s .slots) (λ k j l m. h .apart k j (omega (arith, h .four)) (omega (arith, h .four))),
     )
 
@@ -330,18 +330,18 @@ pub true-sound : (s : Bridge) → sound s ≡ true → Sound s
 unfolding sound slot
 true-sound s h =
     let a1 = and-true _ (distinct (s .slots)) h in
-    let a2 = and-true _ (soundSlots (s .tickets) (s .slots)) (a1 .0) in
+    let a2 = and-true _ (soundSlots (s .issued) (s .slots)) (a1 .0) in
     let a3 = and-true _ (eqb (length (s .slots)) 4) (a2 .0) in
-    let a4 = and-true _ (leb (s .tickets) 4294967295) (a3 .0) in
+    let a4 = and-true _ (leb (s .issued) 4294967295) (a3 .0) in
     let a5 = and-true (leb (s .own) 15) (leb (s .last) 3) (a4 .0) in
     let four : length (s .slots) ≡ 4 = eqb-true _ 4 (a3 .1) in
     record {
       own = leb-true _ _ (a5 .0);
       last = leb-true _ _ (a5 .1);
-      tickets = leb-true _ _ (a4 .1);
+      issued = leb-true _ _ (a4 .1);
       four = four;
-      each = λ k l. true-slots (s .tickets) (s .slots) (a2 .1) k (omega arith) .0;
-      given = λ k l. true-slots (s .tickets) (s .slots) (a2 .1) k (omega arith) .1;
+      each = λ k l. true-slots (s .issued) (s .slots) (a2 .1) k (omega arith) .0;
+      given = λ k l. true-slots (s .issued) (s .slots) (a2 .1) k (omega arith) .1;
       apart = λ k j l m d p. true-distinct (s .slots) (a1 .1) k j (omega arith) (omega arith) d p;
     }
 

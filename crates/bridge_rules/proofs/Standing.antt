@@ -29,7 +29,7 @@ use Rattle.bridge_rules.proofs.LedgerAgrees.{agrees, lowest-agrees}
 pub record Opened (r : Run) (x : Transfer r) : Type 0 where
   pub bound : slotOf r x < 4
   pub law : LawfulAsk (x .ask)
-  pub ticketed : ticket r x ≡ suc (state r (x .at) .tickets)
+  pub ticketed : ticket r x ≡ suc (state r (x .at) .issued)
   pub lowest : Lowest (freeAt (state r (x .at))) (slotOf r x)
   pub slot : slot (state r (suc (x .at))) (slotOf r x) ≡ opened (x .ask) (ticket r x)
   pub given : buffer r (suc (x .at)) ≡ sets (buffer r (x .at)) (128 * slotOf r x) (askGiven (x .ask))
@@ -46,8 +46,8 @@ module _ (r : Run) (w : Lawful r) (x : Transfer r) where
           let same : u .ask ≡ x .ask = cc (u .call, x .call) in
           let kk : slotOf r x ≡ u .k
           = lowest-agrees (ledger r (x .at)) (state r (x .at)) (u .k) (storage-sound r w (x .at) .0) (agrees r w (x .at)) (u .lowest) in
-          let tk : ticket r x ≡ suc (state r (x .at) .tickets) = ap (λ (v : Result). v .answer .ticket) (u .result) in
-          let slots : state r (suc (x .at)) .slots ≡ set (state r (x .at) .slots) (u .k) (opened (u .ask) (suc (state r (x .at) .tickets)))
+          let tk : ticket r x ≡ suc (state r (x .at) .issued) = ap (λ (v : Result). v .answer .ticket) (u .result) in
+          let slots : state r (suc (x .at)) .slots ≡ set (state r (x .at) .slots) (u .k) (opened (u .ask) (suc (state r (x .at) .issued)))
           = ap (λ (v : Result). v .state .slots) (u .result) in
           record {
             bound = rw kk (u .lowest .bound);
@@ -55,7 +55,7 @@ module _ (r : Run) (w : Lawful r) (x : Transfer r) where
             ticketed = tk;
             lowest = rw kk (u .lowest);
             slot = rw (kk, tk, ← same) (slot-set-same (state r (x .at)) (state r (suc (x .at))) (u .k)
-                (opened (u .ask) (suc (state r (x .at) .tickets))) (storage-sound r w (x .at) .0 .four) slots (u .lowest .bound));
+                (opened (u .ask) (suc (state r (x .at) .issued))) (storage-sound r w (x .at) .0 .four) slots (u .lowest .bound));
             given = rw (kk, ← same) (ap (λ (v : Result). v .buffer) (u .result));
           }
       go (sends u) = other-call (x .call) (u .call) refl

@@ -46,7 +46,7 @@ pub span-number : (s : Bridge) (k : ℕ) → slotSpan s k .number ≡ 0
 unfolding slotSpan
 span-number s k = go (asks (slot s k .kind))
   where
-    go : (c : Bool) → cond c (record { number = 0; start = 128 * k; count = slot s k .count }) (noSpan 0) .number ≡ 0
+    go : (c : Bool) → cond c (record { number = 0; start = 128 * k; len = slot s k .count }) (noSpan 0) .number ≡ 0
     go true = refl
     go false = refl
 
