@@ -28,7 +28,8 @@ use Rattle.bridge_rules.proofs.SlotChanges.{Requested, sent-read, advan
 use Rattle.bridge_rules.proofs.SlotEffects.{unchanged, ages, served, taken, change-same}
 use Rattle.bridge_rules.proofs.TurnCounts.{turns-same, turns-more, turns-none, turns-mono}
 use Rattle.bridge_rules.proofs.SoundRuns.{storage-sound}
-use Rattle.bridge_rules.proofs.Standing.{okAt, agingAt, openedAt, slotAt, Changes, Held, held, opened-stands, Begins, begins-open, along-from, stands-before}
+use Rattle.bridge_rules.proofs.Standing.{okAt, agingAt, openedAt, slotAt, Changes, Held, held, opened-stands, Begins, begins-open, along-from}
+use Rattle.bridge_rules.proofs.Standing.{stands-before}
 use Rattle.bridge_rules.proofs.Matching.{matches-ok, matches-true, turn-unmatched, matches-awaited, awaited-matches}
 use Rattle.bridge_rules.proofs.SentRequests.{sends-request}
 

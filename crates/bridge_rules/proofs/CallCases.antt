@@ -13,7 +13,8 @@ use lib.Dec.{eqb}
 use borrow.Author.Tests.{eqb-true, eqb-false, ne-eqb, lt-ltb, le-ltb, not-true}
 use Rattle.bus_rules.specs.Frames.{content}
 use Rattle.wire.specs.Order.{_if_else_}
-use Rattle.bridge_rules.specs.State.{Frame, Bridge, blank, slot, fresh, sound, isReady, isFree, isNone, orZero, lowestFree, heldSlot, nextReady, withSlots}
+use Rattle.bridge_rules.specs.State.{Frame, Bridge, blank, slot, fresh, sound, isReady, isFree, isNone, orZero, lowestFree, heldSlot, nextReady}
+use Rattle.bridge_rules.specs.State.{withSlots}
 use Rattle.bridge_rules.specs.Answers.{Result, plain}
 use Rattle.bridge_rules.specs.Opening.{Ask, askGiven, opened, openNumber, openOf}
 use Rattle.bridge_rules.specs.Turn.{advanced, agedBridge, sendFor, turnOf}
@@ -21,7 +22,8 @@ use Rattle.bridge_rules.specs.Incoming.{awaits, contentNumber, awaiting,
 use Rattle.bridge_rules.specs.Ending.{closeNumber, closeOf, resetOf, bytesOf, resetNumber}
 use Rattle.bridge_rules.specs.Call.{Call, itsOwn, other, opening, turn, frame, status, bytes, close, reset, step, lentList}
 use Rattle.bridge_rules.specs.Run.{Shaped, isTurn}
-use Rattle.bridge_rules.proofs.NumberLaws.{else-first, else-second, LawfulAsk, OpenFacts, open-facts, lent-clear, lent-ten, open-ten, reply-later, reply-ten}
+use Rattle.bridge_rules.proofs.NumberLaws.{else-first, else-second, LawfulAsk, OpenFacts, open-facts, lent-clear, lent-ten, open-ten, reply-later}
+use Rattle.bridge_rules.proofs.NumberLaws.{reply-ten}
 use Rattle.bridge_rules.proofs.Search.{option-cases, cases, and-true, contradiction, Found, Lowest, search-some, search-none, lowest-some, lowest-none}
 use Rattle.bridge_rules.proofs.Search.{Outcome, through, refused, outcome}
 use Rattle.bridge_rules.proofs.SoundTest.{Sound, sound-true}

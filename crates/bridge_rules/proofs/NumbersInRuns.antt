@@ -4,7 +4,7 @@ use mathlib.Core.Path.{_≡_, refl, sym, _∙_, ap, subst}
 use mathlib.Core.Logic.{_↔_, _⊎_, inl, inr, _≢_}
 use mathlib.Core.List.{List}
 use mathlib.Core.Option.{none, some}
-use mathlib.Core.Bool.{true, false, not, true≢false}
+use mathlib.Core.Bool.{true, false, not}
 use native.Mathlib.Omega.{arith}
 use lib.ListN.{length}
 use lib.Dec.{leb, ltb, eqb}
@@ -29,7 +29,7 @@ use Rattle.bridge_rules.proofs.NumberLaws.{lent-clear, lent-ten, open-l
 use Rattle.bridge_rules.proofs.RefusalChains.{first-if, not-test, leb-test, ltb-test, eqb-test, if-orElse, zero-orElse, orElse-orElse}
 use Rattle.bridge_rules.proofs.OpeningNumbers.{afterLent, AfterLent, chain, full, unless-number, number-is}
 use Rattle.bridge_rules.proofs.RefusalsKeep.{sends-zero}
-use Rattle.bridge_rules.proofs.Search.{Lowest, lowest-some, lowest-none, option-cases}
+use Rattle.bridge_rules.proofs.Search.{contradiction, Lowest, lowest-some, lowest-none, option-cases}
 use Rattle.bridge_rules.proofs.AwaitsTest.{awaits-ok}
 use Rattle.bridge_rules.proofs.SlotOk.{WaitOk, wait-ok}
 use Rattle.bridge_rules.proofs.SoundTest.{sound-true}
@@ -185,7 +185,7 @@ module _ (r : Run) (w : Lawful r) (n : ℕ) where
         none-awaits q (x, c, p) =
             let fo = matches-ok r w x c n (p .matches) in
             let same : fo .0 ≡ f = let u : frame itsOwn (fo .0) ≡ frame itsOwn f = sym (fo .1 .is) ∙ e in cc in
-            true≢false (sym (reply-awaited r w x c n p) ∙ ap (λ (g : Frame). awaits (state r n) g (slotOf r x)) same
+            contradiction (reply-awaited r w x c n p) (ap (λ (g : Frame). awaits (state r n) g (slotOf r x)) same
             ∙ lowest-none (awaits (state r n) f) q (slotOf r x) (openedAt r w x .bound))
 
         go : (awaiting (state r n) f ≡ none) ⊎ ((k : ℕ) × (awaiting (state r n) f ≡ some k))
@@ -193,7 +193,7 @@ module _ (r : Run) (w : Lawful r) (n : ℕ) where
         go (inl q) = (λ u. none-awaits q, λ u. ap isNone q)
         go (inr (k, q)) =
             let l : Lowest (awaits (state r n) f) k = lowest-some (awaits (state r n) f) k q in
-            (λ u. absurd (true≢false (sym u ∙ ap isNone q)), λ u. absurd (u (is-reply k (l .bound) (l .passes))))
+            (λ u. contradiction u (ap isNone q), λ u. absurd (u (is-reply k (l .bound) (l .passes))))
 
   abbrev NoReply : Type 0
   NoReply = ¬ ((x : Transfer r) × (c : ℕ) × Replied r x c n)
@@ -249,7 +249,7 @@ module _ (r : Run) (w : Lawful r) (n : ℕ) where
       h = else-zero _ _ (sym (frame-number (state r n) (buffer r n) f ∙ reply-later (state r n) (length (buffer r n)) f ss lb) ∙ u)
 
       go : (awaiting (state r n) f ≡ none) ⊎ ((k : ℕ) × (awaiting (state r n) f ≡ some k)) → (x : Transfer r) × (c : ℕ) × Replied r x c n
-      go (inl q) = absurd (true≢false (sym (ap isNone q) ∙ if-zero 16 _ _ (h .1) .0))
+      go (inl q) = contradiction (ap isNone q) (if-zero 16 _ _ (h .1) .0)
       go (inr (k, q)) =
           let l : Lowest (awaits (state r n) f) k = lowest-some (awaits (state r n) f) k q in
           is-reply f e (h .0) k (l .bound) (l .passes)
@@ -266,7 +266,7 @@ module _ (r : Run) (w : Lawful r) (n : ℕ) where
 
       unheld : (isNone (heldSlot (state r n) t) ≡ true) ↔ ((x : Transfer r) → Stands r x n → ticket r x ≢ t)
       unheld = (
-        λ u x s e. true≢false (sym u ∙ ap isNone (ap (heldSlot (state r n)) (sym e) ∙ held-by r w x n s)),
+        λ u x s e. contradiction u (ap isNone (ap (heldSlot (state r n)) (sym e) ∙ held-by r w x n s)),
         λ u. ap isNone (no-holder r w n t u),
       )
 
@@ -276,8 +276,8 @@ module _ (r : Run) (w : Lawful r) (n : ℕ) where
   -- so a closing answered 0 is a standing transfer's
   closed-of : (t : ℕ) → step (state r n) (buffer r n) (close t) .answer .number ≡ 0 → (x : Transfer r) × Stands r x n × (ticket r x ≡ t)
   unfolding step
-  closed-of t u = known-holder r w n t (λ z. true≢false (sym (ap isNone z)
-      ∙ if-zero 13 _ _ (sym (close-number (state r n) t ss) ∙ u) .0))
+  closed-of t u = known-holder r w n t (λ z. contradiction (ap isNone z)
+      (if-zero 13 _ _ (sym (close-number (state r n) t ss) ∙ u) .0))
 
   resets-number : (o m : ℕ) → (step (state r n) (buffer r n) (reset o) .answer .number ≡ m) ↔ First (15 < o) 11 Zero m
   unfolding step

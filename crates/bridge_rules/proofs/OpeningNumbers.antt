@@ -4,7 +4,7 @@ use mathlib.Core.Path.{_≡_, refl, sym, _∙_, ap}
 use mathlib.Core.Logic.{_↔_, _⊎_, inl, inr, _≢_}
 use mathlib.Core.List.{List}
 use mathlib.Core.Option.{none, some}
-use mathlib.Core.Bool.{Bool, true, false, cond, not, _||_, true≢false}
+use mathlib.Core.Bool.{Bool, true, false, cond, not, _||_}
 use native.Mathlib.Omega.{arith}
 use lib.ListN.{length}
 use lib.Dec.{ltb, eqb}
@@ -17,9 +17,9 @@ use Rattle.bridge_rules.specs.Opening.{roomNumber, Ask, askDevice, askTa
 use Rattle.bridge_rules.specs.Call.{itsOwn, opening, step}
 use Rattle.bridge_rules.specs.Calls.{OpeningNumber, OpeningNumbers, Acceptable, OpensExactly}
 use Rattle.bridge_rules.proofs.NumberLaws.{OpenFacts, open-facts, open-lent}
-use Rattle.bridge_rules.proofs.RefusalChains.{first-if, not-test, ltb-test, eqb-test, sound-test, if-orElse, zero-orElse, either, or-test, over-test, none-test}
-use Rattle.bridge_rules.proofs.RefusalChains.{some-of}
-use Rattle.bridge_rules.proofs.Search.{cases, Lowest, lowest-some, lowest-none, option-cases}
+use Rattle.bridge_rules.proofs.RefusalChains.{first-if, not-test, ltb-test, eqb-test, sound-test, if-orElse, zero-orElse, either, or-test, over-test}
+use Rattle.bridge_rules.proofs.RefusalChains.{none-test, some-of}
+use Rattle.bridge_rules.proofs.Search.{cases, contradiction, Lowest, lowest-some, lowest-none, option-cases}
 use Rattle.bridge_rules.proofs.CallCases.{freeAt}
 
 -- the numbers after 11 and 10, of which 12 and 13 are told in two ways
@@ -81,7 +81,7 @@ full s = go (option-cases (lowestFree s))
     go (inl z) = (λ e k l. lowest-none (freeAt s) z k l, λ f. ap isNone z)
     go (inr (k, z)) =
         let w : Lowest (freeAt s) k = lowest-some (freeAt s) k z in
-        (λ e. absurd (true≢false (sym e ∙ ap isNone z)), λ f. absurd (true≢false (sym (w .passes) ∙ f k (w .bound))))
+        (λ e. contradiction e (ap isNone z), λ f. contradiction (w .passes) (f k (w .bound)))
 
 lowest-is : (s : Bridge) (k : ℕ) → lowestFree s ≡ some k → Lowest (freeAt s) k
 unfolding lowestFree
@@ -89,7 +89,7 @@ lowest-is s k = lowest-some (freeAt s) k
 
 full-phases : (s : Bridge) → (isNone (lowestFree s) ≡ true) ↔ ((k : ℕ) → k < 4 → slot s k .phase ≢ free)
 full-phases s = (
-  λ e k l z. true≢false (sym (ap isFree z) ∙ full s .0 e k l),
+  λ e k l z. contradiction (ap isFree z) (full s .0 e k l),
   λ f. full s .1 (λ k l. go k l (cases (isFree (slot s k .phase))) f),
 )
   where
@@ -154,12 +154,12 @@ opens-exactly s b a = (there, back)
       where
         free-slot : (lowestFree s ≡ none) ⊎ ((k : ℕ) × (lowestFree s ≡ some k)) → isNone (lowestFree s) ≡ false
             → (k : ℕ) × (k < 4) × (slot s k .phase ≡ free)
-        free-slot (inl y) q = absurd (true≢false (sym (ap isNone y) ∙ q))
+        free-slot (inl y) q = contradiction (ap isNone y) q
         free-slot (inr (k, y)) q = let w = lowest-is s k y in (k, w .bound, free-phase (slot s k .phase) (w .passes))
 
     back : Acceptable s b a → openOf s b a .answer .number ≡ 0
     back c = opening-numbers s b a 0 .1 (inr (
-      λ z. true≢false (sym (c .accepts) ∙ z),
+      λ z. contradiction (c .accepts) z,
       inr (
         λ z. z (c .lent),
         inr (
