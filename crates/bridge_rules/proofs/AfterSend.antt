@@ -5,7 +5,7 @@ use mathlib.Core.Logic.{inl, inr}
 use mathlib.Core.Bool.{true}
 use native.Mathlib.Omega.{arith}
 use native.Mathlib.Decide.{decLt}
-use Rattle.bridge_rules.specs.State.{Slot, ready, waiting, gaveUp, isWaiting, isReady, asks}
+use Rattle.bridge_rules.specs.State.{waiting, gaveUp, isWaiting, asks}
 use Rattle.bridge_rules.specs.Turn.{aged}
 use Rattle.bridge_rules.specs.Run.{Run, Lawful, Transfer, slotOf, Stands, turns}
 use Rattle.bridge_rules.specs.Replies.{Sent, Matches}

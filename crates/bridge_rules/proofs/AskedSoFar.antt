@@ -9,7 +9,7 @@ use native.Mathlib.Decide.{ℕ-discrete, decLt}
 use lib.ListN.{length, getD}
 use lib.Seq.{sets}
 use Rattle.bus_rules.specs.Frames.{content}
-use Rattle.bridge_rules.specs.State.{Frame, Slot, ready, waiting, gaveUp, isWaiting, asks}
+use Rattle.bridge_rules.specs.State.{Frame, ready, waiting, gaveUp, asks}
 use Rattle.bridge_rules.specs.Opening.{isWrite, askCount}
 use Rattle.bridge_rules.specs.Turn.{aged, advanced}
 use Rattle.bridge_rules.specs.Incoming.{contentNumber}
@@ -290,9 +290,6 @@ module _ (r : Run) (w : Lawful r) (x : Transfer r) where
     where
       phase : slotAt r x (suc n) .phase ≡ advanced (slotAt r x n) .phase
       phase = phase-eq (v .after)
-
-      i : ℕ
-      i = v .waits .partway .chunk
 
       at : slotAt r x n .progress ≡ 8 * v .waits .partway .chunk
       at = v .waits .partway .at

@@ -14,7 +14,7 @@ use Rattle.wire.specs.First.{First, Zero}
 use Rattle.bridge_rules.specs.State.{askNumber, Bridge, free, slot, sound, isFree, isNone, lowestFree}
 use Rattle.bridge_rules.specs.Answers.{lentNumber, Result, unless, plain}
 use Rattle.bridge_rules.specs.Opening.{roomNumber, Ask, askDevice, askTable, askOffset, askCount, openNumber, openOf}
-use Rattle.bridge_rules.specs.Call.{itsOwn, opening, step}
+use Rattle.bridge_rules.specs.Call.{step}
 use Rattle.bridge_rules.specs.Calls.{OpeningNumber, OpeningNumbers, Acceptable, OpensExactly}
 use Rattle.bridge_rules.proofs.NumberLaws.{OpenFacts, open-facts, open-lent}
 use Rattle.bridge_rules.proofs.RefusalChains.{first-if, not-test, ltb-test, eqb-test, sound-test, if-orElse, zero-orElse, either, or-test, over-test}

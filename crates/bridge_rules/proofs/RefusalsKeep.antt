@@ -15,7 +15,7 @@ use Rattle.bridge_rules.specs.Opening.{Ask, openNumber, openOf}
 use Rattle.bridge_rules.specs.Turn.{agedBridge, sendFor, turnOf}
 use Rattle.bridge_rules.specs.Incoming.{replyNumber, frameOf}
 use Rattle.bridge_rules.specs.Ending.{closeNumber, closeOf, resetNumber, resetOf, bytesOf, bytesNumber, noSpan, slotSpan, spanOf, statusOf}
-use Rattle.bridge_rules.specs.Call.{Call, itsOwn, other, opening, turn, frame, status, bytes, close, reset, step, keeping, lentList}
+use Rattle.bridge_rules.specs.Call.{itsOwn, other, opening, turn, frame, status, bytes, close, reset, step, keeping, lentList}
 use Rattle.bridge_rules.specs.Calls.{UnsoundRefused, RefusalsKeep}
 use Rattle.bridge_rules.proofs.Status.{span-number}
 

@@ -1,10 +1,10 @@
 -- A read's replies: each is taken once, in the chunks' order; the last makes it done, and three failed sends make it give up.
 use Prim.Native.Nat.{ℕ, suc, _+_, _*_, _-_, _≤_, _<_, min}
 use mathlib.Core.Path.{_≡_, refl, sym, _∙_, ap}
-use mathlib.Core.Bool.{true, false}
+use mathlib.Core.Bool.{true}
 use native.Mathlib.Omega.{arith}
 use native.Mathlib.Decide.{decLt}
-use Rattle.bridge_rules.specs.State.{Frame, Slot, waiting, done, gaveUp, isWaiting, asks}
+use Rattle.bridge_rules.specs.State.{Frame, done, gaveUp, isWaiting, asks}
 use Rattle.bridge_rules.specs.Answers.{Result}
 use Rattle.bridge_rules.specs.Opening.{askCount}
 use Rattle.bridge_rules.specs.Incoming.{awaits}
@@ -20,7 +20,7 @@ use Rattle.bridge_rules.proofs.TurnCounts.{turns-none}
 use Rattle.bridge_rules.proofs.SoundRuns.{caseAt}
 use Rattle.bridge_rules.proofs.Standing.{full-done, okAt, openedAt, slotAt, Changes, changes, Held, held, stands-back}
 use Rattle.bridge_rules.proofs.Matching.{MatchesOk, matches-ok, turn-unmatched, matches-awaited}
-use Rattle.bridge_rules.proofs.AfterSend.{Waits, WithoutReply, without-reply, AfterSend, after-send, Grown, grown, waits-asks}
+use Rattle.bridge_rules.proofs.AfterSend.{Waits, WithoutReply, without-reply, AfterSend, after-send, grown, waits-asks}
 
 module _ (r : Run) (w : Lawful r) (x : Transfer r) where
   -- the slot waits for a reply when it comes
