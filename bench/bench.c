@@ -60,7 +60,7 @@ static uint64_t bridge_digest(uint64_t h, const hg_bridge *b)
 {
     for (int i = 0; i < 4; i++)
         h = slot_digest(h, &b->slots[i]);
-    return mixed(mixed(mixed(h, b->tickets), b->own), b->last);
+    return mixed(mixed(mixed(h, b->issued), b->own), b->last);
 }
 
 static uint64_t block_digest(uint64_t h, const hg_mlg_block *b)

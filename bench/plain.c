@@ -160,12 +160,12 @@ void PLAIN(serve)(const hg_directory *d, uint8_t *memory, size_t len, const hg_f
 
 /* ---- Bridge ---- */
 
-static bool sound_slot(const hg_slot *s, uint32_t tickets)
+static bool sound_slot(const hg_slot *s, uint32_t issued)
 {
     static const hg_slot none;
     if (s->phase == HG_FREE)
         return memcmp(s, &none, offsetof(hg_slot, left) + 1) == 0;
-    if (s->kind > 1 || s->ticket < 1 || s->ticket > tickets || s->device > 15 || s->table > 31)
+    if (s->kind > 1 || s->ticket < 1 || s->ticket > issued || s->device > 15 || s->table > 31)
         return false;
     if (s->count < 1 || s->count > 128 || s->offset + s->count > 2048)
         return false;
@@ -190,7 +190,7 @@ static uint8_t bridge_number(const hg_bridge *b, size_t len)
     if (b->own > 15 || b->last > 3)
         return 11;
     for (int i = 0; i < 4; i++)
-        if (!sound_slot(&b->slots[i], b->tickets))
+        if (!sound_slot(&b->slots[i], b->issued))
             return 11;
     for (int i = 0; i < 3; i++)
         for (int j = i + 1; j < 4; j++)

@@ -177,7 +177,7 @@ HG_SIZE(hg_slot, 16);
 /* A bridge. Any content will do before the first hg_reset. Its buffer has HG_BUFFER bytes, 128 for each slot; nobody else writes it. */
 typedef struct {
     hg_slot slots[4];
-    uint32_t tickets; /* the last ticket given */
+    uint32_t issued;  /* the last ticket given */
     uint8_t own;
     uint8_t last;     /* the slot last served */
 } hg_bridge;

@@ -110,7 +110,7 @@ pub struct Slot {
 #[derive(Clone, Copy, Debug, Default, PartialEq, Eq)]
 pub struct Bridge {
     pub slots: [Slot; 4],
-    pub tickets: u32,
+    pub issued: u32,
     pub own: u8,
     pub last: u8,
 }

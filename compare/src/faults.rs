@@ -281,7 +281,7 @@ impl Side for Faulty {
     fn reset(&self, b: Bridge, own: u8) -> Changed {
         let mut changed = Model.reset(b, own);
         if self.has(ResetKeepsTickets) && changed.number == 0 {
-            changed.bridge.tickets = b.tickets;
+            changed.bridge.issued = b.issued;
         }
         changed
     }

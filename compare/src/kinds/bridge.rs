@@ -221,8 +221,8 @@ fn random_opening(rng: &mut Rng) -> Call {
 fn random_ticket(rng: &mut Rng, state: &Bridge, past: &Past) -> u32 {
     match rng.below(12) {
         0 => 0,
-        1 => state.tickets,
-        2 => state.tickets.wrapping_add(1),
+        1 => state.issued,
+        2 => state.issued.wrapping_add(1),
         3 => rng.u32(),
         4 | 5 if !past.tickets.is_empty() => rng.pick(&past.tickets),
         _ => {
@@ -285,13 +285,13 @@ fn wrong_buffer(rng: &mut Rng) -> Lent {
 
 /// A sound state, in no way reached by calls.
 fn random_sound(rng: &mut Rng) -> Bridge {
-    let tickets = match rng.below(4) {
+    let issued = match rng.below(4) {
         0 => rng.within(4, 20) as u32,
         1 => rng.u32().max(4),
         2 => u32::MAX,
         _ => u32::MAX - rng.below(5) as u32,
     };
-    let mut state = Bridge { slots: [Slot::default(); 4], tickets, own: rng.below(16) as u8, last: rng.below(4) as u8 };
+    let mut state = Bridge { slots: [Slot::default(); 4], issued, own: rng.below(16) as u8, last: rng.below(4) as u8 };
     // four different tickets: the last given, less four different steps back
     let mut steps: Vec<u32> = (0..4).collect();
     for index in 0..4 {
@@ -299,7 +299,7 @@ fn random_sound(rng: &mut Rng) -> Bridge {
     }
     for index in 0..4 {
         if rng.percent(70) {
-            state.slots[index] = random_slot(rng, tickets - steps[index]);
+            state.slots[index] = random_slot(rng, issued - steps[index]);
         }
     }
     state
@@ -341,7 +341,7 @@ fn damaged(rng: &mut Rng, state: &Bridge) -> Bridge {
     let mut state = *state;
     let index = rng.below(4);
     let other = state.slots[(index + rng.within(1, 3)) % 4].ticket;
-    let tickets = state.tickets;
+    let issued = state.issued;
     let (byte, word, long) = (rng.byte(), rng.u16(), rng.u32());
     let choice = rng.below(13);
     if choice == 0 {
@@ -349,13 +349,13 @@ fn damaged(rng: &mut Rng, state: &Bridge) -> Bridge {
     } else if choice == 1 {
         state.last = rng.pick(&[4, 5, 255, byte]);
     } else if choice == 2 {
-        state.tickets = rng.pick(&[0, tickets.wrapping_sub(1), tickets / 2, long]);
+        state.issued = rng.pick(&[0, issued.wrapping_sub(1), issued / 2, long]);
     }
     let slot = &mut state.slots[index];
     match choice {
         3 => slot.phase = rng.pick(&[0, 1, 2, 3, 4, 5, 255]),
         4 => slot.kind = rng.pick(&[0, 1, 2, 255]),
-        5 => slot.ticket = rng.pick(&[0, other, tickets, tickets.wrapping_add(1), long]),
+        5 => slot.ticket = rng.pick(&[0, other, issued, issued.wrapping_add(1), long]),
         6 => slot.offset = rng.pick(&[2048, 2049 - slot.count.min(200) as u16, 2048 - slot.count as u16, word]),
         7 => slot.device = rng.pick(&[15, 16, 255, byte]),
         8 => slot.table = rng.pick(&[31, 32, 255, byte]),

@@ -9,23 +9,23 @@ pub const PART: usize = 128;
 
 /// The fresh bridge: the search starts at slot 0, so slot 3 counts as last served.
 pub fn fresh(own: u8) -> Bridge {
-    Bridge { slots: [Slot::default(); 4], tickets: 0, own, last: 3 }
+    Bridge { slots: [Slot::default(); 4], issued: 0, own, last: 3 }
 }
 
 pub fn sound(bridge: &Bridge) -> bool {
     let held: Vec<&Slot> = bridge.slots.iter().filter(|slot| slot.phase != FREE).collect();
     bridge.own <= 15
         && bridge.last <= 3
-        && bridge.slots.iter().all(|slot| sound_slot(slot, bridge.tickets))
+        && bridge.slots.iter().all(|slot| sound_slot(slot, bridge.issued))
         && (0..held.len()).all(|i| (0..i).all(|j| held[i].ticket != held[j].ticket))
 }
 
-fn sound_slot(slot: &Slot, tickets: u32) -> bool {
+fn sound_slot(slot: &Slot, issued: u32) -> bool {
     if slot.phase == FREE {
         return *slot == Slot::default(); // numbers that a slot doesn't use are 0
     }
     let lawful = 1 <= slot.ticket
-        && slot.ticket <= tickets
+        && slot.ticket <= issued
         && slot.kind <= WRITE
         && opening(slot.device, slot.table, slot.offset, slot.count as usize).is_ok();
     let progress = if slot.phase == DONE {
@@ -83,9 +83,9 @@ fn open(
     judge_with(bridge, buffer)?;
     opening(device, table, offset, count)?;
     let lowest_free = bridge.slots.iter().position(|slot| slot.phase == FREE).ok_or(12)?;
-    let ticket = bridge.tickets.checked_add(1).ok_or(13)?;
+    let ticket = bridge.issued.checked_add(1).ok_or(13)?;
     let mut after = *bridge;
-    after.tickets = ticket;
+    after.issued = ticket;
     after.slots[lowest_free] =
         Slot { ticket, offset, phase: READY, kind, device, table, count: count as u8, progress: 0, sends: 0, left: 0 };
     Ok((after, lowest_free))
@@ -95,7 +95,7 @@ pub fn open_read(
     bridge: &Bridge, buffer: &[u8], device: u8, table: u8, offset: u16, count: usize,
 ) -> Result<(Bridge, u32), Number> {
     let (after, _) = open(bridge, buffer, READ, device, table, offset, count)?;
-    Ok((after, after.tickets))
+    Ok((after, after.issued))
 }
 
 /// A write's bytes are copied into its slot, and their number is the count.
@@ -105,7 +105,7 @@ pub fn open_write(
     let (after, slot) = open(bridge, buffer, WRITE, device, table, offset, bytes.len())?;
     let mut filled = buffer.to_vec();
     filled[slot * PART..slot * PART + bytes.len()].copy_from_slice(bytes);
-    Ok((after, filled, after.tickets))
+    Ok((after, filled, after.issued))
 }
 
 /// Eight bytes a frame, the last shorter.

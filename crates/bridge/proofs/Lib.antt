@@ -1,3 +1,9 @@
-pub mod CodeFrames
-pub mod CodeCalls
-pub mod CodeSlots
+pub mod FourSlots
+pub mod Searches
+pub mod MovedSlots
+pub mod SentFrames
+pub mod Openings
+pub mod Turns
+pub mod Replies
+pub mod Spans
+pub mod Closings

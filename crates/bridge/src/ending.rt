@@ -1,11 +1,11 @@
 // Closing and reset.
 use crate::Bridge;
 use crate::Changed;
+use crate::search::held_slot;
+use crate::soundness::sound;
 use crate::state::blank;
-use crate::state::holder;
-use crate::state::sound;
+use crate::state::fresh;
 ghost use mathlib.Core.Path.{_≡_};
-ghost use Rattle.bridge_rules.specs.State.{fresh};
 ghost use Rattle.bridge_rules.specs.Ending.{closeNumber, closeOf, resetOf};
 ghost use Rattle.bridge_rules.specs.Demand3.{Demand3};
 ghost use Rattle.bridge_rules.specs.Corollaries.{Corollaries};
@@ -18,7 +18,7 @@ fn close_number(b: Bridge, ticket: u32) -> u8
     if !sound(b) {
         return 11;
     }
-    if holder(b, ticket) == 4 {
+    if held_slot(b, ticket) == 4 {
         return 14;
     }
     0
@@ -35,27 +35,13 @@ pub fn close(b: Bridge, ticket: u32) -> Changed
             number: n,
         };
     }
-    let k = holder(b, ticket);
+    let k = held_slot(b, ticket);
     let x = blank();
     let mut t = b;
     t.slots[k] = x;
     Changed {
         bridge: t,
         number: 0,
-    }
-}
-
-// The fresh bridge of an own number: its search starts at slot 0.
-fn fresh(own: u8) -> Bridge
-    ensures { λ r. ⌜ r ≡ fresh own ⌝ }
-{
-    let x = blank();
-    let slots = [x, x, x, x];
-    Bridge {
-        slots: slots,
-        tickets: 0,
-        own: own,
-        last: 3,
     }
 }
 

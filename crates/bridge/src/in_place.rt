@@ -1,5 +1,6 @@
 // The thin calls: turn, frame and close change the bridge in the caller's own storage.
 use crate::Bridge;
+use crate::Yielded;
 use crate::ending::close;
 use crate::incoming::frame;
 use crate::turning::turn;
@@ -10,7 +11,7 @@ ghost use Rattle.bridge_rules.specs.Incoming.{frameOf};
 ghost use Rattle.bridge_rules.specs.Ending.{closeOf};
 
 // A turn.
-pub fn turn_in_place(b: &mut Bridge, buffer: &[u8]) -> bus::Served
+pub fn turn_in_place(b: &mut Bridge, buffer: &[u8]) -> Yielded
     ensures { λ r. ⌜ (r ≡ steppedOf (turnOf (now (b .entry)) (now (buffer .entry))) .answer) × (now (b .exit) ≡ steppedOf (turnOf (now (b .entry)) (now (buffer .entry))) .bridge) ⌝ }
 {
     let old = *b;
@@ -20,7 +21,7 @@ pub fn turn_in_place(b: &mut Bridge, buffer: &[u8]) -> bus::Served
 }
 
 // An incoming frame.
-pub fn frame_in_place(b: &mut Bridge, buffer: &mut [u8], f: bus::Frame) -> bus::Served
+pub fn frame_in_place(b: &mut Bridge, buffer: &mut [u8], f: bus::Frame) -> Yielded
     ensures { λ r. ⌜ (r ≡ steppedOf (frameOf (now (b .entry)) (now (buffer .entry)) f) .answer) × ((now (b .exit) ≡ steppedOf (frameOf (now (b .entry)) (now (buffer .entry)) f) .bridge) × (now (buffer .exit) ≡ frameOf (now (b .entry)) (now (buffer .entry)) f .buffer)) ⌝ }
 {
     let old = *b;

@@ -3,36 +3,22 @@ use crate::Bridge;
 use crate::Slot;
 use crate::Stepped;
 use crate::WAITING;
-use crate::state::advance;
-use crate::state::chunk_len;
-use crate::state::lent_number;
-use crate::state::plain;
+use crate::answers::lent_number;
+use crate::answers::plain;
+use crate::progress::advanced;
+use crate::progress::chunk_len;
 use crate::state::with_slots;
 ghost use mathlib.Core.Path.{_≡_};
-ghost use mathlib.Core.Bool.{true, _&&_};
-ghost use Prim.Native.Nat.{_+_, _*_, _≤_, _<_};
+ghost use mathlib.Core.Bool.{true, not, _&&_};
+ghost use Prim.Native.Nat.{_+_, _*_, _<_};
 ghost use lib.Dec.{eqb};
-ghost use Rattle.bridge_rules.specs.State.{sound, isWaiting, orFour};
+ghost use Rattle.wire.specs.Order.{_if_else_, _orElse_};
+ghost use Rattle.bus_rules.specs.Ident.{partsOf};
+ghost use Rattle.bus_rules.specs.Frames.{rsp};
+ghost use Rattle.bridge_rules.specs.State.{sound, isWaiting, isNone, orFour};
 ghost use Rattle.bridge_rules.specs.Answers.{steppedOf};
 ghost use Rattle.bridge_rules.specs.Turn.{chunkLen};
 ghost use Rattle.bridge_rules.specs.Incoming.{contentNumber, awaiting, replyNumber, frameOf};
-
-// 1 to 5, by which a bridge of this own number judges a frame; else 0.
-fn content_number(own: u8, f: bus::Frame) -> u8
-    requires { ⌜ own ≤ 15 ⌝ }
-    ensures { λ r. ⌜ r ≡ contentNumber own f ⌝ }
-{
-    let head = bus::ident::read_head(own, f);
-    match head {
-        bus::Unpacked::Is(p) => {
-            if p.kind != bus::RSP {
-                return 5;
-            }
-            0
-        }
-        bus::Unpacked::Refused(n) => n,
-    }
-}
 
 // Whether slot k is a waiting read that awaits a frame of these parts and this length.
 fn awaits(x: Slot, k: usize, p: bus::Parts, len: u8) -> bool
@@ -46,15 +32,12 @@ fn awaits(x: Slot, k: usize, p: bus::Parts, len: u8) -> bool
         & (len == chunk_len(x.count, x.progress))
 }
 
-// The slot that awaits a frame, or 4. Slot k's part of the buffer begins at 128 k, so the reply's offset says which slot to ask.
-fn awaiting(b: Bridge, f: bus::Frame) -> usize
-    requires { ⌜ (sound b ≡ true) × (contentNumber (b .own) f ≡ 0) ⌝ }
+// The slot that awaits a frame of these parts, or 4. Slot k's part of the buffer begins at 128 k, so the reply's offset says which
+// slot to ask.
+fn awaiting(b: Bridge, f: bus::Frame, p: bus::Parts) -> usize
+    requires { ⌜ (sound b ≡ true) × (p ≡ partsOf (f .id)) ⌝ }
     ensures { λ r. ⌜ r ≡ orFour (awaiting b f) ⌝ }
 {
-    // The frame was judged, so it has parts.
-    let bus::Unpacked::Is(p) = bus::ident::read_head(b.own, f) else {
-        return 4;
-    };
     let k = (p.offset / 128) as usize;
     if 4 <= k {
         return 4;
@@ -73,6 +56,33 @@ struct Judged {
     slot: usize,
 }
 
+// 5 and 17, by which a frame of these parts is judged; else 0 and its slot.
+fn judge_parts(b: Bridge, f: bus::Frame, p: bus::Parts) -> Judged
+    requires { ⌜ (sound b ≡ true) × (p ≡ partsOf (f .id)) ⌝ }
+    ensures { λ r. ⌜ (r .number ≡ (5 if not (eqb (p .kind) rsp) else 17 if isNone (awaiting b f) else 0)) × (r .number ≡ 0 → r .slot ≡ orFour (awaiting b f)) ⌝ }
+{
+    if p.kind != bus::RSP {
+        return Judged { number: 5, slot: 4 };
+    }
+    let slot = awaiting(b, f, p);
+    if slot == 4 {
+        return Judged { number: 17, slot };
+    }
+    Judged { number: 0, slot }
+}
+
+// 1 to 5 and 17, by which a sound bridge judges a frame; else 0 and its slot.
+fn judge_content(b: Bridge, f: bus::Frame) -> Judged
+    requires { ⌜ sound b ≡ true ⌝ }
+    ensures { λ r. ⌜ (r .number ≡ (contentNumber (b .own) f orElse (17 if isNone (awaiting b f) else 0))) × (r .number ≡ 0 → r .slot ≡ orFour (awaiting b f)) ⌝ }
+{
+    let head = bus::ident::read_head(b.own, f);
+    match head {
+        bus::Unpacked::Is(p) => judge_parts(b, f, p),
+        bus::Unpacked::Refused(n) => Judged { number: n, slot: 4 },
+    }
+}
+
 // 11, 10, 1 to 5 and 17, by which an incoming frame is judged; else 0 and its slot.
 fn judge_reply(b: Bridge, n: usize, f: bus::Frame) -> Judged
     ensures { λ r. ⌜ (r .number ≡ replyNumber b n f) × (r .number ≡ 0 → r .slot ≡ orFour (awaiting b f)) ⌝ }
@@ -84,18 +94,7 @@ fn judge_reply(b: Bridge, n: usize, f: bus::Frame) -> Judged
             slot: 4,
         };
     }
-    let content = content_number(b.own, f);
-    if content != 0 {
-        return Judged {
-            number: content,
-            slot: 4,
-        };
-    }
-    let slot = awaiting(b, f);
-    if slot == 4 {
-        return Judged { number: 17, slot };
-    }
-    Judged { number: 0, slot }
+    judge_content(b, f)
 }
 
 // An incoming frame: 17 where no waiting read awaits it; else its bytes are stored, and the read goes on or is done.
@@ -111,7 +110,7 @@ pub fn frame(b: Bridge, buffer: &mut [u8], f: bus::Frame) -> Stepped
     let mut slots = b.slots;
     let x = slots[k];
     bus::frames::put_content(buffer, 128 * k + x.progress as usize, f);
-    let y = advance(x);
+    let y = advanced(x);
     slots[k] = y;
     plain(with_slots(b, slots), 0)
 }

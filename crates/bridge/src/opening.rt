@@ -5,9 +5,9 @@ use crate::READ;
 use crate::READY;
 use crate::Slot;
 use crate::WRITE;
-use crate::state::ask_number;
-use crate::state::lent_number;
-use crate::state::lowest_free;
+use crate::answers::lent_number;
+use crate::search::lowest_free;
+use crate::soundness::ask_number;
 ghost use mathlib.Core.Path.{_≡_};
 ghost use mathlib.Core.Bool.{false};
 ghost use lib.ListN.{length, set};
@@ -22,7 +22,7 @@ fn room_number(b: Bridge) -> u8
     if lowest_free(b) == 4 {
         return 12;
     }
-    if 4294967295 <= b.tickets {
+    if 4294967295 <= b.issued {
         return 13;
     }
     0
@@ -64,12 +64,12 @@ fn begun(ticket: u32, kind: u8, device: u8, table: u8, offset: u16, count: u8) -
 // The lowest free slot holds x, and its ticket is the last given.
 fn hold(b: Bridge, x: Slot) -> Opened
     requires { ⌜ isNone (lowestFree b) ≡ false ⌝ }
-    ensures { λ r. ⌜ r ≡ record { bridge = record { slots = set (b .slots) (orZero (lowestFree b)) x; tickets = x .ticket; own = b .own; last = b .last }; ticket = x .ticket; number = 0 } ⌝ }
+    ensures { λ r. ⌜ r ≡ record { bridge = record { slots = set (b .slots) (orZero (lowestFree b)) x; issued = x .ticket; own = b .own; last = b .last }; ticket = x .ticket; number = 0 } ⌝ }
 {
     let k = lowest_free(b);
     let mut t = b;
     t.slots[k] = x;
-    t.tickets = x.ticket;
+    t.issued = x.ticket;
     Opened {
         bridge: t,
         ticket: x.ticket,
@@ -96,7 +96,7 @@ pub fn open_read(
             number: n,
         };
     }
-    let x = begun(b.tickets + 1, READ, device, table, offset, count as u8);
+    let x = begun(b.issued + 1, READ, device, table, offset, count as u8);
     hold(b, x)
 }
 
@@ -121,7 +121,7 @@ pub fn open_write(
     }
     wire::put(buffer, 128 * lowest_free(b), bytes);
     let x = begun(
-        b.tickets + 1,
+        b.issued + 1,
         WRITE,
         device,
         table,

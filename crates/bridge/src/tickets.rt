@@ -4,9 +4,9 @@ use crate::DONE;
 use crate::GAVE_UP;
 use crate::Shown;
 use crate::Span;
+use crate::search::held_slot;
+use crate::soundness::sound;
 use crate::state::asks;
-use crate::state::holder;
-use crate::state::sound;
 ghost use mathlib.Core.Path.{_≡_};
 ghost use Prim.Native.Nat.{_+_, _<_, _≤_};
 ghost use lib.ListN.{length};
@@ -27,7 +27,7 @@ fn phase_number(phase: u8) -> u8
 fn ticket_number(b: Bridge, ticket: u32) -> u8
     ensures { λ r. ⌜ r ≡ ticketNumber b ticket ⌝ }
 {
-    let k = holder(b, ticket);
+    let k = held_slot(b, ticket);
     if k == 4 {
         return 14;
     }
@@ -69,13 +69,13 @@ fn slot_span(b: Bridge, k: usize) -> Span
         return Span {
             number: 0,
             start: 128 * k,
-            count: x.count as usize,
+            len: x.count as usize,
         };
     }
     Span {
         number: 0,
         start: 0,
-        count: 0,
+        len: 0,
     }
 }
 
@@ -88,27 +88,27 @@ fn span_of(b: Bridge, n: usize, ticket: u32) -> Span
         return Span {
             number: number,
             start: 0,
-            count: 0,
+            len: 0,
         };
     }
-    let k = holder(b, ticket);
+    let k = held_slot(b, ticket);
     slot_span(b, k)
 }
 
 // Where a done read's bytes lie in the buffer, with the number of the bytes call; an empty span otherwise.
 pub fn span(b: Bridge, buffer: &[u8], ticket: u32) -> Span
-    ensures { λ r. ⌜ (r ≡ spanOf b (length (now (buffer .entry))) ticket) × (r .start + r .count ≤ length (now (buffer .entry))) ⌝ }
+    ensures { λ r. ⌜ (r ≡ spanOf b (length (now (buffer .entry))) ticket) × (r .start + r .len ≤ length (now (buffer .entry))) ⌝ }
 {
     span_of(b, buffer.len(), ticket)
 }
 
 // The part of the buffer that a span says.
 fn part<'a>(buffer: &'a [u8], s: Span) -> &'a [u8]
-    requires { ⌜ s .start + s .count ≤ length (now buffer) ⌝ }
+    requires { ⌜ s .start + s .len ≤ length (now buffer) ⌝ }
     ensures { λ r. ⌜ now r ≡ partOf (now (buffer .entry)) s ⌝ }
 {
     let start = s.start;
-    let end = start + s.count;
+    let end = start + s.len;
     &buffer[start..end]
 }
 

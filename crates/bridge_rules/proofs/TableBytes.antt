@@ -22,20 +22,23 @@ use Rattle.bridge_rules.specs.Replies.{Sent, Replied}
 use Rattle.bridge_rules.specs.Device.{Arrives, Timeline, range, Own, NotAfter, Meanwhile, Arrivals, Unwritten, Premises}
 use Rattle.bridge_rules.specs.Demand3.{brought, showing}
 use Rattle.bridge_rules.specs.Corollaries.{SinceTaken}
-use Rattle.bridge_rules.proofs.ReadWrite.{read-of}
+use Rattle.bridge_rules.proofs.KindTests.{read-of}
 use Rattle.bus_rules.proofs.IdentLaws.{offset-of-id, kind-of-id, table-of-id}
 use Rattle.bus_rules.proofs.Ranges.{range-part, range-whole, range-short}
 use Rattle.bus_rules.proofs.Replies.{command-unanswered, request-answered, answerer-own, answerer-unchanged, request-read}
 use Rattle.bridge_rules.proofs.FrameLaws.{len-eight, len-inside, id-of, content-of, read-is}
 use Rattle.bridge_rules.proofs.FrameLaws.{write-is}
-use Rattle.bridge_rules.proofs.Sound.{ReadyOk, Same, aged-same}
-use Rattle.bridge_rules.proofs.Storages.{storage-sound, own-is}
-use Rattle.bridge_rules.proofs.Runs.{view, Held, held, openedAt}
+use Rattle.bridge_rules.proofs.SlotOk.{ReadyOk}
+use Rattle.bridge_rules.proofs.SlotChanges.{Same, aged-same}
+use Rattle.bridge_rules.proofs.SoundRuns.{storage-sound}
+use Rattle.bridge_rules.proofs.LedgerAgrees.{own-is}
+use Rattle.bridge_rules.proofs.Standing.{slotAt, Held, held, openedAt}
 use Rattle.bridge_rules.proofs.Status.{done-is}
-use Rattle.bridge_rules.proofs.Sends.{sends-request, MatchesOk, matches-ok, same-place, chunk-small}
-use Rattle.bridge_rules.proofs.Past.{Past, Got}
+use Rattle.bridge_rules.proofs.SentRequests.{sends-request, same-place, chunk-small}
+use Rattle.bridge_rules.proofs.Matching.{MatchesOk, matches-ok}
+use Rattle.bridge_rules.proofs.AskedSoFar.{AskedSoFar, Got}
 use Rattle.bridge_rules.proofs.ShownBytes.{join-all, shown-part, shown-done, all-got}
-use Rattle.bridge_rules.proofs.Slots.{same-slot, Sender, sender}
+use Rattle.bridge_rules.proofs.SlotHolders.{same-slot, Sender, sender}
 
 from-small : (id : ℕ) → idFrom id ≤ 15
 unfolding idFrom
@@ -46,12 +49,12 @@ record Answered (d : Device) (own k : ℕ) (y : Slot) (g : Frame) : Type 0 where
   offset : idOffset (g .id) ≡ 128 * k + y .progress
   bytes : content g ≡ rangeOf d (y .table) (y .offset + y .progress) (chunkLen (y .count) (y .progress))
 
-answered : (d : Device) (own k t : ℕ) (y : Slot) (b : List ℕ) (g : Frame) → k < 4 → own ≤ 15 → ReadyOk t y
+answered : (d : Device) (own k : ℕ) (y : Slot) (b : List ℕ) (g : Frame) → k < 4 → own ≤ 15 → ReadyOk y
     → asks (y .kind) ≡ true → serveOf d (sentFrame own k y b) ≡ answerWith g → Answered d own k y g
-answered d own k t y b g kb o r u e = record {
+answered d own k y b g kb o r u e = record {
   offset = ap (λ (f : Frame). idOffset (f .id)) gq ∙ ap idOffset (id-of _ _)
       ∙ offset-of-id (requestAt q 0 .offset) rsp (ownOf d) (idFrom (q .id)) (requestAt q 0 .table)
-      (omega (arith, fields .1, r .mid .below, r .common .few)) (omega arith) (omega (arith, answerer-own d q g eq))
+      (omega (arith, fields .1, r .partway .below, r .held .args .few)) (omega arith) (omega (arith, answerer-own d q g eq))
       (omega (arith, from-small (q .id))) (omega (arith, fields .0)) ∙ fields .1;
   bytes = ap content gq ∙ content-of _ _ short
       ∙ ap (rangeOf d (tableOf q) (idOffset (q .id))) (fields .2)
@@ -70,21 +73,21 @@ answered d own k t y b g kb o r u e = record {
     eq = ap (serveOf d) (sym (read-is own k y b u)) ∙ e
 
     low : y .offset + y .progress < 2048
-    low = omega (arith, r .mid .below, r .common .inside)
+    low = omega (arith, r .partway .below, r .held .args .inside)
 
     own< : own < 16
     own< = omega arith
 
     device< : y .device < 16
-    device< = omega (arith, r .common .device)
+    device< = omega (arith, r .held .args .device)
 
     table< : y .table < 32
-    table< = omega (arith, r .common .table)
+    table< = omega (arith, r .held .args .table)
 
     fields : (requestAt q 0 .table ≡ 6) × (requestAt q 0 .offset ≡ 128 * k + y .progress)
         × (requestAt q 0 .count ≡ chunkLen (y .count) (y .progress))
-    fields = request-read id (128 * k + y .progress) (chunkLen (y .count) (y .progress)) (16 * k + r .mid .chunk)
-        (len-eight (y .count) (y .progress)) (omega (arith, r .mid .at))
+    fields = request-read id (128 * k + y .progress) (chunkLen (y .count) (y .progress)) (16 * k + r .partway .chunk)
+        (len-eight (y .count) (y .progress)) (omega (arith, r .partway .at))
 
     kind : idKind (q .id) ≡ req
     kind = ap idKind (id-of _ _)
@@ -130,7 +133,7 @@ module _ (r : Run) (w : Lawful r) (x : Transfer r) (n : ℕ) (t : Timeline) (pre
     bytes : brought (r .calls m) ≡ take (lenOf r x c) (drop (8 * c) (range r x (t .device (t .answered m))))
 
   answers : (c m : ℕ) → m < n → Replied r x c m → Answers c m
-  answers c m l p = kinds (k .common .told)
+  answers c m l p = kinds (k .held .kind)
     where
       sm : (8 * c < askCount (x .ask)) × (c < 16)
       sm = chunk-small r w x c (p .awaits .sent .chunk)
@@ -153,7 +156,7 @@ module _ (r : Run) (w : Lawful r) (x : Transfer r) (n : ℕ) (t : Timeline) (pre
       h : Held r y j
       h = held r w y j (sd .stands)
 
-      k : ReadyOk (state r j .tickets) (aged (view r y j))
+      k : ReadyOk (aged (slotAt r y j))
       k = sd .ready
 
       d : Device
@@ -165,19 +168,19 @@ module _ (r : Run) (w : Lawful r) (x : Transfer r) (n : ℕ) (t : Timeline) (pre
       ownS : state r j .own ≤ 15
       ownS = storage-sound r w j .0 .own
 
-      sv : serveOf d (sentFrame (state r j .own) (slotOf r y) (aged (view r y j)) (buffer r j)) ≡ answerWith (ow .reply)
+      sv : serveOf d (sentFrame (state r j .own) (slotOf r y) (aged (slotAt r y j)) (buffer r j)) ≡ answerWith (ow .reply)
       sv = ap₂ serveOf same-device (sym (sd .is)) ∙ ow .gives
 
-      sa : Same (view r y j) (aged (view r y j))
-      sa = aged-same (view r y j)
+      sa : Same (slotAt r y j) (aged (slotAt r y j))
+      sa = aged-same (slotAt r y j)
 
-      kinds : (carries (aged (view r y j) .kind) ≡ true) ⊎ (asks (aged (view r y j) .kind) ≡ true)
+      kinds : (carries (aged (slotAt r y j) .kind) ≡ true) ⊎ (asks (aged (slotAt r y j) .kind) ≡ true)
           → Answers c m
-      kinds (inl u) = absurd (command-unanswered d (sentFrame (state r j .own) (slotOf r y) (aged (view r y j)) (buffer r j)) (ow .reply)
-          sv (ap (λ (f : Frame). idKind (f .id)) (write-is (state r j .own) (slotOf r y) (aged (view r y j)) (buffer r j) u)
+      kinds (inl u) = absurd (command-unanswered d (sentFrame (state r j .own) (slotOf r y) (aged (slotAt r y j)) (buffer r j)) (ow .reply)
+          sv (ap (λ (f : Frame). idKind (f .id)) (write-is (state r j .own) (slotOf r y) (aged (slotAt r y j)) (buffer r j) u)
           ∙ ap idKind (id-of _ _)
-          ∙ kind-of-id _ cmd _ _ _ (omega (arith, k .mid .below, k .common .inside)) (omega arith) (omega (arith, ownS))
-          (omega (arith, k .common .device)) (omega (arith, k .common .table))))
+          ∙ kind-of-id _ cmd _ _ _ (omega (arith, k .partway .below, k .held .args .inside)) (omega arith) (omega (arith, ownS))
+          (omega (arith, k .held .args .device)) (omega (arith, k .held .args .table))))
       kinds (inr u) = record {
         sent = record {
           stands = (omega (arith, at, sd .stands .0), λ i a b. p .awaits .stands .1 i a (omega (arith, ow .earlier)));
@@ -185,51 +188,51 @@ module _ (r : Run) (w : Lawful r) (x : Transfer r) (n : ℕ) (t : Timeline) (pre
           chunk = p .awaits .sent .chunk;
           turned = ow .turned;
           yields = ow .yields
-              ∙ ap some (sd .is ∙ ap (λ (i : ℕ). sentFrame (state r j .own) i (aged (view r y j)) (buffer r j)) (sp .0)
-              ∙ sends-request r w x c j (aged (view r y j)) u progress (sa .device ∙ h .device ∙ ap askDevice ask) tab off cnt);
+              ∙ ap some (sd .is ∙ ap (λ (i : ℕ). sentFrame (state r j .own) i (aged (slotAt r y j)) (buffer r j)) (sp .0)
+              ∙ sends-request r w x c j (aged (slotAt r y j)) u progress (sa .device ∙ h .device ∙ ap askDevice ask) tab off cnt);
         };
         bytes = ap brought (fo .1 .is) ∙ ow .sameBytes ∙ an .bytes ∙ same-range;
       }
         where
-          an : Answered d (state r j .own) (slotOf r y) (aged (view r y j)) (ow .reply)
-          an = answered d (state r j .own) (slotOf r y) (state r j .tickets) (aged (view r y j)) (buffer r j) (ow .reply)
+          an : Answered d (state r j .own) (slotOf r y) (aged (slotAt r y j)) (ow .reply)
+          an = answered d (state r j .own) (slotOf r y) (aged (slotAt r y j)) (buffer r j) (ow .reply)
               (openedAt r w y .bound) ownS k u sv
 
-          sent : Sent r y (k .mid .chunk) j
+          sent : Sent r y (k .partway .chunk) j
           sent = record {
             stands = sd .stands;
             isRead = read-of (y .ask) (sa .kind ∙ h .kind) u;
-            chunk = omega (arith, k .mid .at, k .mid .below, sa .count, h .count);
+            chunk = omega (arith, k .partway .at, k .partway .below, sa .count, h .count);
             turned = ow .turned;
-            yields = ow .yields ∙ ap some (sd .is ∙ sends-request r w y (k .mid .chunk) j (aged (view r y j)) u (k .mid .at)
+            yields = ow .yields ∙ ap some (sd .is ∙ sends-request r w y (k .partway .chunk) j (aged (slotAt r y j)) u (k .partway .at)
                 (sa .device ∙ h .device) (sa .table ∙ h .table) (sa .offset ∙ h .offset) (sa .count ∙ h .count));
           }
 
-          sp : (slotOf r y ≡ slotOf r x) × (k .mid .chunk ≡ c)
-          sp = same-place (slotOf r y) (aged (view r y j) .progress) (k .mid .chunk) (slotOf r x) c (k .mid .at)
-              (omega (arith, k .mid .at, k .mid .below, k .common .few)) (sm .1)
+          sp : (slotOf r y ≡ slotOf r x) × (k .partway .chunk ≡ c)
+          sp = same-place (slotOf r y) (aged (slotAt r y j) .progress) (k .partway .chunk) (slotOf r x) c (k .partway .at)
+              (omega (arith, k .partway .at, k .partway .below, k .held .args .few)) (sm .1)
               (ap (λ (b : ℕ). b / 8) (sym (an .offset) ∙ ap idOffset (sym (ow .sameId)) ∙ fo .1 .place))
 
-          progress : aged (view r y j) .progress ≡ 8 * c
-          progress = k .mid .at ∙ ap (λ (b : ℕ). 8 * b) (sp .1)
+          progress : aged (slotAt r y j) .progress ≡ 8 * c
+          progress = k .partway .at ∙ ap (λ (b : ℕ). 8 * b) (sp .1)
 
           at : x .at ≡ y .at
-          at = same-slot r w x y m (p .awaits .stands) (pre .current m (fo .0) (arrives c m l p) y (k .mid .chunk) sent) (sym (sp .0))
+          at = same-slot r w x y m (p .awaits .stands) (pre .current m (fo .0) (arrives c m l p) y (k .partway .chunk) sent) (sym (sp .0))
 
           ask : y .ask ≡ x .ask
           ask = let z : opening (y .lent) (y .ask) ≡ opening (x .lent) (x .ask) = sym (y .call) ∙ ap (r .calls) (sym at) ∙ x .call in cc
 
-          cnt : aged (view r y j) .count ≡ askCount (x .ask)
+          cnt : aged (slotAt r y j) .count ≡ askCount (x .ask)
           cnt = sa .count ∙ h .count ∙ ap askCount ask
 
-          tab : aged (view r y j) .table ≡ askTable (x .ask)
+          tab : aged (slotAt r y j) .table ≡ askTable (x .ask)
           tab = sa .table ∙ h .table ∙ ap askTable ask
 
-          off : aged (view r y j) .offset ≡ askOffset (x .ask)
+          off : aged (slotAt r y j) .offset ≡ askOffset (x .ask)
           off = sa .offset ∙ h .offset ∙ ap askOffset ask
 
-          same-range : rangeOf d (aged (view r y j) .table) (aged (view r y j) .offset + aged (view r y j) .progress)
-              (chunkLen (aged (view r y j) .count) (aged (view r y j) .progress))
+          same-range : rangeOf d (aged (slotAt r y j) .table) (aged (slotAt r y j) .offset + aged (slotAt r y j) .progress)
+              (chunkLen (aged (slotAt r y j) .count) (aged (slotAt r y j) .progress))
               ≡ take (lenOf r x c) (drop (8 * c) (range r x (t .device (t .answered m))))
           same-range = rw (tab, off, progress, cnt) (sym (range-chunk r x (t .device (t .answered m)) c (sm .0)))
 
@@ -237,12 +240,12 @@ module _ (r : Run) (w : Lawful r) (x : Transfer r) (n : ℕ) (t : Timeline) (pre
   -- read took
   pub table-shown : (During : ℕ → Type 0) → Unwritten r x t During
       → ((c m : ℕ) → m < n → Replied r x c m → t .answered m ≤ t .when m → During (t .answered m))
-      → Stands r x n → Past r x n → Done r x n → (τ : ℕ) → During τ → shownAt r x n ≡ showing (range r x (t .device τ))
+      → Stands r x n → AskedSoFar r x n → Done r x n → (τ : ℕ) → During τ → shownAt r x n ≡ showing (range r x (t .device τ))
   table-shown During un covers s p e τ mw =
       shown-done r w x n s p e ∙ ap showing (shown-part r w x n s p dn g same
       ∙ join-all g (askCount (x .ask)) (range r x (t .device τ)) (λ c q. refl) ∙ whole-range r x (t .device τ))
     where
-      dn : view r x n .phase ≡ done
+      dn : slotAt r x n .phase ≡ done
       dn = done-is r w x n s .0 e
 
       g : ℕ → List ℕ
@@ -262,19 +265,19 @@ module _ (r : Run) (w : Lawful r) (x : Transfer r) (n : ℕ) (t : Timeline) (pre
   taken-meanwhile τ₀ first c m l p u =
       record { since = omega (arith, first c m l p); c = c; m = m; before = l; last = p; until = omega arith }
 
-  pub table-meanwhile : (τ₀ : ℕ) → Premises r x n t τ₀ → Stands r x n → Past r x n → Done r x n → (τ : ℕ) → Meanwhile r x n t τ₀ τ
+  pub table-meanwhile : (τ₀ : ℕ) → Premises r x n t τ₀ → Stands r x n → AskedSoFar r x n → Done r x n → (τ : ℕ) → Meanwhile r x n t τ₀ τ
       → shownAt r x n ≡ showing (range r x (t .device τ))
   table-meanwhile τ₀ h = table-shown (Meanwhile r x n t τ₀) (h .unwritten) (taken-meanwhile τ₀ (h .first))
 
   -- there is such a moment: the answer to the first request
-  pub some-moment : (τ₀ : ℕ) → NotAfter r x n t τ₀ → Stands r x n → Past r x n → Done r x n → (τ : ℕ) × Meanwhile r x n t τ₀ τ
+  pub some-moment : (τ₀ : ℕ) → NotAfter r x n t τ₀ → Stands r x n → AskedSoFar r x n → Done r x n → (τ : ℕ) × Meanwhile r x n t τ₀ τ
   some-moment τ₀ first s p e =
       let g : Got r x 0 n = all-got r w x n s p (done-is r w x n s .0 e) 0 (openedAt r w x .law .some) in
       let o : Own r t (g .m) _ = pre .own (g .m) _ (arrives 0 (g .m) (g .before) (g .replied)) in
       (t .answered (g .m), taken-meanwhile τ₀ first 0 (g .m) (g .before) (g .replied) (o .untilArrived))
 
   -- from the first answer that was taken on
-  pub table-since : Unwritten r x t (SinceTaken r x n t) → Stands r x n → Past r x n → Done r x n → (τ : ℕ) → SinceTaken r x n t τ
+  pub table-since : Unwritten r x t (SinceTaken r x n t) → Stands r x n → AskedSoFar r x n → Done r x n → (τ : ℕ) → SinceTaken r x n t τ
       → shownAt r x n ≡ showing (range r x (t .device τ))
   table-since un = table-shown (SinceTaken r x n t) un (λ c m l p u. record {
     c = c;

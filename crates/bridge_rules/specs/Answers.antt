@@ -6,13 +6,13 @@ use mathlib.Core.Option.{Option, none, some}
 use mathlib.Core.Bool.{cond, not}
 use lib.Dec.{eqb}
 use Rattle.wire.specs.Order.{_if_else_}
-use Rattle.bus_rules.specs.Holder.{noAnswer}
+use Rattle.bus_rules.specs.Frames.{noFrame}
 use Rattle.bus_rules.specs.declared.Frame.{Frame}
 use Rattle.bridge_rules.specs.declared.Bridge.{Bridge}
 pub use Rattle.bridge_rules.specs.declared.Changed.{Changed}
 pub use Rattle.bridge_rules.specs.declared.Opened.{Opened}
 pub use Rattle.bridge_rules.specs.declared.Stepped.{Stepped}
-pub use Rattle.bus_rules.specs.declared.Served.{Served}
+pub use Rattle.bridge_rules.specs.declared.Yielded.{Yielded}
 use Rattle.bridge_rules.specs.State.{sound}
 
 pub record Answer : Type 0 where
@@ -48,10 +48,10 @@ unfoldable pub openedOf : Result → Opened
 openedOf r = record { bridge = r .state; ticket = r .answer .ticket; number = r .answer .number }
 
 -- a number with a turn's frame; without one, all numbers of the frame are 0
-abbrev pub servedOf : ℕ → Option Frame → Served
-servedOf n none = noAnswer n
-servedOf n (some f) = record { number = n; answers = 1; frame = f }
+abbrev pub yieldedOf : ℕ → Option Frame → Yielded
+yieldedOf n none = record { number = n; frames = 0; frame = noFrame }
+yieldedOf n (some f) = record { number = n; frames = 1; frame = f }
 
 -- a turn's or a frame's state and answer
 unfoldable pub steppedOf : Result → Stepped
-steppedOf r = record { bridge = r .state; answer = servedOf (r .answer .number) (r .answer .sent) }
+steppedOf r = record { bridge = r .state; answer = yieldedOf (r .answer .number) (r .answer .sent) }

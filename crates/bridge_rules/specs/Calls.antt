@@ -100,7 +100,7 @@ OpeningNumber s b a =
     (First (¬ ((1 ≤ askCount a) × (askCount a ≤ 128))) 9
     (First (2048 < askOffset a + askCount a) 8
     (First ((k : ℕ) → k < 4 → slot s k .phase ≢ free) 12
-    (First (4294967295 ≤ s .tickets) 13
+    (First (4294967295 ≤ s .issued) 13
     Zero))))))
 
 abbrev pub OpeningNumbers : Type 0
@@ -116,7 +116,7 @@ pub record Acceptable (s : Bridge) (b : List ℕ) (a : Ask) : Type 0 where
   pub few : askCount a ≤ 128
   pub inside : askOffset a + askCount a ≤ 2048
   pub room : (k : ℕ) × (k < 4) × (slot s k .phase ≡ free)
-  pub ticket : s .tickets < 4294967295
+  pub ticket : s .issued < 4294967295
 
 abbrev pub OpensExactly : Type 0
 OpensExactly = (s : Bridge) (b : List ℕ) (a : Ask) → (step s b (opening itsOwn a) .answer .number ≡ 0) ↔ Acceptable s b a
@@ -131,7 +131,7 @@ OpeningInRun r n l a =
     (First (¬ ((1 ≤ askCount a) × (askCount a ≤ 128))) 9
     (First (2048 < askOffset a + askCount a) 8
     (First ((k : ℕ) → k < 4 → (x : Transfer r) × Stands r x n × (slotOf r x ≡ k)) 12
-    (First (4294967295 ≤ ledger r n .lastTicket) 13
+    (First (4294967295 ≤ ledger r n .issued) 13
     Zero)))))
 
 -- of a frame: 17 where it is no read's reply
@@ -149,7 +149,7 @@ FrameInRun r n l f =
 -- of call n, whichever it is; status, and the bytes call with the bridge's buffer, are told by demand 3
 pub record NumbersInRun (r : Run) (n : ℕ) : Type 0 where
   pub opens : (l : Lent) (a : Ask) → r .calls n ≡ opening l a → (m : ℕ) → (answer r n .number ≡ m) ↔ OpeningInRun r n l a m
-  pub tickets : (l : Lent) (a : Ask) → r .calls n ≡ opening l a → answer r n .number ≡ 0 → answer r n .ticket ≡ suc (ledger r n .lastTicket)
+  pub tickets : (l : Lent) (a : Ask) → r .calls n ≡ opening l a → answer r n .number ≡ 0 → answer r n .ticket ≡ suc (ledger r n .issued)
   pub turns : (l : Lent) → r .calls n ≡ turn l → (m : ℕ) → (answer r n .number ≡ m) ↔ First (l ≢ itsOwn) 10 Zero m
   pub frames : (l : Lent) (f : Frame) → r .calls n ≡ frame l f → (m : ℕ) → (answer r n .number ≡ m) ↔ FrameInRun r n l f m
   -- a frame answered 0 is a read's reply

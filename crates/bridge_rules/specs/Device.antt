@@ -5,7 +5,6 @@ use mathlib.Core.Option.{some}
 use mathlib.Core.Bool.{true}
 use Rattle.bus_rules.specs.Ident.{idFrom}
 use Rattle.bus_rules.specs.Frames.{content}
-use Rattle.bus_rules.specs.Request.{request}
 use mathlib.Core.Path.{_≡_}
 use Rattle.bus_rules.specs.Device.{Device, SameTables, rangeOf}
 use Rattle.bus_rules.specs.Holder.{serveOf, deviceAfter, answerWith}

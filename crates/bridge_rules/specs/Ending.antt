@@ -7,9 +7,9 @@ use mathlib.Core.Bool.{cond, not}
 use lib.ListN.{length, take, drop, set}
 use lib.Dec.{ltb, eqb}
 use Rattle.wire.specs.Order.{_if_else_}
+use Rattle.wire.specs.declared.Span.{Span}
 use Rattle.bridge_rules.specs.declared.Bridge.{Bridge}
 use Rattle.bridge_rules.specs.declared.Changed.{Changed}
-pub use Rattle.bridge_rules.specs.declared.Span.{Span}
 use Rattle.bridge_rules.specs.State.{done, gaveUp, asks, blank, slot, fresh, withSlots, sound, heldSlot, isNone, orZero}
 use Rattle.bridge_rules.specs.Answers.{Answer, changedBy}
 
@@ -29,18 +29,18 @@ unfoldable pub bytesNumber : Bridge → ℕ → ℕ → ℕ
 bytesNumber s n t = 11 if not (sound s) else 10 if not (eqb n 512) else ticketNumber s t
 
 abbrev pub noSpan : ℕ → Span
-noSpan n = record { number = n; start = 0; count = 0 }
+noSpan n = record { number = n; start = 0; len = 0 }
 
 -- where a done transfer's bytes lie: in its slot's part of the buffer for a read, nowhere for a write
 unfoldable pub slotSpan : Bridge → ℕ → Span
-slotSpan s k = cond (asks (slot s k .kind)) (record { number = 0; start = 128 * k; count = slot s k .count }) (noSpan 0)
+slotSpan s k = cond (asks (slot s k .kind)) (record { number = 0; start = 128 * k; len = slot s k .count }) (noSpan 0)
 
 -- of a ticket, with a buffer of length n
 unfoldable pub spanOf : Bridge → ℕ → ℕ → Span
 spanOf s n t = cond (eqb (bytesNumber s n t) 0) (slotSpan s (orZero (heldSlot s t))) (noSpan (bytesNumber s n t))
 
 abbrev pub partOf : List ℕ → Span → List ℕ
-partOf b p = take (p .count) (drop (p .start) b)
+partOf b p = take (p .len) (drop (p .start) b)
 
 -- hands back that part of the buffer for a done read, an empty part otherwise
 unfoldable pub bytesOf : Bridge → List ℕ → ℕ → Answer

@@ -51,7 +51,7 @@ askGiven (write d t o bs) = bs
 
 -- 12 / 13: no free slot / tickets used up
 unfoldable pub roomNumber : Bridge → ℕ
-roomNumber s = 12 if isNone (lowestFree s) else 13 if leb 4294967295 (s .tickets) else 0
+roomNumber s = 12 if isNone (lowestFree s) else 13 if leb 4294967295 (s .issued) else 0
 
 -- Order: 11, 10, 7, 9, 8, 12, 13
 unfoldable pub openNumber : Bridge → ℕ → Ask → ℕ
@@ -80,8 +80,8 @@ withGiven b k given = sets b (128 * k) given
 -- it takes the lowest free slot and the next ticket, from 1 to 4,294,967,295
 unfoldable pub openOf : Bridge → List ℕ → Ask → Result
 openOf s b a = unless (openNumber s (length b) a) (record {
-  answer = record { number = 0; ticket = suc (s .tickets); sent = none; shown = [] };
-  state = record { slots = set (s .slots) k (opened a (suc (s .tickets))); tickets = suc (s .tickets); own = s .own; last = s .last };
+  answer = record { number = 0; ticket = suc (s .issued); sent = none; shown = [] };
+  state = record { slots = set (s .slots) k (opened a (suc (s .issued))); issued = suc (s .issued); own = s .own; last = s .last };
   buffer = withGiven b k (askGiven a);
 }) s b
   where

@@ -76,11 +76,11 @@ pub record Lawful (r : Run) : Type 0 where
 -- the own number, the last ticket given, and the ticket of each slot (0: free)
 pub record Ledger : Type 0 where
   pub own : ℕ
-  pub lastTicket : ℕ
+  pub issued : ℕ
   pub tickets : List ℕ
 
 abbrev pub newLedger : ℕ → Ledger
-newLedger own = record { own = own; lastTicket = 0; tickets = replicate 4 0 }
+newLedger own = record { own = own; issued = 0; tickets = replicate 4 0 }
 
 -- a slot that an opening may take
 abbrev pub givableEntry : ℕ → Bool
@@ -94,12 +94,12 @@ firstGivable (t ∷ ts) = cond (givableEntry t) 0 (suc (firstGivable ts))
 -- a call answered 0, and its answer: an opening takes the lowest free slot, a closing frees its slot, a reset all
 abbrev pub noted : Ledger → Answer → Call → Ledger
 noted g y (opening l a) =
-    record { own = g .own; lastTicket = y .ticket; tickets = set (g .tickets) (firstGivable (g .tickets)) (y .ticket) }
+    record { own = g .own; issued = y .ticket; tickets = set (g .tickets) (firstGivable (g .tickets)) (y .ticket) }
 noted g y (turn l) = g
 noted g y (frame l f) = g
 noted g y (status u) = g
 noted g y (bytes l u) = g
-noted g y (close u) = record { own = g .own; lastTicket = g .lastTicket; tickets = map (λ v. cond (eqb v u) 0 v) (g .tickets) }
+noted g y (close u) = record { own = g .own; issued = g .issued; tickets = map (λ v. cond (eqb v u) 0 v) (g .tickets) }
 noted g y (reset o) = newLedger o
 
 -- after the first n calls

@@ -62,10 +62,10 @@ slot s k = getD (s .slots) k blank
 
 -- the FRESH bridge of an own number. Its search starts at slot 0, so slot 3 counts as last served
 unfoldable pub fresh : ℕ → Bridge
-fresh own = record { slots = replicate 4 blank; tickets = 0; own = own; last = 3 }
+fresh own = record { slots = replicate 4 blank; issued = 0; own = own; last = 3 }
 
 abbrev pub withSlots : Bridge → List Slot → Bridge
-withSlots s xs = record { slots = xs; tickets = s .tickets; own = s .own; last = s .last }
+withSlots s xs = record { slots = xs; issued = s .issued; own = s .own; last = s .last }
 
 -- a slot moved on: what may change, and the rest kept
 abbrev pub moved : Slot → (phase progress sends left : ℕ) → Slot
@@ -115,17 +115,17 @@ soundPhase phase kind count progress sends left =
 
 -- each held slot has a ticket from 1 to the last given, and lawful opening arguments; numbers that a slot doesn't use are 0
 unfoldable pub soundSlot : ℕ → Slot → Bool
-soundSlot tickets x =
+soundSlot issued x =
     cond (isFree (x .phase))
     (isZero (x .kind) && isZero (x .ticket) && isZero (x .device) && isZero (x .table) && isZero (x .offset)
     && isZero (x .count) && isZero (x .progress) && isZero (x .sends) && isZero (x .left))
-    ((asks (x .kind) || carries (x .kind)) && ltb 0 (x .ticket) && leb (x .ticket) tickets
+    ((asks (x .kind) || carries (x .kind)) && ltb 0 (x .ticket) && leb (x .ticket) issued
     && isZero (askNumber (x .device) (x .table) (x .offset) (x .count))
     && soundPhase (x .phase) (x .kind) (x .count) (x .progress) (x .sends) (x .left))
 
 unfoldable pub soundSlots : ℕ → List Slot → Bool
-soundSlots tickets [] = true
-soundSlots tickets (x ∷ xs) = soundSlot tickets x && soundSlots tickets xs
+soundSlots issued [] = true
+soundSlots issued (x ∷ xs) = soundSlot issued x && soundSlots issued xs
 
 -- each held slot has a different ticket: none of these slots has this one (0: a free slot's)
 unfoldable pub absent : ℕ → List Slot → Bool
@@ -139,8 +139,8 @@ distinct (x ∷ xs) = absent (x .ticket) xs && distinct xs
 -- own number 0..15, last served 0..3 (and, as the declared types have it: tickets to 4,294,967,295, four slots)
 unfoldable pub sound : Bridge → Bool
 sound s =
-    leb (s .own) 15 && leb (s .last) 3 && leb (s .tickets) 4294967295 && eqb (length (s .slots)) 4
-    && soundSlots (s .tickets) (s .slots) && distinct (s .slots)
+    leb (s .own) 15 && leb (s .last) 3 && leb (s .issued) 4294967295 && eqb (length (s .slots)) 4
+    && soundSlots (s .issued) (s .slots) && distinct (s .slots)
 
 -- ── Searches ───────────────────────────────────────────────────────────────────────────────────────────────────────
 

@@ -63,7 +63,7 @@ unfoldable pub sendFor : Bridge → List ℕ → Option ℕ → Result
 sendFor s b none = record { answer = plain 0; state = s; buffer = b }
 sendFor s b (some k) = record {
   answer = record { number = 0; ticket = 0; sent = some (sentFrame (s .own) k (slot s k) b); shown = [] };
-  state = record { slots = set (s .slots) k (sentSlot (slot s k)); tickets = s .tickets; own = s .own; last = k };
+  state = record { slots = set (s .slots) k (sentSlot (slot s k)); issued = s .issued; own = s .own; last = k };
   buffer = b;
 }
 

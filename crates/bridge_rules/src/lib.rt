@@ -34,7 +34,7 @@ pub struct Slot {
 #[repr(C)]
 pub struct Bridge {
     pub slots: [Slot; 4],
-    pub tickets: u32,
+    pub issued: u32,
     pub own: u8,
     pub last: u8,
 }
@@ -47,11 +47,19 @@ pub struct Opened {
     pub number: u8,
 }
 
-// What a turn or an incoming frame hands back: the answer is a number and a turn's frame.
+// What a turn or an incoming frame answers: a number, how many frames it yields (0 or 1), and the frame, all 0 where there is none.
+#[repr(C)]
+pub struct Yielded {
+    pub number: u8,
+    pub frames: u8,
+    pub frame: bus_rules::Frame,
+}
+
+// What a turn or an incoming frame hands back.
 #[repr(C)]
 pub struct Stepped {
     pub bridge: Bridge,
-    pub answer: bus_rules::Served,
+    pub answer: Yielded,
 }
 
 // What a closing or a reset hands back.
@@ -59,12 +67,4 @@ pub struct Stepped {
 pub struct Changed {
     pub bridge: Bridge,
     pub number: u8,
-}
-
-// A number, and where a done read's bytes lie in the buffer.
-#[repr(C)]
-pub struct Span {
-    pub number: u8,
-    pub start: usize,
-    pub count: usize,
 }

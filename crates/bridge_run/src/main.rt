@@ -2,6 +2,7 @@
 use bridge::Bridge;
 use bridge::Opened;
 use bridge::Slot;
+use bridge::Yielded;
 use bridge::ending::close;
 use bridge::ending::reset;
 use bridge::incoming::frame;
@@ -11,7 +12,6 @@ use bridge::tickets::span;
 use bridge::tickets::status;
 use bridge::turning::turn;
 use bus::Frame;
-use bus::Served;
 use libc::STDOUT_FILENO;
 
 fn text(s: &[u8]) {
@@ -49,9 +49,9 @@ fn bytes(s: &[u8], start: usize, n: usize) {
 }
 
 // A turn's answer: its number alone, or its frame.
-fn sent(a: Served) {
+fn sent(a: Yielded) {
     let f = a.frame;
-    if a.answers == 0 {
+    if a.frames == 0 {
         line(b"none", a.number as u64);
         return;
     }
@@ -79,7 +79,7 @@ fn unmade() -> Bridge {
     let slots = [x, x, x, x];
     Bridge {
         slots: slots,
-        tickets: 0,
+        issued: 0,
         own: 200,
         last: 9,
     }
@@ -187,7 +187,7 @@ fn shown(w: World, ticket: u32) {
     let p = span(w.bridge, &buffer, ticket);
     text(b"bytes ");
     number(p.number as u64);
-    bytes(&buffer, p.start, p.count);
+    bytes(&buffer, p.start, p.len);
     text(b"\n");
 }
 

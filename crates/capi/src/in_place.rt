@@ -1,5 +1,6 @@
 // The thin calls: turn, frame and close change the bridge in the caller's own storage.
 use bridge::Bridge;
+use bridge::Yielded;
 ghost use mathlib.Core.Path.{_≡_};
 ghost use Rattle.bridge_rules.specs.Answers.{steppedOf};
 ghost use Rattle.bridge_rules.specs.Turn.{turnOf};
@@ -7,18 +8,14 @@ ghost use Rattle.bridge_rules.specs.Incoming.{frameOf};
 ghost use Rattle.bridge_rules.specs.Ending.{closeOf};
 
 #[no_mangle]
-pub extern "C" fn hg_turn_in_place(b: &mut Bridge, buffer: &[u8]) -> bus::Served
+pub extern "C" fn hg_turn_in_place(b: &mut Bridge, buffer: &[u8]) -> Yielded
     ensures { λ r. ⌜ (r ≡ steppedOf (turnOf (now (b .entry)) (now (buffer .entry))) .answer) × (now (b .exit) ≡ steppedOf (turnOf (now (b .entry)) (now (buffer .entry))) .bridge) ⌝ }
 {
     bridge::in_place::turn_in_place(b, buffer)
 }
 
 #[no_mangle]
-pub extern "C" fn hg_frame_in_place(
-    b: &mut Bridge,
-    buffer: &mut [u8],
-    frame: bus::Frame,
-) -> bus::Served
+pub extern "C" fn hg_frame_in_place(b: &mut Bridge, buffer: &mut [u8], frame: bus::Frame) -> Yielded
     ensures { λ r. ⌜ (r ≡ steppedOf (frameOf (now (b .entry)) (now (buffer .entry)) frame) .answer) × ((now (b .exit) ≡ steppedOf (frameOf (now (b .entry)) (now (buffer .entry)) frame) .bridge) × (now (buffer .exit) ≡ frameOf (now (b .entry)) (now (buffer .entry)) frame .buffer)) ⌝ }
 {
     bridge::in_place::frame_in_place(b, buffer, frame)

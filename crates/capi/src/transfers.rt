@@ -64,7 +64,7 @@ pub extern "C" fn hg_status(b: Bridge, ticket: u32) -> u8
 
 #[no_mangle]
 pub extern "C" fn hg_span_of(b: Bridge, buffer: &[u8], ticket: u32) -> Span
-    ensures { λ r. ⌜ (r ≡ spanOf b (length (now (buffer .entry))) ticket) × (r .start + r .count ≤ length (now (buffer .entry))) ⌝ }
+    ensures { λ r. ⌜ (r ≡ spanOf b (length (now (buffer .entry))) ticket) × (r .start + r .len ≤ length (now (buffer .entry))) ⌝ }
 {
     bridge::tickets::span(b, buffer, ticket)
 }

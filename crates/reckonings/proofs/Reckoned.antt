@@ -5,7 +5,7 @@ use Rattle.wire.specs.Answer.{answer}
 use Rattle.wire.specs.Sign.{twos}
 use Rattle.bus_rules.specs.Ident.{packNumber, packOf, unpackNumber, unpackOf, partsOf}
 use Rattle.bus_rules.specs.Request.{readNumber, readRequestOf}
-use Rattle.bridge_rules.proofs.Openers.{everything}
+use Rattle.bridge_rules.proofs.Computing.{everything}
 use Rattle.mlg_rules.specs.Writing.{startBytes, dataBytes}
 use Rattle.mlg_rules.specs.Layout.{layoutOf}
 use Rattle.mlg_rules.specs.Types.{sizeOf}

@@ -1,5 +1,4 @@
 // The bridge.
-use crate::output::answer;
 use crate::output::identifier;
 use crate::output::labelled;
 use crate::output::line;
@@ -7,6 +6,7 @@ use crate::output::number;
 use crate::output::text;
 use bridge::Bridge;
 use bridge::Slot;
+use bridge::Yielded;
 use bridge::ending::reset;
 use bridge::incoming::frame;
 use bridge::opening::open_read;
@@ -32,7 +32,7 @@ fn fresh() -> Bridge {
     let slots = [x, x, x, x];
     let any = Bridge {
         slots: slots,
-        tickets: 0,
+        issued: 0,
         own: 0,
         last: 0,
     };
@@ -57,11 +57,21 @@ pub(crate) fn counts() {
     reading(&buffer, 0);
 }
 
+// A line's end with a turn's frame, or its number.
+fn yielded(a: Yielded) {
+    if a.frames == 0 {
+        number(a.number);
+        return;
+    }
+    let f = a.frame;
+    crate::output::frame(f);
+}
+
 fn turned(b: Bridge, buffer: &[u8]) -> Bridge {
     let s = turn(b, buffer);
     text(b"turn");
     let a = s.answer;
-    answer(a);
+    yielded(a);
     s.bridge
 }
 
@@ -97,7 +107,7 @@ fn waited(b: Bridge, buffer: &[u8], i: u64) -> Bridge {
     let before = status(b, 1);
     let s = turn(b, buffer);
     let a = s.answer;
-    if a.answers == 1 {
+    if a.frames == 1 {
         line(b"sends on turn ", i);
     }
     let after = status(s.bridge, 1);

@@ -13,6 +13,6 @@ judged refused zero place x = x
 judged refused (suc n) place x = refused (suc n) place
 
 -- a part's place and length, or a refusal: every other number in it is 0
-unfoldable pub spanOf : (number start len : ℕ) → Span
-spanOf zero start len = record { number = 0; start = start; len = len }
-spanOf (suc n) start len = record { number = suc n; start = 0; len = 0 }
+unfoldable pub spanWith : (number start len : ℕ) → Span
+spanWith zero start len = record { number = 0; start = start; len = len }
+spanWith (suc n) start len = record { number = suc n; start = 0; len = 0 }

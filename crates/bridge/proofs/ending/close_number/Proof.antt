@@ -1,9 +1,9 @@
 use borrow.Author.Needs.{needs}
 use Rattle.bridge.proofs.ending.close_number.Statement.{statement}
 use Rattle.bridge.proofs.ending.close_number.Tie as tie
-use Rattle.bridge_rules.specs.Ending.{closeNumber}
 use Rattle.wire.proofs.Orders.{order}
-use Rattle.bridge.proofs.CodeSlots.{holder-none, holder-some}
+use Rattle.bridge_rules.specs.Ending.{closeNumber}
+use Rattle.bridge.proofs.Searches.{held-none, held-some}
 
 sound-requires : tie.Need-sound-requires
 sound-requires c κs = search needs
@@ -12,16 +12,22 @@ returns : tie.Need-returns
 unfolding closeNumber
 returns c = rw (← c .before .sound .ensures) (search order depth 12)
 
-holder-requires : tie.Need-holder-requires
-holder-requires c κs = search needs
+held-slot-requires : tie.Need-held-slot-requires
+held-slot-requires c κs = search needs
 
 returns-2 : tie.Need-returns-2
 unfolding closeNumber
-returns-2 c = rw (← c .before .before .before .sound .ensures, holder-none (c .before .before .before .before .args .b) (c .before .before .before .before .args .ticket) _ (c .before .holder .ensures) (c .if2 .taken)) (search order depth 12)
+returns-2 c =
+    let s = c .before .before .before in
+    let none = held-none (s .before .args .b) (s .before .args .ticket) _ (c .before .held-slot .ensures) (c .if2 .taken) in
+    rw (← s .sound .ensures, none) (search order depth 12)
 
 returns-3 : tie.Need-returns-3
 unfolding closeNumber
-returns-3 c = rw (← c .before .before .before .sound .ensures, holder-some (c .before .before .before .before .args .b) (c .before .before .before .before .args .ticket) _ (c .before .holder .ensures) (c .if2 .left) .0) (search order depth 12)
+returns-3 c =
+    let s = c .before .before .before in
+    let some = held-some (s .before .args .b) (s .before .args .ticket) _ (c .before .held-slot .ensures) (c .if2 .left) in
+    rw (← s .sound .ensures, some .0) (search order depth 12)
 
 pub close-number-spec : {M : Type 1} → statement M
-close-number-spec = tie.close (tie.spec sound-requires returns holder-requires returns-2 returns-3)
+close-number-spec = tie.close (tie.spec sound-requires returns held-slot-requires returns-2 returns-3)

@@ -47,8 +47,8 @@ use Rattle.bridge_rules.proofs.Bridge.Laws as T′
 use Rattle.bus_rules.specs.declared.Frame.{Frame}
 use Rattle.bus_rules.proofs.Frame as F
 use Rattle.bus_rules.proofs.Frame.Laws as F′
-use Rattle.bus_rules.proofs.Served as S
-use Rattle.bus_rules.proofs.Served.Laws as S′
+use Rattle.bridge_rules.proofs.Yielded as S
+use Rattle.bridge_rules.proofs.Yielded.Laws as S′
 use Rattle.bridge_rules.specs.Answers.{steppedOf}
 use Rattle.bridge_rules.specs.Incoming.{frameOf}
 use Rattle.bridge_rules.specs.declared.Stepped.{Stepped}

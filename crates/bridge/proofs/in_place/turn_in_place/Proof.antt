@@ -53,8 +53,8 @@ use Rattle.bridge.proofs.turning.turn as turn
 use Rattle.bridge.proofs.turning.turn.Symbol as turn-def
 use Rattle.bridge.proofs.turning.turn.Symbol.{name as #bridge·turning·turn}
 use Rattle.bridge.proofs.turning.turn.Met as turn-thm
-use Rattle.bus_rules.proofs.Served as S
-use Rattle.bus_rules.proofs.Served.Laws as S′
+use Rattle.bridge_rules.proofs.Yielded as S
+use Rattle.bridge_rules.proofs.Yielded.Laws as S′
 use Rattle.bridge.proofs.in_place.turn_in_place.Key.{name as #bridge·in-place·turn-in-place}
 use Rattle.bridge.proofs.in_place.turn_in_place as in-place
 use Rattle.bridge.proofs.in_place.turn_in_place.Statement as stated

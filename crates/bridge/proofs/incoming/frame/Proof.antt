@@ -1,13 +1,16 @@
 use borrow.Author.Needs.{needs}
 use Rattle.bridge.proofs.incoming.frame.Statement.{statement}
 use Rattle.bridge.proofs.incoming.frame.Tie as tie
-use Prim.Native.Nat.{_<_}
+use Prim.Native.Nat.{ℕ, _<_}
 use mathlib.Core.Path.{_≡_, sym, _∙_}
+use mathlib.Core.List.{List}
 use native.Mathlib.Omega.{arith}
 use lib.ListN.{length}
+use Rattle.bus_rules.specs.declared.Frame.{Frame}
+use Rattle.bridge_rules.specs.declared.Bridge.{Bridge}
 use Rattle.bridge_rules.specs.State.{slot, orFour}
 use Rattle.bridge_rules.specs.Incoming.{replyNumber, awaiting}
-use Rattle.bridge.proofs.CodeFrames.{frame-refused, reply-at, frame-is}
+use Rattle.bridge.proofs.Replies.{frame-refused, reply-at, frame-is}
 
 judge-reply-requires : tie.Need-judge-reply-requires
 judge-reply-requires c κs = search needs
@@ -22,42 +25,51 @@ returns c =
     (c .plain .ensures ∙ g .0, g .1)
 
 -- a frame that is not refused, and its slot
-module _ (c : tie.After-slots) where
-  judged : replyNumber (c .before .before .before .before .args .b) (length (c .before .before .before .before .args .buffer .now)) (c .before .before .before .before .args .f) ≡ 0
-  judged = sym (c .before .before .judge-reply .ensures .0) ∙ c .before .if1 .left
+module _ (c : tie.Else1) where
+  abbrev held : Bridge
+  held = c .before .before .before .args .b
 
-  awaited : c .before .before .judge-reply .result .slot ≡ orFour (awaiting (c .before .before .before .before .args .b) (c .before .before .before .before .args .f))
-  awaited = c .before .before .judge-reply .ensures .1 (c .before .if1 .left)
+  abbrev lent : List ℕ
+  lent = c .before .before .before .args .buffer .now
 
-  four : c .before .before .judge-reply .result .slot < 4
-  four = let a = c .before .before .before .before .args in reply-at (a .b) (a .buffer .now) (a .f) judged _ awaited .1
+  abbrev taken : Frame
+  taken = c .before .before .before .args .f
+
+  judged : replyNumber held (length lent) taken ≡ 0
+  judged = sym (c .before .judge-reply .ensures .0) ∙ c .if1 .left
+
+  awaited : c .before .judge-reply .result .slot ≡ orFour (awaiting held taken)
+  awaited = c .before .judge-reply .ensures .1 (c .if1 .left)
+
+  bounded : c .before .judge-reply .result .slot < 4
+  bounded = reply-at held lent taken judged _ awaited .1
 
 mul-x : tie.Need-mul-x
-mul-x c = omega (arith, four c)
+mul-x c = omega (arith, bounded (c .before))
 
 array-copy-out-x : tie.Need-array-copy-out-x
-array-copy-out-x c = omega (arith, four c)
+array-copy-out-x c = omega (arith, bounded (c .before))
 
 mul-put-content : tie.Need-mul-put-content
-mul-put-content c = omega (arith, four (c .before .before))
+mul-put-content c = omega (arith, bounded (c .before .before .before))
 
 cast-put-content : tie.Need-cast-put-content
 cast-put-content c = search needs
 
 add-put-content : tie.Need-add-put-content
-add-put-content c = omega (arith, four (c .before .before .before))
+add-put-content c = omega (arith, bounded (c .before .before .before .before))
 
 put-content-requires : tie.Need-put-content-requires
 put-content-requires c κs = search needs
 
-advance-requires : tie.Need-advance-requires
-advance-requires c κs = search needs
+advanced-requires : tie.Need-advanced-requires
+advanced-requires c κs = search needs
 
 mul-slots : tie.Need-mul-slots
-mul-slots c = omega (arith, four (c .before .before .before .before .before .before .before))
+mul-slots c = omega (arith, bounded (c .before .before .before .before .before .before .before .before))
 
 array-set-from-slots : tie.Need-array-set-from-slots
-array-set-from-slots c = omega (arith, four (c .before .before .before .before .before .before .before))
+array-set-from-slots c = omega (arith, bounded (c .before .before .before .before .before .before .before .before))
 
 with-slots-requires : tie.Need-with-slots-requires
 with-slots-requires c κs = search needs
@@ -71,10 +83,11 @@ same-length c = search needs
 returns-2 : tie.Need-returns-2
 unfolding slot
 returns-2 c =
-    let s = c .before .before .before .before .before .before .before .before .before in
-    let a = s .before .before .before .before .args in
-    let g = frame-is (a .b) (a .buffer .now) (a .f) (judged s) _ (awaited s) in
-    (c .plain2 .ensures ∙ rw (c .before .with-slots .ensures, c .before .before .advance .ensures) (g .0), c .before .before .before .before .before .put-content .ensures ∙ g .1)
+    let t = c .before .before .before .before .before .before .before .before .before .before in
+    let g = frame-is (held t) (lent t) (taken t) (judged t) _ (awaited t) in (
+      c .plain2 .ensures ∙ rw (c .before .with-slots .ensures, c .before .before .advanced .ensures) (g .0),
+      c .before .before .before .before .before .put-content .ensures ∙ g .1,
+    )
 
 pub frame-spec : {M : Type 1} → statement M
 frame-spec =
@@ -89,7 +102,7 @@ frame-spec =
     cast-put-content
     add-put-content
     put-content-requires
-    advance-requires
+    advanced-requires
     mul-slots
     array-set-from-slots
     with-slots-requires

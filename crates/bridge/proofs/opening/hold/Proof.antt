@@ -1,20 +1,28 @@
 use borrow.Author.Needs.{needs}
 use Rattle.bridge.proofs.opening.hold.Statement.{statement}
 use Rattle.bridge.proofs.opening.hold.Tie as tie
+use Prim.Native.Nat.{_<_}
+use mathlib.Core.Path.{_≡_}
 use native.Mathlib.Omega.{arith}
-use Rattle.bridge.proofs.CodeSlots.{free-from}
+use Rattle.bridge_rules.specs.State.{lowestFree, orZero}
+use Rattle.bridge.proofs.Searches.{free-from}
+
+-- the slot that is found
+free : (c : tie.After-lowest-free)
+    → (c .lowest-free .result ≡ orZero (lowestFree (c .before .args .b))) × (c .lowest-free .result < 4)
+free c = free-from (c .before .args .b) _ (c .lowest-free .ensures) (c .before .pre)
 
 lowest-free-requires : tie.Need-lowest-free-requires
 lowest-free-requires c κs = search needs
 
 mul-x : tie.Need-mul-x
-mul-x c = omega (arith, free-from (c .before .args .b) _ (c .lowest-free .ensures) (c .before .pre) .1)
+mul-x c = omega (arith, free c .1)
 
 element-set-from-x : tie.Need-element-set-from-x
-element-set-from-x c = omega (arith, free-from (c .before .args .b) _ (c .lowest-free .ensures) (c .before .pre) .1)
+element-set-from-x c = omega (arith, free c .1)
 
 returns : tie.Need-returns
-returns c = rw (← free-from (c .before .args .b) _ (c .lowest-free .ensures) (c .before .pre) .0)
+returns c = rw (← free c .0)
 
 pub hold-spec : {M : Type 1} → statement M
 hold-spec = tie.close (tie.spec lowest-free-requires mul-x element-set-from-x returns)

@@ -44,11 +44,11 @@ use Rattle.bridge_rules.specs.declared.Bridge.{Bridge}
 use Rattle.bridge_rules.proofs.Bridge as B
 use Rattle.bridge_rules.proofs.Bridge.Laws as B′
 use Rattle.bridge_rules.specs.Ending.{spanOf, partOf}
-use Rattle.bridge_rules.specs.declared.Span.{Span}
+use Rattle.wire.specs.declared.Span.{Span}
 use Rattle.bridge.specs.declared.Shown.{Shown}
-use Rattle.bridge.proofs.CodeCalls.{span-fits, bytes-of}
-use Rattle.bridge_rules.proofs.Span as S
-use Rattle.bridge_rules.proofs.Span.Laws as S′
+use Rattle.bridge.proofs.Spans.{span-fits, bytes-of}
+use Rattle.wire.proofs.Span as S
+use Rattle.wire.proofs.Span.Laws as S′
 use Rattle.bridge.proofs.Shown as T
 use Rattle.bridge.proofs.Shown.Laws as T′
 use Rattle.bridge.proofs.tickets.span_of as find

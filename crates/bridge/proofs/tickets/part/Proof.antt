@@ -16,7 +16,7 @@ part-result-end : tie.Need-part-result-end
 part-result-end c = search needs
 
 returns : tie.Need-returns
-returns c = part-is (c .before .before .args .buffer .now) (c .before .before .args .s .start) (c .before .before .args .s .count)
+returns c = part-is (c .before .before .args .buffer .now) (c .before .before .args .s .start) (c .before .before .args .s .len)
 
 pub part-spec : {M : Type 1} → statement M
 part-spec = tie.close (tie.spec add-end sub-result part-result-start part-result-end returns)

@@ -2,33 +2,41 @@ use Rattle.wire.specs.Order.{_if_else_}
 use borrow.Author.Needs.{needs}
 use Rattle.bridge.proofs.tickets.ticket_number.Statement.{statement}
 use Rattle.bridge.proofs.tickets.ticket_number.Tie as tie
-use mathlib.Core.Path.{_∙_}
-use Rattle.bridge_rules.specs.State.{slot}
-use Rattle.bridge_rules.specs.Ending.{ticketNumber}
+use Prim.Native.Nat.{_<_}
+use mathlib.Core.Path.{_≡_, _∙_}
+use mathlib.Core.Option.{some}
 use native.Mathlib.Omega.{arith}
-use Rattle.bridge.proofs.CodeSlots.{holder-none, holder-some}
+use Rattle.bridge_rules.specs.State.{slot, heldSlot}
+use Rattle.bridge_rules.specs.Ending.{ticketNumber}
+use Rattle.bridge.proofs.Searches.{held-none, held-some}
 
-holder-requires : tie.Need-holder-requires
-holder-requires c κs = search needs
+-- the slot that is found
+found : (c : tie.Else1)
+    → (heldSlot (c .before .before .args .b) (c .before .before .args .ticket) ≡ some (c .before .held-slot .result))
+    × (c .before .held-slot .result < 4)
+found c = held-some (c .before .before .args .b) (c .before .before .args .ticket) _ (c .before .held-slot .ensures) (c .if1 .left)
+
+held-slot-requires : tie.Need-held-slot-requires
+held-slot-requires c κs = search needs
 
 returns : tie.Need-returns
 unfolding ticketNumber _if_else_
-returns c = rw (holder-none (c .before .before .args .b) (c .before .before .args .ticket) _ (c .before .holder .ensures) (c .if1 .taken))
+returns c = let a = c .before .before .args in rw (held-none (a .b) (a .ticket) _ (c .before .held-slot .ensures) (c .if1 .taken))
 
 mul-x : tie.Need-mul-x
-mul-x c = omega (arith, holder-some (c .before .before .before .args .b) (c .before .before .before .args .ticket) _ (c .before .before .holder .ensures) (c .before .if1 .left) .1)
+mul-x c = omega (arith, found (c .before) .1)
 
 array-copy-out-x : tie.Need-array-copy-out-x
-array-copy-out-x c = omega (arith, holder-some (c .before .before .before .args .b) (c .before .before .before .args .ticket) _ (c .before .before .holder .ensures) (c .before .if1 .left) .1)
+array-copy-out-x c = omega (arith, found (c .before) .1)
 
 phase-number-requires : tie.Need-phase-number-requires
 phase-number-requires c κs = search needs
 
 returns-2 : tie.Need-returns-2
 unfolding ticketNumber slot _if_else_
-returns-2 c = c .phase-number .ensures ∙ rw (holder-some (c .before .before .before .before .before .args .b) (c .before .before .before .before .before .args .ticket) _ (c .before .before .before .before .holder .ensures) (c .before .before .before .if1 .left) .0)
+returns-2 c = c .phase-number .ensures ∙ rw (found (c .before .before .before) .0)
 
 pub ticket-number-spec : {M : Type 1} → statement M
 ticket-number-spec =
     tie.close
-    (tie.spec holder-requires returns mul-x array-copy-out-x phase-number-requires returns-2)
+    (tie.spec held-slot-requires returns mul-x array-copy-out-x phase-number-requires returns-2)

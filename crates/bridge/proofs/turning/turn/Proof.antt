@@ -1,10 +1,24 @@
 use borrow.Author.Needs.{needs}
 use Rattle.bridge.proofs.turning.turn.Statement.{statement}
 use Rattle.bridge.proofs.turning.turn.Tie as tie
-use mathlib.Core.Path.{sym, _∙_}
-use Rattle.bridge_rules.proofs.Refusals.{lent-ok}
-use Rattle.bridge.proofs.CodeSlots.{ready-none, ready-some}
-use Rattle.bridge.proofs.CodeFrames.{turn-refused, turn-idles, turn-sends, turn-sound, turn-ready}
+use Prim.Native.Nat.{_<_}
+use mathlib.Core.Path.{_≡_, sym, _∙_}
+use mathlib.Core.Option.{some}
+use lib.ListN.{length}
+use Rattle.bridge_rules.specs.State.{nextReady}
+use Rattle.bridge_rules.specs.Answers.{lentNumber}
+use Rattle.bridge_rules.proofs.NumberLaws.{lent-ok}
+use Rattle.bridge.proofs.Searches.{ready-none, ready-some}
+use Rattle.bridge.proofs.Turns.{turn-refused, turn-idles, turn-sends, turn-sound, turn-ready}
+
+-- a turn that is not refused
+accepted : (c : tie.Else1) → let a = c .before .before .before .args in lentNumber (a .b) (length (a .buffer .now)) ≡ 0
+accepted c = sym (c .before .lent-number .ensures) ∙ c .if1 .left
+
+-- the ready slot that is found
+found : (c : tie.Else2)
+    → (nextReady (c .before .before .aged-bridge .result) ≡ some (c .before .next-ready .result)) × (c .before .next-ready .result < 4)
+found c = ready-some (c .before .before .aged-bridge .result) _ (c .before .next-ready .ensures) (c .if2 .left)
 
 lent-number-requires : tie.Need-lent-number-requires
 lent-number-requires c κs = search needs
@@ -13,10 +27,13 @@ plain-requires : tie.Need-plain-requires
 plain-requires c κs = search needs
 
 returns : tie.Need-returns
-returns c = c .plain .ensures ∙ turn-refused (c .before .before .before .before .args .b) (c .before .before .before .before .args .buffer .now) _ (c .before .before .lent-number .ensures) (c .before .if1 .taken)
+returns c =
+    let n = c .before .before in
+    let a = n .before .before .args in
+    c .plain .ensures ∙ turn-refused (a .b) (a .buffer .now) _ (n .lent-number .ensures) (c .before .if1 .taken)
 
-age-all-requires : tie.Need-age-all-requires
-age-all-requires c κs = search needs
+aged-bridge-requires : tie.Need-aged-bridge-requires
+aged-bridge-requires c κs = search needs
 
 next-ready-requires : tie.Need-next-ready-requires
 next-ready-requires c κs = search needs
@@ -25,15 +42,28 @@ plain-requires-2 : tie.Need-plain-requires-2
 plain-requires-2 c κs = search needs
 
 returns-2 : tie.Need-returns-2
-returns-2 c = c .plain2 .ensures ∙ turn-idles (c .before .before .before .before .before .before .before .args .b) (c .before .before .before .before .before .before .before .args .buffer .now) (sym (c .before .before .before .before .before .lent-number .ensures) ∙ c .before .before .before .before .if1 .left) _ (c .before .before .before .age-all .ensures) (ready-none _ _ (c .before .before .next-ready .ensures) (c .before .if2 .taken))
+returns-2 c =
+    let g = c .before .before .before in
+    let a = g .before .before .before .before .args in
+    let none = ready-none _ _ (c .before .before .next-ready .ensures) (c .before .if2 .taken) in
+    c .plain2 .ensures ∙ turn-idles (a .b) (a .buffer .now) (accepted (g .before)) _ (g .aged-bridge .ensures) none
 
-send-requires : tie.Need-send-requires
-send-requires c κs = let r = ready-some (c .before .before .age-all .result) _ (c .before .next-ready .ensures) (c .if2 .left) in
-    let e = sym (c .before .before .before .before .lent-number .ensures) ∙ c .before .before .before .if1 .left in
-    (turn-sound (c .before .before .before .before .before .before .args .b) (c .before .before .before .before .before .before .args .buffer .now) e _ (c .before .before .age-all .ensures) _ (r .0), r .1, turn-ready (c .before .before .before .before .before .before .args .b) (c .before .before .before .before .before .before .args .buffer .now) e _ (c .before .before .age-all .ensures) _ (r .0), lent-ok (c .before .before .before .before .before .before .args .b) _ e .1)
+send-for-requires : tie.Need-send-for-requires
+send-for-requires c κs =
+    let g = c .before .before in
+    let a = g .before .before .before .before .args in
+    let e = accepted (g .before) in (
+      turn-sound (a .b) (a .buffer .now) e _ (g .aged-bridge .ensures) _ (found c .0),
+      found c .1,
+      turn-ready (a .b) (a .buffer .now) e _ (g .aged-bridge .ensures) _ (found c .0),
+      lent-ok (a .b) _ e .1,
+    )
 
 returns-3 : tie.Need-returns-3
-returns-3 c = c .send .ensures ∙ turn-sends (c .before .before .before .before .before .before .before .args .b) (c .before .before .before .before .before .before .before .args .buffer .now) (sym (c .before .before .before .before .before .lent-number .ensures) ∙ c .before .before .before .before .if1 .left) _ (c .before .before .before .age-all .ensures) _ (ready-some (c .before .before .before .age-all .result) _ (c .before .before .next-ready .ensures) (c .before .if2 .left) .0)
+returns-3 c =
+    let g = c .before .before .before in
+    let a = g .before .before .before .before .args in
+    c .send-for .ensures ∙ turn-sends (a .b) (a .buffer .now) (accepted (g .before)) _ (g .aged-bridge .ensures) _ (found (c .before) .0)
 
 pub turn-spec : {M : Type 1} → statement M
 turn-spec =
@@ -42,9 +72,9 @@ turn-spec =
     lent-number-requires
     plain-requires
     returns
-    age-all-requires
+    aged-bridge-requires
     next-ready-requires
     plain-requires-2
     returns-2
-    send-requires
+    send-for-requires
     returns-3)

@@ -33,8 +33,8 @@ use Rattle.bridge_rules.proofs.Bridge as T
 use Rattle.bus_rules.specs.declared.Frame.{Frame}
 use Rattle.bus_rules.proofs.Frame as F
 use Rattle.bus_rules.proofs.Frame.Laws as F′
-use Rattle.bus_rules.proofs.Served as S
-use Rattle.bus_rules.proofs.Served.Laws as S′
+use Rattle.bridge_rules.proofs.Yielded as S
+use Rattle.bridge_rules.proofs.Yielded.Laws as S′
 use Rattle.bridge.proofs.in_place.frame_in_place as callee
 use Rattle.bridge.proofs.in_place.frame_in_place.Symbol as callee-def
 use Rattle.bridge.proofs.in_place.frame_in_place.Symbol.{name as #callee}

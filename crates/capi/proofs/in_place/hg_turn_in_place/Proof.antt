@@ -29,8 +29,8 @@ use denote.Triple.Spec.{Meets, tripleOf}
 use denote.Triple.Table.{entered, cited}
 use Rattle.bridge_rules.specs.declared.Bridge.{Bridge}
 use Rattle.bridge_rules.proofs.Bridge as T
-use Rattle.bus_rules.proofs.Served as S
-use Rattle.bus_rules.proofs.Served.Laws as S′
+use Rattle.bridge_rules.proofs.Yielded as S
+use Rattle.bridge_rules.proofs.Yielded.Laws as S′
 use Rattle.bridge.proofs.in_place.turn_in_place as callee
 use Rattle.bridge.proofs.in_place.turn_in_place.Symbol as callee-def
 use Rattle.bridge.proofs.in_place.turn_in_place.Symbol.{name as #callee}
