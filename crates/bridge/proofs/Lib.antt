@@ -7,3 +7,4 @@ pub mod Turns
 pub mod Replies
 pub mod Spans
 pub mod Closings
+pub mod BridgeBorrows
