@@ -35,6 +35,7 @@ use denote.Triple.Entry.{onEntry}
 use denote.Triple.Statement.{Contract, Triple}
 use denote.Triple.Call.{calls-at}
 use denote.Triple.Spec.{tripleOf}
+use denote.Triple.Table.{cited}
 use denote.Triple.Walked.{says, Stays, stay-ref, stay-none, walkOf, AllGo, goes-ref, goes-none, Walks, ends-at, walked}
 use denote.Exit.{yes}
 use Rattle.bridge_rules.specs.declared.Bridge.{Bridge}
@@ -43,7 +44,8 @@ use Rattle.bridge_rules.specs.Ending.{closeOf}
 use Rattle.bridge_rules.specs.declared.Changed.{Changed}
 use Rattle.bridge_rules.proofs.Changed as U
 use Rattle.bridge_rules.proofs.Changed.Laws as U′
-use Rattle.bridge.proofs.BridgeBorrows.{mach, bridge-typed, observed, borrowed, owned-bridge, opens-bridge, closes-bridge, by-walk}
+use Rattle.bridge.proofs.WalkedFunctions.{by-walk}
+use Rattle.bridge.proofs.BridgeBorrows.{mach, bridge-typed, observed, borrowed, owned-bridge, opens-bridge, closes-bridge}
 use Rattle.bridge.proofs.ending.close as closing
 use Rattle.bridge.proofs.ending.close.Symbol as closing-def
 use Rattle.bridge.proofs.ending.close.Symbol.{name as #close}
@@ -60,6 +62,9 @@ stayed = (stay-ref (0 ∷ []) tt (plain (λ _. T.the-row)), (stay-none (λ _. u3
 module _ {M : Type 1} (𝓤 : URA M) (H : Heap 𝓤) (A : Atoms 𝓤) (mem : Memory → SProp 𝓤) (run : Routine → Fun 𝓤) where
   abbrev Closing : Contract 𝓤
   Closing = tripleOf 𝓤 H A closing.signature (closing.spec 𝓤 H A mem run)
+
+  abbrev Known : Calls 𝓤 H → Type 1
+  Known C = Triple 𝓤 (C #close) Closing
 
 module _ (r : Changed) {v : Val} (is : Is U.the-row r (v ∷ [])) where
   next : Is T.the-row (r .bridge) (mach (r .bridge) ∷ [])
@@ -117,7 +122,7 @@ module _ {M : Type 1} (𝓤 : URA M) (H : Heap 𝓤) (A : Atoms 𝓤) (W : Given
       owned ! u32 (Is u32) (uint-makes 𝓤 H A W w32) n _ (refl, n-fits) $ fjoin ! $ move ! (1 ∷ 0 ∷ []) $ fjoin ! $
       owned ! u8 (Is u8) (uint-makes 𝓤 H A W w8) (r .number) _ (refl, number-fits r is) $ move ! (1 ∷ 0 ∷ []) $ done !
 
-  module _ (C : Calls 𝓤 H) (Λ : Loops 𝓤 H) (fm : FmC 𝓤 H (W .laws) C) (known : Triple 𝓤 (C #close) (Closing 𝓤 H A mem run)) where
+  module _ (C : Calls 𝓤 H) (Λ : Loops 𝓤 H) (fm : FmC 𝓤 H (W .laws) C) (known : Known 𝓤 H A mem run C) where
     walk : ent 𝓤 (onEntry 𝓤 H A in-place.signature (κ, tt) (q, tt) a vals) (WpFn 𝓤 H C Λ code.function (vptr b o ∷ vint w32 n ∷ []) Post)
     walk =
         qed W ((‵ (flft κ q) ⊛ ‵ ftrue) ∷ ‵ (owns (MutRef (named 0) κ T.the-row ∷ u32 ∷ []) a vals) ∷ []) ∵
@@ -152,7 +157,7 @@ module _ {M : Type 1} (𝓤 : URA M) (H : Heap 𝓤) (A : Atoms 𝓤) (W : Given
         keep ! (0 ∷ 1 ∷ 2 ∷ []) $ by ! (exits r is e)))))))))))
 
 module _ {M : Type 1} (𝓤 : URA M) (H : Heap 𝓤) (A : Atoms 𝓤) (W : Given 𝓤 H A) (mem : Memory → SProp 𝓤) (run : Routine → Fun 𝓤) where
-  walks : (C : Calls 𝓤 H) (Λ : Loops 𝓤 H) → FmC 𝓤 H (W .laws) C → Triple 𝓤 (C #close) (Closing 𝓤 H A mem run)
+  walks : (C : Calls 𝓤 H) (Λ : Loops 𝓤 H) → FmC 𝓤 H (W .laws) C → Known 𝓤 H A mem run C
       → Walks 𝓤 H A in-place.ended stayed (WpFn 𝓤 H C Λ code.function) (in-place.clauses 𝓤 H A mem run)
   walks C Λ fm known =
       walked 𝓤 H A in-place.ended stayed (in-place.clauses 𝓤 H A mem run) (WpFn 𝓤 H C Λ code.function) (λ κs. (ptr-vals, (uint-vals w32, tt)))
@@ -169,6 +174,8 @@ pub close-in-place-spec : {M : Type 1} → stated.statement M
 unfolding code.routine
 close-in-place-spec 𝓤 H 𝓜 𝓖 𝓡 =
     let W = givenOf 𝓤 H 𝓜 𝓖 in
-    by-walk 𝓤 H 𝓜 𝓖 𝓡 (Closing 𝓤 H (𝓖 .A) (𝓜 .mem) (𝓡 .run)) in-place.ended (in-place.clauses 𝓤 H (𝓖 .A) (𝓜 .mem) (𝓡 .run)) stayed
-    code.env #close-in-place code.function (code.unfolded 𝓤 H 𝓜 𝓡) #close closing-def.routine code.calls-bridge·ending·close
-    (closing-thm.met 𝓤 H 𝓜 𝓖 𝓡) (goes-all 𝓤 H (𝓖 .A) W (𝓜 .mem) (𝓡 .run)) (walks 𝓤 H (𝓖 .A) W (𝓜 .mem) (𝓡 .run))
+    let callee = Closing 𝓤 H (𝓖 .A) (𝓜 .mem) (𝓡 .run) in
+    let met = cited 𝓤 H callee 𝓜 𝓡 code.env #close closing-def.routine code.calls-bridge·ending·close (closing-thm.met 𝓤 H 𝓜 𝓖 𝓡) in
+    by-walk 𝓤 H 𝓜 𝓖 𝓡 in-place.ended (in-place.clauses 𝓤 H (𝓖 .A) (𝓜 .mem) (𝓡 .run)) stayed
+    code.env #close-in-place code.function (code.unfolded 𝓤 H 𝓜 𝓡) (Known 𝓤 H (𝓖 .A) (𝓜 .mem) (𝓡 .run)) met
+    (goes-all 𝓤 H (𝓖 .A) W (𝓜 .mem) (𝓡 .run)) (walks 𝓤 H (𝓖 .A) W (𝓜 .mem) (𝓡 .run))

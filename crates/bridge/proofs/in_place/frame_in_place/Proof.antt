@@ -38,6 +38,7 @@ use denote.Triple.Entry.{onEntry}
 use denote.Triple.Statement.{Contract, Triple}
 use denote.Triple.Call.{calls-at}
 use denote.Triple.Spec.{tripleOf}
+use denote.Triple.Table.{cited}
 use denote.Triple.Walked.{says, Stays, stay-ref, gave-slice, stay-none, walkOf, AllGo, goes-ref, goes-gave-slice, goes-none}
 use denote.Triple.Walked.{Walks, ends-at, walked}
 use denote.Exit.{yes}
@@ -51,8 +52,9 @@ use Rattle.bridge_rules.specs.Incoming.{frameOf}
 use Rattle.bridge_rules.specs.declared.Stepped.{Stepped}
 use Rattle.bridge_rules.proofs.Stepped as U
 use Rattle.bridge_rules.proofs.Stepped.Laws as U′
+use Rattle.bridge.proofs.WalkedFunctions.{by-walk}
 use Rattle.bridge.proofs.BridgeBorrows.{mach, answered, next, handed, bridge-typed, stepped-typed, yielded-typed}
-use Rattle.bridge.proofs.BridgeBorrows.{observed, borrowed, owned-bridge, owned-answer, opens-bridge, closes-bridge, by-walk}
+use Rattle.bridge.proofs.BridgeBorrows.{observed, borrowed, owned-bridge, owned-answer, opens-bridge, closes-bridge}
 use Rattle.bridge.proofs.incoming.frame as taken
 use Rattle.bridge.proofs.incoming.frame.Symbol as taken-def
 use Rattle.bridge.proofs.incoming.frame.Symbol.{name as #frame}
@@ -72,6 +74,9 @@ stayed = (
 module _ {M : Type 1} (𝓤 : URA M) (H : Heap 𝓤) (A : Atoms 𝓤) (mem : Memory → SProp 𝓤) (run : Routine → Fun 𝓤) where
   abbrev Taken : Contract 𝓤
   Taken = tripleOf 𝓤 H A taken.signature (taken.spec 𝓤 H A mem run)
+
+  abbrev Known : Calls 𝓤 H → Type 1
+  Known C = Triple 𝓤 (C #frame) Taken
 
 module _ {M : Type 1} (𝓤 : URA M) (H : Heap 𝓤) (A : Atoms 𝓤) (W : Given 𝓤 H A) (mem : Memory → SProp 𝓤) (run : Routine → Fun 𝓤)
     (κ κ′ : Lft) (q q′ : Share) (b o : ℕ) (γ : GName) (h : Bridge) (b′ o′ : ℕ) (γ′ : GName) (ys : List ℕ) (f : Frame)
@@ -141,7 +146,7 @@ module _ {M : Type 1} (𝓤 : URA M) (H : Heap 𝓤) (A : Atoms 𝓤) (W : Given
       owned ! F.the-row (Is F.the-row) (LL.makes F.the-type F′.the-plain 𝓤 H A) f _ f-is $ fjoin ! $ move ! (2 ∷ 0 ∷ []) $ fjoin ! $
       move ! (1 ∷ 0 ∷ []) $ fjoin ! $ owned-answer ! (r .answer) (handed r is) $ move ! (1 ∷ 0 ∷ []) $ done !
 
-  module _ (C : Calls 𝓤 H) (Λ : Loops 𝓤 H) (fm : FmC 𝓤 H (W .laws) C) (known : Triple 𝓤 (C #frame) (Taken 𝓤 H A mem run)) where
+  module _ (C : Calls 𝓤 H) (Λ : Loops 𝓤 H) (fm : FmC 𝓤 H (W .laws) C) (known : Known 𝓤 H A mem run C) where
     abbrev held : Item 𝓤
     held = ‵ (owns (MutRef (named 0) κ T.the-row ∷ MutSlice (named 1) κ′ u8 ∷ F.the-row ∷ []) a vals)
 
@@ -194,7 +199,7 @@ module _ {M : Type 1} (𝓤 : URA M) (H : Heap 𝓤) (A : Atoms 𝓤) (W : Given
         keep ! (0 ∷ 1 ∷ 2 ∷ 4 ∷ 5 ∷ []) $ by ! (exits r is (zs .1 .0) e l))))))))))))))))
 
 module _ {M : Type 1} (𝓤 : URA M) (H : Heap 𝓤) (A : Atoms 𝓤) (W : Given 𝓤 H A) (mem : Memory → SProp 𝓤) (run : Routine → Fun 𝓤) where
-  walks : (C : Calls 𝓤 H) (Λ : Loops 𝓤 H) → FmC 𝓤 H (W .laws) C → Triple 𝓤 (C #frame) (Taken 𝓤 H A mem run)
+  walks : (C : Calls 𝓤 H) (Λ : Loops 𝓤 H) → FmC 𝓤 H (W .laws) C → Known 𝓤 H A mem run C
       → Walks 𝓤 H A in-place.ended stayed (WpFn 𝓤 H C Λ code.function) (in-place.clauses 𝓤 H A mem run)
   walks C Λ fm known =
       walked 𝓤 H A in-place.ended stayed (in-place.clauses 𝓤 H A mem run) (WpFn 𝓤 H C Λ code.function)
@@ -217,6 +222,8 @@ pub frame-in-place-spec : {M : Type 1} → stated.statement M
 unfolding code.routine
 frame-in-place-spec 𝓤 H 𝓜 𝓖 𝓡 =
     let W = givenOf 𝓤 H 𝓜 𝓖 in
-    by-walk 𝓤 H 𝓜 𝓖 𝓡 (Taken 𝓤 H (𝓖 .A) (𝓜 .mem) (𝓡 .run)) in-place.ended (in-place.clauses 𝓤 H (𝓖 .A) (𝓜 .mem) (𝓡 .run)) stayed
-    code.env #frame-in-place code.function (code.unfolded 𝓤 H 𝓜 𝓡) #frame taken-def.routine code.calls-bridge·incoming·frame
-    (taken-thm.met 𝓤 H 𝓜 𝓖 𝓡) (goes-all 𝓤 H (𝓖 .A) W (𝓜 .mem) (𝓡 .run)) (walks 𝓤 H (𝓖 .A) W (𝓜 .mem) (𝓡 .run))
+    let callee = Taken 𝓤 H (𝓖 .A) (𝓜 .mem) (𝓡 .run) in
+    let met = cited 𝓤 H callee 𝓜 𝓡 code.env #frame taken-def.routine code.calls-bridge·incoming·frame (taken-thm.met 𝓤 H 𝓜 𝓖 𝓡) in
+    by-walk 𝓤 H 𝓜 𝓖 𝓡 in-place.ended (in-place.clauses 𝓤 H (𝓖 .A) (𝓜 .mem) (𝓡 .run)) stayed
+    code.env #frame-in-place code.function (code.unfolded 𝓤 H 𝓜 𝓡) (Known 𝓤 H (𝓖 .A) (𝓜 .mem) (𝓡 .run)) met
+    (goes-all 𝓤 H (𝓖 .A) W (𝓜 .mem) (𝓡 .run)) (walks 𝓤 H (𝓖 .A) W (𝓜 .mem) (𝓡 .run))

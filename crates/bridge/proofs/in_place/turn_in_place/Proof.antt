@@ -38,6 +38,7 @@ use denote.Triple.Entry.{onEntry}
 use denote.Triple.Statement.{Contract, Triple}
 use denote.Triple.Call.{calls-at}
 use denote.Triple.Spec.{tripleOf}
+use denote.Triple.Table.{cited}
 use denote.Triple.Walked.{says, Stays, stay-ref, stay-none-slice, walkOf, AllGo, goes-ref, goes-none-slice, Walks, ends-at, walked}
 use denote.Exit.{yes}
 use Rattle.bridge_rules.specs.declared.Bridge.{Bridge}
@@ -47,8 +48,9 @@ use Rattle.bridge_rules.specs.Turn.{turnOf}
 use Rattle.bridge_rules.specs.declared.Stepped.{Stepped}
 use Rattle.bridge_rules.proofs.Stepped as U
 use Rattle.bridge_rules.proofs.Stepped.Laws as U′
+use Rattle.bridge.proofs.WalkedFunctions.{by-walk}
 use Rattle.bridge.proofs.BridgeBorrows.{mach, answered, next, handed, bridge-typed, stepped-typed, yielded-typed}
-use Rattle.bridge.proofs.BridgeBorrows.{observed, borrowed, owned-bridge, owned-answer, opens-bridge, closes-bridge, by-walk}
+use Rattle.bridge.proofs.BridgeBorrows.{observed, borrowed, owned-bridge, owned-answer, opens-bridge, closes-bridge}
 use Rattle.bridge.proofs.turning.turn as turn
 use Rattle.bridge.proofs.turning.turn.Symbol as turn-def
 use Rattle.bridge.proofs.turning.turn.Symbol.{name as #turn}
@@ -65,6 +67,9 @@ stayed = (stay-ref (0 ∷ []) tt (plain (λ _. T.the-row)), (stay-none-slice (1 
 module _ {M : Type 1} (𝓤 : URA M) (H : Heap 𝓤) (A : Atoms 𝓤) (mem : Memory → SProp 𝓤) (run : Routine → Fun 𝓤) where
   abbrev Turn : Contract 𝓤
   Turn = tripleOf 𝓤 H A turn.signature (turn.spec 𝓤 H A mem run)
+
+  abbrev Known : Calls 𝓤 H → Type 1
+  Known C = Triple 𝓤 (C #turn) Turn
 
 module _ {M : Type 1} (𝓤 : URA M) (H : Heap 𝓤) (A : Atoms 𝓤) (W : Given 𝓤 H A) (mem : Memory → SProp 𝓤) (run : Routine → Fun 𝓤)
     (κ κ′ : Lft) (q q′ : Share) (b o : ℕ) (γ : GName) (h : Bridge) (s : RefT (List ℕ)) where
@@ -132,7 +137,7 @@ module _ {M : Type 1} (𝓤 : URA M) (H : Heap 𝓤) (A : Atoms 𝓤) (W : Given
       feqI ! (List Val) (vptr b o ∷ []) (vptr b o ∷ []) refl $ fjoin3 ! $ nothing ! $ move ! (2 ∷ 0 ∷ []) $ fjoin ! $
       move ! (1 ∷ 0 ∷ []) $ fjoin ! $ owned-answer ! (r .answer) (handed r is) $ move ! (1 ∷ 0 ∷ []) $ done !
 
-  module _ (C : Calls 𝓤 H) (Λ : Loops 𝓤 H) (fm : FmC 𝓤 H (W .laws) C) (known : Triple 𝓤 (C #turn) (Turn 𝓤 H A mem run)) where
+  module _ (C : Calls 𝓤 H) (Λ : Loops 𝓤 H) (fm : FmC 𝓤 H (W .laws) C) (known : Known 𝓤 H A mem run C) where
     walk : Is (ShrSlice (named 1) κ′ u8) s (sv ∷ [])
         → ent 𝓤 (onEntry 𝓤 H A in-place.signature κs (q, (q′, tt)) a vals) (WpFn 𝓤 H C Λ code.function (vptr b o ∷ sv ∷ []) Post)
     walk sis =
@@ -169,7 +174,7 @@ module _ {M : Type 1} (𝓤 : URA M) (H : Heap 𝓤) (A : Atoms 𝓤) (W : Given
         keep ! (0 ∷ 1 ∷ 2 ∷ 4 ∷ 5 ∷ []) $ by ! (exits r is e)))))))))))
 
 module _ {M : Type 1} (𝓤 : URA M) (H : Heap 𝓤) (A : Atoms 𝓤) (W : Given 𝓤 H A) (mem : Memory → SProp 𝓤) (run : Routine → Fun 𝓤) where
-  walks : (C : Calls 𝓤 H) (Λ : Loops 𝓤 H) → FmC 𝓤 H (W .laws) C → Triple 𝓤 (C #turn) (Turn 𝓤 H A mem run)
+  walks : (C : Calls 𝓤 H) (Λ : Loops 𝓤 H) → FmC 𝓤 H (W .laws) C → Known 𝓤 H A mem run C
       → Walks 𝓤 H A in-place.ended stayed (WpFn 𝓤 H C Λ code.function) (in-place.clauses 𝓤 H A mem run)
   walks C Λ fm known =
       walked 𝓤 H A in-place.ended stayed (in-place.clauses 𝓤 H A mem run) (WpFn 𝓤 H C Λ code.function) (λ κs. (ptr-vals, (slice-vals, tt)))
@@ -186,6 +191,8 @@ pub turn-in-place-spec : {M : Type 1} → stated.statement M
 unfolding code.routine
 turn-in-place-spec 𝓤 H 𝓜 𝓖 𝓡 =
     let W = givenOf 𝓤 H 𝓜 𝓖 in
-    by-walk 𝓤 H 𝓜 𝓖 𝓡 (Turn 𝓤 H (𝓖 .A) (𝓜 .mem) (𝓡 .run)) in-place.ended (in-place.clauses 𝓤 H (𝓖 .A) (𝓜 .mem) (𝓡 .run)) stayed
-    code.env #turn-in-place code.function (code.unfolded 𝓤 H 𝓜 𝓡) #turn turn-def.routine code.calls-bridge·turning·turn
-    (turn-thm.met 𝓤 H 𝓜 𝓖 𝓡) (goes-all 𝓤 H (𝓖 .A) W (𝓜 .mem) (𝓡 .run)) (walks 𝓤 H (𝓖 .A) W (𝓜 .mem) (𝓡 .run))
+    let callee = Turn 𝓤 H (𝓖 .A) (𝓜 .mem) (𝓡 .run) in
+    let met = cited 𝓤 H callee 𝓜 𝓡 code.env #turn turn-def.routine code.calls-bridge·turning·turn (turn-thm.met 𝓤 H 𝓜 𝓖 𝓡) in
+    by-walk 𝓤 H 𝓜 𝓖 𝓡 in-place.ended (in-place.clauses 𝓤 H (𝓖 .A) (𝓜 .mem) (𝓡 .run)) stayed
+    code.env #turn-in-place code.function (code.unfolded 𝓤 H 𝓜 𝓡) (Known 𝓤 H (𝓖 .A) (𝓜 .mem) (𝓡 .run)) met
+    (goes-all 𝓤 H (𝓖 .A) W (𝓜 .mem) (𝓡 .run)) (walks 𝓤 H (𝓖 .A) W (𝓜 .mem) (𝓡 .run))
