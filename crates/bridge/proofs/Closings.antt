@@ -9,7 +9,7 @@ use Rattle.bridge_rules.specs.declared.Bridge.{Bridge}
 use Rattle.bridge_rules.specs.declared.Changed.{Changed}
 use Rattle.bridge_rules.specs.State.{blank, heldSlot, isNone, orZero, orFour, withSlots}
 use Rattle.bridge_rules.specs.Ending.{closeNumber, closeOf}
-use Rattle.bridge.proofs.Searches.{held-from}
+use Rattle.bridge.proofs.Searches.{held-small, slot-found}
 
 module _ (s : Bridge) (t : ℕ) where
   pub close-refused : (n : ℕ) → n ≡ closeNumber s t → (n ≡ 0 → ⊥) → _≡_ {A = Changed} (record { bridge = s; number = n }) (closeOf s t)
@@ -22,7 +22,7 @@ module _ (s : Bridge) (t : ℕ) where
     close-held = if-zero 13 _ _ (if-zero 10 _ _ e .1) .0
 
     pub close-at : (k ≡ orZero (heldSlot s t)) × (k < 4)
-    close-at = held-from s t k q close-held
+    close-at = slot-found (heldSlot s t) (held-small s t) q close-held
 
     pub close-is : _≡_ {A = Changed} (record { bridge = withSlots s (set (s .slots) k blank); number = 0 }) (closeOf s t)
     unfolding closeOf

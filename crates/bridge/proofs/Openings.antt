@@ -17,7 +17,7 @@ use Rattle.bridge_rules.specs.State.{lowestFree, isNone, orZero, orFour}
 use Rattle.bridge_rules.specs.Answers.{openedOf}
 use Rattle.bridge_rules.specs.Opening.{Ask, write, askCount, opened, openNumber, openOf}
 use Rattle.bridge_rules.proofs.NumberLaws.{open-facts, lent-ok}
-use Rattle.bridge.proofs.Searches.{free-from}
+use Rattle.bridge.proofs.Searches.{free-small, slot-found}
 
 module _ (s : Bridge) (b : List ℕ) (a : Ask) where
   pub open-refused : (n : ℕ) → n ≡ openNumber s (length b) a → (n ≡ 0 → ⊥)
@@ -30,7 +30,7 @@ module _ (s : Bridge) (b : List ℕ) (a : Ask) where
     open-room = open-facts s (length b) a e .slotted
 
     pub open-at : (k : ℕ) → k ≡ orFour (lowestFree s) → (k ≡ orZero (lowestFree s)) × (k < 4)
-    open-at k q = free-from s k q open-room
+    open-at k q = slot-found (lowestFree s) (free-small s) q open-room
 
     pub open-ticket : s .issued < 4294967295
     open-ticket = open-facts s (length b) a e .ticketed

@@ -33,7 +33,7 @@ use Rattle.bridge_rules.proofs.AwaitsTest.{AwaitsOk, awaits-ok}
 use Rattle.bridge_rules.proofs.SlotOk.{wait-ok}
 use Rattle.bridge_rules.proofs.FrameLaws.{len-inside}
 use Rattle.bridge_rules.proofs.NumberLaws.{lent-ok}
-use Rattle.bridge.proofs.Searches.{awaiting-from}
+use Rattle.bridge.proofs.Searches.{awaiting-small, slot-found}
 
 -- ── 1 to 5 ─────────────────────────────────────────────────────────────────────────────────────────────────────────
 
@@ -133,7 +133,7 @@ module _ (s : Bridge) (b : List ℕ) (f : Frame) where
 
     module _ (k : ℕ) (q : k ≡ orFour (awaiting s f)) where
       pub reply-at : (k ≡ orZero (awaiting s f)) × (k < 4)
-      reply-at = awaiting-from s f k q reply-found
+      reply-at = slot-found (awaiting s f) (awaiting-small s f) q reply-found
 
       reply-awaited : AwaitsOk s f k
       unfolding awaiting

@@ -53,7 +53,7 @@ small-first p start (suc fuel) = go (p (start % 4)) (small-first p (suc start) f
     go true h = omega arith
     go false h = h
 
-free-small : (s : Bridge) → Small (lowestFree s)
+pub free-small : (s : Bridge) → Small (lowestFree s)
 unfolding lowestFree
 free-small s = small-first _ 0 4
 
@@ -61,65 +61,37 @@ pub held-small : (s : Bridge) (t : ℕ) → Small (heldSlot s t)
 unfolding heldSlot
 held-small s t = small-first _ 0 4
 
-ready-small : (s : Bridge) → Small (nextReady s)
+pub ready-small : (s : Bridge) → Small (nextReady s)
 unfolding nextReady
 ready-small s = small-first _ (suc (s .last)) 4
 
-awaiting-small : (s : Bridge) (f : Frame) → Small (awaiting s f)
+pub awaiting-small : (s : Bridge) (f : Frame) → Small (awaiting s f)
 unfolding awaiting
 awaiting-small s f = small-first _ 0 4
 
 -- what the code has of a search: the slot's number, or 4
-is-none : (o : Option ℕ) (k : ℕ) → Small o → k ≡ orFour o → k ≡ 4 → o ≡ none
-is-none none k m e h = refl
-is-none (some j) k m e h = absurd (omega arith)
+module _ (o : Option ℕ) {k : ℕ} (m : Small o) (e : k ≡ orFour o) where
+  pub is-four : k ≡ 4 → o ≡ none
+  is-four h = go o m e
+    where
+      go : (p : Option ℕ) → Small p → k ≡ orFour p → p ≡ none
+      go none l q = refl
+      go (some j) l q = absurd (omega arith)
 
-is-some : (o : Option ℕ) (k : ℕ) → Small o → k ≡ orFour o → (k ≡ 4 → ⊥) → (o ≡ some k) × (k < 4)
-is-some none k m e h = absurd (h e)
-is-some (some j) k m e h = (ap some (sym e), omega arith)
+  pub not-four : (k ≡ 4 → ⊥) → (o ≡ some k) × (k < 4)
+  not-four h = go o m e
+    where
+      go : (p : Option ℕ) → Small p → k ≡ orFour p → (p ≡ some k) × (k < 4)
+      go none l q = absurd (h q)
+      go (some j) l q = (ap some (sym q), omega arith)
 
-from-some : (o : Option ℕ) (k : ℕ) → Small o → k ≡ orFour o → isNone o ≡ false → (k ≡ orZero o) × (k < 4)
-from-some none k m e h = absurd (let z : _≡_ {A = Bool} true false = h in let y : _≡_ {A = ℕ} 0 1 = cc in omega arith)
-from-some (some j) k m e h = (e, omega arith)
+  pub slot-found : isNone o ≡ false → (k ≡ orZero o) × (k < 4)
+  slot-found h = go o m e h
+    where
+      go : (p : Option ℕ) → Small p → k ≡ orFour p → isNone p ≡ false → (k ≡ orZero p) × (k < 4)
+      go none l q i = absurd (let z : _≡_ {A = Bool} true false = i in let y : _≡_ {A = ℕ} 0 1 = cc in omega arith)
+      go (some j) l q i = (q, omega arith)
 
 pub orZero-four : (o : Option ℕ) → Small o → orZero o < 4
 orZero-four none m = omega arith
 orZero-four (some k) m = m
-
--- of each search
-module _ (s : Bridge) (k : ℕ) (e : k ≡ orFour (lowestFree s)) where
-  pub free-none : k ≡ 4 → lowestFree s ≡ none
-  free-none = is-none (lowestFree s) k (free-small s) e
-
-  pub free-some : (k ≡ 4 → ⊥) → (lowestFree s ≡ some k) × (k < 4)
-  free-some = is-some (lowestFree s) k (free-small s) e
-
-  pub free-from : isNone (lowestFree s) ≡ false → (k ≡ orZero (lowestFree s)) × (k < 4)
-  free-from = from-some (lowestFree s) k (free-small s) e
-
-module _ (s : Bridge) (t k : ℕ) (e : k ≡ orFour (heldSlot s t)) where
-  pub held-none : k ≡ 4 → heldSlot s t ≡ none
-  held-none = is-none (heldSlot s t) k (held-small s t) e
-
-  pub held-some : (k ≡ 4 → ⊥) → (heldSlot s t ≡ some k) × (k < 4)
-  held-some = is-some (heldSlot s t) k (held-small s t) e
-
-  pub held-from : isNone (heldSlot s t) ≡ false → (k ≡ orZero (heldSlot s t)) × (k < 4)
-  held-from = from-some (heldSlot s t) k (held-small s t) e
-
-module _ (s : Bridge) (k : ℕ) (e : k ≡ orFour (nextReady s)) where
-  pub ready-none : k ≡ 4 → nextReady s ≡ none
-  ready-none = is-none (nextReady s) k (ready-small s) e
-
-  pub ready-some : (k ≡ 4 → ⊥) → (nextReady s ≡ some k) × (k < 4)
-  ready-some = is-some (nextReady s) k (ready-small s) e
-
-module _ (s : Bridge) (f : Frame) (k : ℕ) (e : k ≡ orFour (awaiting s f)) where
-  pub awaiting-none : k ≡ 4 → awaiting s f ≡ none
-  awaiting-none = is-none (awaiting s f) k (awaiting-small s f) e
-
-  pub awaiting-some : (k ≡ 4 → ⊥) → (awaiting s f ≡ some k) × (k < 4)
-  awaiting-some = is-some (awaiting s f) k (awaiting-small s f) e
-
-  pub awaiting-from : isNone (awaiting s f) ≡ false → (k ≡ orZero (awaiting s f)) × (k < 4)
-  awaiting-from = from-some (awaiting s f) k (awaiting-small s f) e

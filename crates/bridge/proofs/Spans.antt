@@ -15,7 +15,7 @@ use Rattle.bridge_rules.specs.State.{slot, heldSlot, isNone, orZero, orFour, so
 use Rattle.bridge_rules.specs.Ending.{ticketNumber, bytesNumber, slotSpan, spanOf, noSpan, partOf, bytesOf}
 use Rattle.bridge_rules.proofs.SlotOk.{count-few}
 use Rattle.bridge_rules.proofs.SoundTest.{true-sound}
-use Rattle.bridge.proofs.Searches.{held-from, held-small, orZero-four}
+use Rattle.bridge.proofs.Searches.{held-small, slot-found, orZero-four}
 
 module _ (s : Bridge) (n t : ℕ) where
   pub span-refused : (m : ℕ) → m ≡ bytesNumber s n t → (m ≡ 0 → ⊥) → noSpan m ≡ spanOf s n t
@@ -35,7 +35,7 @@ module _ (s : Bridge) (n t : ℕ) where
     bytes-held = if-zero 13 _ _ (if-zero 9 _ _ (if-zero 10 _ _ e .1) .1) .0
 
     pub bytes-at : (k ≡ orZero (heldSlot s t)) × (k < 4)
-    bytes-at = held-from s t k q bytes-held
+    bytes-at = slot-found (heldSlot s t) (held-small s t) q bytes-held
 
     pub span-is : slotSpan s k ≡ spanOf s n t
     unfolding spanOf

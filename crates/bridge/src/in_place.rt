@@ -12,7 +12,8 @@ ghost use Rattle.bridge_rules.specs.Ending.{closeOf};
 
 // A turn.
 pub fn turn_in_place(b: &mut Bridge, buffer: &[u8]) -> Yielded
-    ensures { λ r. ⌜ (r ≡ steppedOf (turnOf (now (b .entry)) (now (buffer .entry))) .answer) × (now (b .exit) ≡ steppedOf (turnOf (now (b .entry)) (now (buffer .entry))) .bridge) ⌝ }
+    ensures { λ r. ⌜ (r ≡ steppedOf (turnOf (now (b .entry)) (now (buffer .entry))) .answer)
+        × (now (b .exit) ≡ steppedOf (turnOf (now (b .entry)) (now (buffer .entry))) .bridge) ⌝ }
 {
     let old = *b;
     let t = turn(old, buffer);
@@ -22,7 +23,9 @@ pub fn turn_in_place(b: &mut Bridge, buffer: &[u8]) -> Yielded
 
 // An incoming frame.
 pub fn frame_in_place(b: &mut Bridge, buffer: &mut [u8], f: bus::Frame) -> Yielded
-    ensures { λ r. ⌜ (r ≡ steppedOf (frameOf (now (b .entry)) (now (buffer .entry)) f) .answer) × ((now (b .exit) ≡ steppedOf (frameOf (now (b .entry)) (now (buffer .entry)) f) .bridge) × (now (buffer .exit) ≡ frameOf (now (b .entry)) (now (buffer .entry)) f .buffer)) ⌝ }
+    ensures { λ r. ⌜ (r ≡ steppedOf (frameOf (now (b .entry)) (now (buffer .entry)) f) .answer)
+        × ((now (b .exit) ≡ steppedOf (frameOf (now (b .entry)) (now (buffer .entry)) f) .bridge)
+        × (now (buffer .exit) ≡ frameOf (now (b .entry)) (now (buffer .entry)) f .buffer)) ⌝ }
 {
     let old = *b;
     let t = frame(old, buffer, f);

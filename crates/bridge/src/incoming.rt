@@ -23,7 +23,8 @@ ghost use Rattle.bridge_rules.specs.Incoming.{contentNumber, awaiting, replyNum
 // Whether slot k is a waiting read that awaits a frame of these parts and this length.
 fn awaits(x: Slot, k: usize, p: bus::Parts, len: u8) -> bool
     requires { ⌜ k < 4 ⌝ }
-    ensures { λ r. ⌜ r ≡ (isWaiting (x .phase) && eqb (p .table) 6 && eqb (p .from) (x .device) && eqb (p .offset) (128 * k + x .progress) && eqb len (chunkLen (x .count) (x .progress))) ⌝ }
+    ensures { λ r. ⌜ r ≡ (isWaiting (x .phase) && eqb (p .table) 6 && eqb (p .from) (x .device)
+        && eqb (p .offset) (128 * k + x .progress) && eqb len (chunkLen (x .count) (x .progress))) ⌝ }
 {
     (x.phase == WAITING)
         & (p.table == 6)
@@ -59,7 +60,8 @@ struct Judged {
 // 5 and 17, by which a frame of these parts is judged; else 0 and its slot.
 fn judge_parts(b: Bridge, f: bus::Frame, p: bus::Parts) -> Judged
     requires { ⌜ (sound b ≡ true) × (p ≡ partsOf (f .id)) ⌝ }
-    ensures { λ r. ⌜ (r .number ≡ (5 if not (eqb (p .kind) rsp) else 17 if isNone (awaiting b f) else 0)) × (r .number ≡ 0 → r .slot ≡ orFour (awaiting b f)) ⌝ }
+    ensures { λ r. ⌜ (r .number ≡ (5 if not (eqb (p .kind) rsp) else 17 if isNone (awaiting b f) else 0))
+        × (r .number ≡ 0 → r .slot ≡ orFour (awaiting b f)) ⌝ }
 {
     if p.kind != bus::RSP {
         return Judged { number: 5, slot: 4 };
@@ -74,7 +76,8 @@ fn judge_parts(b: Bridge, f: bus::Frame, p: bus::Parts) -> Judged
 // 1 to 5 and 17, by which a sound bridge judges a frame; else 0 and its slot.
 fn judge_content(b: Bridge, f: bus::Frame) -> Judged
     requires { ⌜ sound b ≡ true ⌝ }
-    ensures { λ r. ⌜ (r .number ≡ (contentNumber (b .own) f orElse (17 if isNone (awaiting b f) else 0))) × (r .number ≡ 0 → r .slot ≡ orFour (awaiting b f)) ⌝ }
+    ensures { λ r. ⌜ (r .number ≡ (contentNumber (b .own) f orElse (17 if isNone (awaiting b f) else 0)))
+        × (r .number ≡ 0 → r .slot ≡ orFour (awaiting b f)) ⌝ }
 {
     let head = bus::ident::read_head(b.own, f);
     match head {

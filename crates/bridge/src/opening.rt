@@ -10,7 +10,7 @@ use crate::search::lowest_free;
 use crate::soundness::ask_number;
 ghost use mathlib.Core.Path.{_≡_};
 ghost use mathlib.Core.Bool.{false};
-ghost use lib.ListN.{length, set};
+ghost use lib.ListN.{set};
 ghost use Rattle.bridge_rules.specs.State.{ready, lowestFree, orZero, isNone};
 ghost use Rattle.bridge_rules.specs.Answers.{openedOf};
 ghost use Rattle.bridge_rules.specs.Opening.{read, write, roomNumber, openNumber, openOf};
@@ -45,7 +45,18 @@ fn open_number(b: Bridge, n: usize, device: u8, table: u8, offset: u16, count: u
 
 // A slot that a transfer of this kind begins to hold.
 fn begun(ticket: u32, kind: u8, device: u8, table: u8, offset: u16, count: u8) -> Slot
-    ensures { λ r. ⌜ r ≡ record { ticket = ticket; offset = offset; phase = ready; kind = kind; device = device; table = table; count = count; progress = 0; sends = 0; left = 0 } ⌝ }
+    ensures { λ r. ⌜ r ≡ record {
+      ticket = ticket;
+      offset = offset;
+      phase = ready;
+      kind = kind;
+      device = device;
+      table = table;
+      count = count;
+      progress = 0;
+      sends = 0;
+      left = 0;
+    } ⌝ }
 {
     Slot {
         ticket: ticket,
@@ -64,7 +75,16 @@ fn begun(ticket: u32, kind: u8, device: u8, table: u8, offset: u16, count: u8) -
 // The lowest free slot holds x, and its ticket is the last given.
 fn hold(b: Bridge, x: Slot) -> Opened
     requires { ⌜ isNone (lowestFree b) ≡ false ⌝ }
-    ensures { λ r. ⌜ r ≡ record { bridge = record { slots = set (b .slots) (orZero (lowestFree b)) x; issued = x .ticket; own = b .own; last = b .last }; ticket = x .ticket; number = 0 } ⌝ }
+    ensures { λ r. ⌜ r ≡ record {
+      bridge = record {
+        slots = set (b .slots) (orZero (lowestFree b)) x;
+        issued = x .ticket;
+        own = b .own;
+        last = b .last;
+      };
+      ticket = x .ticket;
+      number = 0;
+    } ⌝ }
 {
     let k = lowest_free(b);
     let mut t = b;
@@ -109,7 +129,8 @@ pub fn open_write(
     offset: u16,
     bytes: &[u8],
 ) -> Opened
-    ensures { λ r. ⌜ (r ≡ openedOf (openOf b (now (buffer .entry)) (write device table offset (now (bytes .entry))))) × (now (buffer .exit) ≡ openOf b (now (buffer .entry)) (write device table offset (now (bytes .entry))) .buffer) ⌝ }
+    ensures { λ r. ⌜ (r ≡ openedOf (openOf b (now (buffer .entry)) (write device table offset (now (bytes .entry)))))
+        × (now (buffer .exit) ≡ openOf b (now (buffer .entry)) (write device table offset (now (bytes .entry))) .buffer) ⌝ }
 {
     let n = open_number(b, buffer.len(), device, table, offset, bytes.len());
     if n != 0 {

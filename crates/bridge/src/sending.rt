@@ -29,7 +29,8 @@ fn identifier(own: u8, kind: u8, x: Slot) -> u32
 
 // The REQ of a read in slot k.
 fn read_frame(own: u8, k: usize, x: Slot) -> bus::Frame
-    requires { ⌜ (own ≤ 15) × (k < 4) × (x .device ≤ 15) × (x .table ≤ 31) × (x .progress < x .count) × (x .count ≤ 128) × (x .offset + x .count ≤ 2048) ⌝ }
+    requires { ⌜ (own ≤ 15) × (k < 4) × (x .device ≤ 15) × (x .table ≤ 31) × (x .progress < x .count)
+        × (x .count ≤ 128) × (x .offset + x .count ≤ 2048) ⌝ }
     ensures { λ r. ⌜ r ≡ readFrame own k x ⌝ }
 {
     let id = identifier(own, bus::REQ, x);
@@ -51,7 +52,8 @@ fn read_frame(own: u8, k: usize, x: Slot) -> bus::Frame
 
 // The CMD of a write in slot k, with the next of its bytes.
 fn write_frame(own: u8, k: usize, x: Slot, buffer: &[u8]) -> bus::Frame
-    requires { ⌜ (own ≤ 15) × (k < 4) × (x .device ≤ 15) × (x .table ≤ 31) × (x .progress < x .count) × (x .count ≤ 128) × (x .offset + x .count ≤ 2048) × (length (now buffer) ≡ 512) ⌝ }
+    requires { ⌜ (own ≤ 15) × (k < 4) × (x .device ≤ 15) × (x .table ≤ 31) × (x .progress < x .count)
+        × (x .count ≤ 128) × (x .offset + x .count ≤ 2048) × (length (now buffer) ≡ 512) ⌝ }
     ensures { λ r. ⌜ r ≡ writeFrame own k x (now (buffer .entry)) ⌝ }
 {
     let id = identifier(own, bus::CMD, x);
@@ -68,7 +70,8 @@ fn write_frame(own: u8, k: usize, x: Slot, buffer: &[u8]) -> bus::Frame
 
 // What a ready slot k sends.
 pub(crate) fn sent_frame(own: u8, k: usize, x: Slot, buffer: &[u8]) -> bus::Frame
-    requires { ⌜ (own ≤ 15) × (k < 4) × (x .device ≤ 15) × (x .table ≤ 31) × (x .progress < x .count) × (x .count ≤ 128) × (x .offset + x .count ≤ 2048) × (length (now buffer) ≡ 512) ⌝ }
+    requires { ⌜ (own ≤ 15) × (k < 4) × (x .device ≤ 15) × (x .table ≤ 31) × (x .progress < x .count)
+        × (x .count ≤ 128) × (x .offset + x .count ≤ 2048) × (length (now buffer) ≡ 512) ⌝ }
     ensures { λ r. ⌜ r ≡ sentFrame own k x (now (buffer .entry)) ⌝ }
 {
     if carries(x.kind) {

@@ -2,8 +2,9 @@ use borrow.Author.Needs.{needs}
 use Rattle.bridge.proofs.ending.close_number.Statement.{statement}
 use Rattle.bridge.proofs.ending.close_number.Tie as tie
 use Rattle.wire.proofs.Orders.{order}
+use Rattle.bridge_rules.specs.State.{heldSlot}
 use Rattle.bridge_rules.specs.Ending.{closeNumber}
-use Rattle.bridge.proofs.Searches.{held-none, held-some}
+use Rattle.bridge.proofs.Searches.{held-small, is-four, not-four}
 
 sound-requires : tie.Need-sound-requires
 sound-requires c κs = search needs
@@ -19,14 +20,16 @@ returns-2 : tie.Need-returns-2
 unfolding closeNumber
 returns-2 c =
     let s = c .before .before .before in
-    let none = held-none (s .before .args .b) (s .before .args .ticket) _ (c .before .held-slot .ensures) (c .if2 .taken) in
+    let a = s .before .args in
+    let none = is-four (heldSlot (a .b) (a .ticket)) (held-small (a .b) (a .ticket)) (c .before .held-slot .ensures) (c .if2 .taken) in
     rw (← s .sound .ensures, none) (search order depth 12)
 
 returns-3 : tie.Need-returns-3
 unfolding closeNumber
 returns-3 c =
     let s = c .before .before .before in
-    let some = held-some (s .before .args .b) (s .before .args .ticket) _ (c .before .held-slot .ensures) (c .if2 .left) in
+    let a = s .before .args in
+    let some = not-four (heldSlot (a .b) (a .ticket)) (held-small (a .b) (a .ticket)) (c .before .held-slot .ensures) (c .if2 .left) in
     rw (← s .sound .ensures, some .0) (search order depth 12)
 
 pub close-number-spec : {M : Type 1} → statement M

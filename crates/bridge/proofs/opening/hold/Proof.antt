@@ -5,12 +5,14 @@ use Prim.Native.Nat.{_<_}
 use mathlib.Core.Path.{_≡_}
 use native.Mathlib.Omega.{arith}
 use Rattle.bridge_rules.specs.State.{lowestFree, orZero}
-use Rattle.bridge.proofs.Searches.{free-from}
+use Rattle.bridge.proofs.Searches.{free-small, slot-found}
 
 -- the slot that is found
 free : (c : tie.After-lowest-free)
     → (c .lowest-free .result ≡ orZero (lowestFree (c .before .args .b))) × (c .lowest-free .result < 4)
-free c = free-from (c .before .args .b) _ (c .lowest-free .ensures) (c .before .pre)
+free c =
+    let b = c .before .args .b in
+    slot-found (lowestFree b) (free-small b) (c .lowest-free .ensures) (c .before .pre)
 
 lowest-free-requires : tie.Need-lowest-free-requires
 lowest-free-requires c κs = search needs

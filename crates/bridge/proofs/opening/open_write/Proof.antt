@@ -1,16 +1,16 @@
 use borrow.Author.Needs.{needs}
 use Rattle.bridge.proofs.opening.open_write.Statement.{statement}
 use Rattle.bridge.proofs.opening.open_write.Tie as tie
-use Prim.Native.Nat.{ℕ, _≤_, _<_}
+use Prim.Native.Nat.{ℕ}
 use mathlib.Core.Path.{_≡_, sym, _∙_}
 use mathlib.Core.List.{List}
 use native.Mathlib.Omega.{arith}
 use lib.ListN.{length}
 use Rattle.bridge_rules.specs.declared.Bridge.{Bridge}
-use Rattle.bridge_rules.specs.Opening.{Ask, write, askCount, opened, openNumber}
+use Rattle.bridge_rules.specs.Opening.{Ask, write, opened, openNumber}
 use Rattle.bridge.proofs.Openings.{open-refused, open-room, open-ticket, open-few, open-at, open-stored, open-is}
 
--- the bridge, its buffer and what is asked for; and what stands where the number is 0
+-- the bridge, its buffer, what is asked for, and its number
 module _ (c : tie.After-open-number) where
   abbrev held : Bridge
   held = c .before .before .before .args .b
@@ -25,15 +25,8 @@ module _ (c : tie.After-open-number) where
   unfolding openNumber
   number = c .open-number .ensures
 
-  module _ (z : c .open-number .result ≡ 0) where
-    accepted : openNumber held (length lent) asked ≡ 0
-    accepted = sym number ∙ z
-
-    ticketed : held .issued < 4294967295
-    ticketed = open-ticket held lent asked accepted
-
-    few : askCount asked ≤ 128
-    few = open-few held lent asked accepted
+accepted : (c : tie.Else1) → let n = c .before in openNumber (held n) (length (lent n)) (asked n) ≡ 0
+accepted c = sym (number (c .before)) ∙ c .if1 .left
 
 open-number-requires : tie.Need-open-number-requires
 open-number-requires c κs = search needs
@@ -47,17 +40,23 @@ lowest-free-requires c κs = search needs
 mul-put : tie.Need-mul-put
 mul-put c =
     let n = c .before .before .before in
-    let free = open-at (held n) (lent n) (asked n) (accepted n (c .before .before .if1 .left)) _ (c .lowest-free .ensures) in
+    let free = open-at (held n) (lent n) (asked n) (accepted (c .before .before)) _ (c .lowest-free .ensures) in
     omega (arith, free .1)
 
 put-requires : tie.Need-put-requires
 put-requires c κs = search needs
 
 add-begun : tie.Need-add-begun
-add-begun c = let t = c .before .before .before .before .before .before in omega (arith, ticketed (t .before) (t .if1 .left))
+add-begun c =
+    let t = c .before .before .before .before .before .before in
+    let n = t .before in
+    omega (arith, open-ticket (held n) (lent n) (asked n) (accepted t))
 
 cast-begun : tie.Need-cast-begun
-cast-begun c = let t = c .before .before .before .before .before .before in omega (arith, few (t .before) (t .if1 .left))
+cast-begun c =
+    let t = c .before .before .before .before .before .before in
+    let n = t .before in
+    omega (arith, open-few (held n) (lent n) (asked n) (accepted t))
 
 begun-requires : tie.Need-begun-requires
 begun-requires c κs = search needs
@@ -66,7 +65,7 @@ hold-requires : tie.Need-hold-requires
 hold-requires c κs =
     let t = c .before .before .before .before .before .before .before in
     let n = t .before in
-    open-room (held n) (lent n) (asked n) (accepted n (t .if1 .left))
+    open-room (held n) (lent n) (asked n) (accepted t)
 
 same-length : tie.Need-same-length
 same-length c = search needs
@@ -77,7 +76,7 @@ returns-2 c =
     let t = c .before .before .before .before .before .before .before .before in
     let n = t .before in
     let a = n .before .before .before .args in
-    let z = accepted n (t .if1 .left) in
+    let z = accepted t in
     let stored = open-stored (held n) (lent n) (a .device) (a .table) (a .offset) (a .bytes .now) z in (
       c .hold .ensures ∙ open-is (held n) (lent n) (asked n) z _ (c .before .begun .ensures),
       c .before .before .before .before .before .put .ensures ∙ stored _ (c .before .before .before .before .before .before .lowest-free .ensures),

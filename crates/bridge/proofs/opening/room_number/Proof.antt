@@ -1,28 +1,37 @@
 use borrow.Author.Needs.{needs}
 use Rattle.bridge.proofs.opening.room_number.Statement.{statement}
 use Rattle.bridge.proofs.opening.room_number.Tie as tie
+use mathlib.Core.Path.{_≡_}
+use mathlib.Core.Option.{some}
 use Rattle.wire.proofs.Orders.{order}
+use Rattle.bridge_rules.specs.State.{lowestFree}
 use Rattle.bridge_rules.specs.Opening.{roomNumber}
-use Rattle.bridge.proofs.Searches.{free-none, free-some}
+use Rattle.bridge.proofs.Searches.{free-small, is-four, not-four}
+
+-- the slot that is found
+found : (c : tie.Else1) → lowestFree (c .before .before .args .b) ≡ some (c .before .lowest-free .result)
+found c =
+    let b = c .before .before .args .b in
+    not-four (lowestFree b) (free-small b) (c .before .lowest-free .ensures) (c .if1 .left) .0
 
 lowest-free-requires : tie.Need-lowest-free-requires
 lowest-free-requires c κs = search needs
 
 returns : tie.Need-returns
 unfolding roomNumber
-returns c = rw (free-none (c .before .before .args .b) _ (c .before .lowest-free .ensures) (c .if1 .taken)) (search order depth 12)
+returns c =
+    let b = c .before .before .args .b in
+    rw (is-four (lowestFree b) (free-small b) (c .before .lowest-free .ensures) (c .if1 .taken)) (search order depth 12)
 
 returns-2 : tie.Need-returns-2
 unfolding roomNumber
 returns-2 c =
-    let t = c .before .before in
-    rw (free-some (t .before .before .args .b) _ (t .before .lowest-free .ensures) (t .if1 .left) .0) (search order depth 12)
+    rw (found (c .before .before)) (search order depth 12)
 
 returns-3 : tie.Need-returns-3
 unfolding roomNumber
 returns-3 c =
-    let t = c .before .before in
-    rw (free-some (t .before .before .args .b) _ (t .before .lowest-free .ensures) (t .if1 .left) .0) (search order depth 12)
+    rw (found (c .before .before)) (search order depth 12)
 
 pub room-number-spec : {M : Type 1} → statement M
 room-number-spec = tie.close (tie.spec lowest-free-requires returns returns-2 returns-3)

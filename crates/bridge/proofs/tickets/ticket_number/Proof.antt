@@ -8,20 +8,24 @@ use mathlib.Core.Option.{some}
 use native.Mathlib.Omega.{arith}
 use Rattle.bridge_rules.specs.State.{slot, heldSlot}
 use Rattle.bridge_rules.specs.Ending.{ticketNumber}
-use Rattle.bridge.proofs.Searches.{held-none, held-some}
+use Rattle.bridge.proofs.Searches.{held-small, is-four, not-four}
 
 -- the slot that is found
 found : (c : tie.Else1)
     → (heldSlot (c .before .before .args .b) (c .before .before .args .ticket) ≡ some (c .before .held-slot .result))
     × (c .before .held-slot .result < 4)
-found c = held-some (c .before .before .args .b) (c .before .before .args .ticket) _ (c .before .held-slot .ensures) (c .if1 .left)
+found c =
+    let a = c .before .before .args in
+    not-four (heldSlot (a .b) (a .ticket)) (held-small (a .b) (a .ticket)) (c .before .held-slot .ensures) (c .if1 .left)
 
 held-slot-requires : tie.Need-held-slot-requires
 held-slot-requires c κs = search needs
 
 returns : tie.Need-returns
 unfolding ticketNumber _if_else_
-returns c = let a = c .before .before .args in rw (held-none (a .b) (a .ticket) _ (c .before .held-slot .ensures) (c .if1 .taken))
+returns c =
+    let a = c .before .before .args in
+    rw (is-four (heldSlot (a .b) (a .ticket)) (held-small (a .b) (a .ticket)) (c .before .held-slot .ensures) (c .if1 .taken))
 
 mul-x : tie.Need-mul-x
 mul-x c = omega (arith, found (c .before) .1)

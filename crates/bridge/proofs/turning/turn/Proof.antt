@@ -8,7 +8,7 @@ use lib.ListN.{length}
 use Rattle.bridge_rules.specs.State.{nextReady}
 use Rattle.bridge_rules.specs.Answers.{lentNumber}
 use Rattle.bridge_rules.proofs.NumberLaws.{lent-ok}
-use Rattle.bridge.proofs.Searches.{ready-none, ready-some}
+use Rattle.bridge.proofs.Searches.{ready-small, is-four, not-four}
 use Rattle.bridge.proofs.Turns.{turn-refused, turn-idles, turn-sends, turn-sound, turn-ready}
 
 -- a turn that is not refused
@@ -18,7 +18,9 @@ accepted c = sym (c .before .lent-number .ensures) ∙ c .if1 .left
 -- the ready slot that is found
 found : (c : tie.Else2)
     → (nextReady (c .before .before .aged-bridge .result) ≡ some (c .before .next-ready .result)) × (c .before .next-ready .result < 4)
-found c = ready-some (c .before .before .aged-bridge .result) _ (c .before .next-ready .ensures) (c .if2 .left)
+found c =
+    let a = c .before .before .aged-bridge .result in
+    not-four (nextReady a) (ready-small a) (c .before .next-ready .ensures) (c .if2 .left)
 
 lent-number-requires : tie.Need-lent-number-requires
 lent-number-requires c κs = search needs
@@ -45,7 +47,8 @@ returns-2 : tie.Need-returns-2
 returns-2 c =
     let g = c .before .before .before in
     let a = g .before .before .before .before .args in
-    let none = ready-none _ _ (c .before .before .next-ready .ensures) (c .before .if2 .taken) in
+    let t = g .aged-bridge .result in
+    let none = is-four (nextReady t) (ready-small t) (c .before .before .next-ready .ensures) (c .before .if2 .taken) in
     c .plain2 .ensures ∙ turn-idles (a .b) (a .buffer .now) (accepted (g .before)) _ (g .aged-bridge .ensures) none
 
 send-for-requires : tie.Need-send-for-requires
