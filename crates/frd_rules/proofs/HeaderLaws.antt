@@ -7,7 +7,7 @@ use borrow.Author.Tests.{eqb-true, ltb-false, not-false}
 use lib.ListN.{length}
 use Rattle.wire.specs.BigEndian.{beOf, beAt}
 use Rattle.wire.specs.Answer.{result}
-use Rattle.wire.specs.Log.{spanOf}
+use Rattle.wire.specs.Log.{spanWith}
 use Rattle.wire.specs.declared.Span.{Span}
 use Rattle.wire.proofs.Answers.{means, answered, stands}
 use Rattle.wire.proofs.Orders.{if-zero}
@@ -24,13 +24,13 @@ unfolding readHeaderOf headAnswer
 head-means f r = means Is Refused noHeader headAnswer (λ h. refl) (λ n. refl) r _ _
 
 -- where the signature stands, in a file whose header a number refuses or none does
-span-refused : (n x start len : ℕ) → x ≡ n → (x ≡ 0 → ⊥) → _≡_ {A = Span} (record { number = x; start = 0; len = 0 }) (spanOf n start len)
-unfolding spanOf
+span-refused : (n x start len : ℕ) → x ≡ n → (x ≡ 0 → ⊥) → _≡_ {A = Span} (record { number = x; start = 0; len = 0 }) (spanWith n start len)
+unfolding spanWith
 span-refused zero x start len e k = absurd (k e)
 span-refused (suc n) x start len e k = rw e
 
-span-stands : (n x start len : ℕ) → x ≡ n → x ≡ 0 → _≡_ {A = Span} (record { number = x; start = start; len = len }) (spanOf n start len)
-unfolding spanOf
+span-stands : (n x start len : ℕ) → x ≡ n → x ≡ 0 → _≡_ {A = Span} (record { number = x; start = start; len = len }) (spanWith n start len)
+unfolding spanWith
 span-stands zero x start len e k = rw e
 span-stands (suc n) x start len e k = absurd (omega arith)
 

@@ -8,7 +8,7 @@ use lib.ListN.{length, take, drop}
 use Rattle.wire.specs.Order.{_if_else_}
 use Rattle.wire.specs.Answer.{answer}
 use Rattle.wire.specs.BigEndian.{beOf, beAt}
-use Rattle.wire.specs.Log.{spanOf}
+use Rattle.wire.specs.Log.{spanWith}
 use Rattle.wire.specs.declared.Span.{Span}
 use Rattle.frd_rules.specs.declared.Header.{Header}
 use Rattle.frd_rules.specs.declared.Head.{Head}
@@ -70,4 +70,4 @@ headAnswer (Refused n) = (n, noHeader)
 
 -- where the signature stands, in a file whose header is not refused
 unfoldable pub readSignatureOf : List ℕ → Span
-readSignatureOf f = spanOf (readHeaderNumber f) signaturePlace signatureLen
+readSignatureOf f = spanWith (readHeaderNumber f) signaturePlace signatureLen

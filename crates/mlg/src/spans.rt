@@ -1,12 +1,12 @@
 // Parts of a file as places and lengths.
 ghost use mathlib.Core.Path.{_≡_};
-ghost use Rattle.wire.specs.Log.{spanOf};
+ghost use Rattle.wire.specs.Log.{spanWith};
 ghost use Rattle.mlg_rules.specs.Parts.{namesEnd};
 use crate::Header;
 use crate::Span;
 
 pub(crate) fn span_of(number: u8, start: usize, len: usize) -> Span
-    ensures { λ r. ⌜ r ≡ spanOf number start len ⌝ }
+    ensures { λ r. ⌜ r ≡ spanWith number start len ⌝ }
 {
     if number != 0 {
         return Span {

@@ -9,7 +9,7 @@ use lib.ListN.{length, drop, length-drop}
 use Rattle.wire.specs.Text.{textLen}
 use Rattle.wire.proofs.Orders.{else-zero}
 use Rattle.wire.proofs.Texts.{text-most}
-use Rattle.wire.specs.Log.{spanOf}
+use Rattle.wire.specs.Log.{spanWith}
 use Rattle.mlg_rules.specs.Layout.{fieldLen}
 use Rattle.mlg_rules.specs.Header.{numbersOf, fieldsEnd, readHeaderNumber}
 use Rattle.mlg_rules.specs.Parts.{fieldPlace, namesEnd, infoLength}
@@ -17,24 +17,24 @@ use Rattle.mlg_rules.specs.declared.Header.{Header}
 use Rattle.wire.specs.declared.Span.{Span}
 use Rattle.mlg_rules.proofs.Places.{Placed, placed}
 
-pub span-no : (n s k x : ℕ) → x ≡ n → (x ≡ 0 → ⊥) → _≡_ {A = Span} (record { number = x; start = 0; len = 0 }) (spanOf n s k)
-unfolding spanOf
+pub span-no : (n s k x : ℕ) → x ≡ n → (x ≡ 0 → ⊥) → _≡_ {A = Span} (record { number = x; start = 0; len = 0 }) (spanWith n s k)
+unfolding spanWith
 span-no zero s k x e h = absurd (h e)
 span-no (suc n) s k x e h = rw e
 
-pub span-yes : (n s k : ℕ) → n ≡ 0 → _≡_ {A = Span} (record { number = 0; start = s; len = k }) (spanOf n s k)
-unfolding spanOf
+pub span-yes : (n s k : ℕ) → n ≡ 0 → _≡_ {A = Span} (record { number = 0; start = s; len = k }) (spanWith n s k)
+unfolding spanWith
 span-yes zero s k e = refl
 span-yes (suc n) s k e = absurd (omega arith)
 
 -- a refusal, and a part, as both parts of a promise
-pub refused : {r : Span} (n s k x t m : ℕ) (f : List ℕ) → r ≡ spanOf x t m → x ≡ n → (x ≡ 0 → ⊥) → (r ≡ spanOf n s k) × (r .start + r .len ≤ length f)
+pub refused : {r : Span} (n s k x t m : ℕ) (f : List ℕ) → r ≡ spanWith x t m → x ≡ n → (x ≡ 0 → ⊥) → (r ≡ spanWith n s k) × (r .start + r .len ≤ length f)
 refused n s k x t m f e p h =
     let q = e ∙ sym (span-no x t m x refl h) in
     (q ∙ span-no n s k x p h, omega (arith, ap (λ (z : Span). z .start) q, ap (λ (z : Span). z .len) q))
 
-pub given : {r : Span} (n s k t m : ℕ) (f : List ℕ) → r ≡ spanOf 0 t m → n ≡ 0 → t ≡ s → m ≡ k → t + m ≤ length f
-    → (r ≡ spanOf n s k) × (r .start + r .len ≤ length f)
+pub given : {r : Span} (n s k t m : ℕ) (f : List ℕ) → r ≡ spanWith 0 t m → n ≡ 0 → t ≡ s → m ≡ k → t + m ≤ length f
+    → (r ≡ spanWith n s k) × (r .start + r .len ≤ length f)
 given n s k t m f e z p q h =
     let w = e ∙ sym (span-yes 0 t m refl) in
     (w ∙ rw (p, q) (span-yes n s k z), omega (arith, ap (λ (z : Span). z .start) w, ap (λ (z : Span). z .len) w))

@@ -6,7 +6,7 @@ use lib.Dec.{eqb, leb}
 use lib.ListN.{take, drop}
 use Rattle.wire.specs.Order.{_if_else_, _orElse_}
 use Rattle.wire.specs.Text.{textLen}
-use Rattle.wire.specs.Log.{spanOf}
+use Rattle.wire.specs.Log.{spanWith}
 use Rattle.mlg_rules.specs.Layout.{headerLen, fieldLen}
 use Rattle.mlg_rules.specs.Header.{fieldsEnd, readHeaderNumber, numbersOf}
 use Rattle.mlg_rules.specs.declared.Header.{Header}
@@ -37,10 +37,10 @@ infoIn f h = take (infoLength f h) (drop (h .info) f)
 -- each refuses as the header reader does; 23 for a field that is not there
 unfoldable pub fieldSpanOf : List ℕ → ℕ → Span
 fieldSpanOf f i =
-    spanOf (readHeaderNumber f orElse 23 if leb (numbersOf f .count) i else 0) (fieldPlace (numbersOf f) i) (fieldLen (numbersOf f .version))
+    spanWith (readHeaderNumber f orElse 23 if leb (numbersOf f .count) i else 0) (fieldPlace (numbersOf f) i) (fieldLen (numbersOf f .version))
 
 unfoldable pub namesSpanOf : List ℕ → Span
-namesSpanOf f = spanOf (readHeaderNumber f) (fieldsEnd (numbersOf f)) (namesEnd (numbersOf f) - fieldsEnd (numbersOf f))
+namesSpanOf f = spanWith (readHeaderNumber f) (fieldsEnd (numbersOf f)) (namesEnd (numbersOf f) - fieldsEnd (numbersOf f))
 
 unfoldable pub infoSpanOf : List ℕ → Span
-infoSpanOf f = spanOf (readHeaderNumber f) (numbersOf f .info) (infoLength f (numbersOf f))
+infoSpanOf f = spanWith (readHeaderNumber f) (numbersOf f .info) (infoLength f (numbersOf f))
