@@ -1,4 +1,4 @@
--- Laws of frames: bytes padded with zeros, the bytes that count, and bytes set one after the other.
+-- Laws of frames: bytes padded with zeros, the bytes that count, frames of any parts and bytes, and bytes set one after the other.
 use mathlib.Core.Path.{_≡_, refl, sym, _∙_, ap}
 use mathlib.Core.List.{List, [], _∷_, _++_}
 use Prim.Native.Nat.{ℕ, zero, suc, _+_, _-_, _≤_, _<_, min}
@@ -13,7 +13,9 @@ use Rattle.wire.specs.Put.{putAt, putOf}
 use Rattle.wire.proofs.Orders.{if-zero}
 use Rattle.wire.proofs.Parts.{take-length-le}
 use Rattle.wire.proofs.Puts.{put-fits, put-sets}
-use Rattle.bus_rules.specs.Frames.{Frame, padded, content, headNumber}
+use Rattle.bus_rules.specs.Ident.{Parts, idIn, inRows}
+use Rattle.bus_rules.specs.Frames.{Frame, padded, content, frameWith, buildOf, headNumber}
+use Rattle.bus_rules.proofs.IdentLaws.{Lawful, same-in-rows}
 
 drop-same : (n m a : ℕ) → drop n (replicate m a) ≡ replicate (m - n) a
 drop-same zero m a = let e : m - 0 ≡ m = omega arith in rw e
@@ -35,7 +37,8 @@ pub padded-is : (bs : List ℕ) → length bs ≤ 8 → padded bs ≡ bs ++ repl
 unfolding padded
 padded-is bs h =
     let e : length bs + (8 - length bs) ≡ 8 = omega arith in
-    (rw e at (take-append-add bs (replicate 8 0) (8 - length bs))) ∙ ap (λ (l : List ℕ). bs ++ l) (take-same (8 - length bs) 8 0 (omega arith))
+    (rw e at (take-append-add bs (replicate 8 0) (8 - length bs)))
+    ∙ ap (λ (l : List ℕ). bs ++ l) (take-same (8 - length bs) 8 0 (omega arith))
 
 -- a copy into eight zeros
 padded-put : (bs : List ℕ) → length bs ≤ 8 → putOf (replicate 8 0) 0 bs ≡ padded bs
@@ -46,7 +49,7 @@ padded-put bs h =
     ∙ sym (padded-is bs h)
 
 -- only the first eight count
-padded-take : (bs : List ℕ) → padded (take 8 bs) ≡ padded bs
+pub padded-take : (bs : List ℕ) → padded (take 8 bs) ≡ padded bs
 unfolding padded
 padded-take bs = go (decLt (length bs) 8)
   where
@@ -54,7 +57,8 @@ padded-take bs = go (decLt (length bs) 8)
     go (yes p) = rw (take-all 8 bs (omega arith))
     go (no p) =
         let l : length (take 8 bs) ≡ 8 = length-take-le 8 bs (omega arith) in
-        take-append-le 8 (take 8 bs) (replicate 8 0) (omega arith) ∙ take-take 8 8 bs (omega arith) ∙ sym (take-append-le 8 bs (replicate 8 0) (omega arith))
+        take-append-le 8 (take 8 bs) (replicate 8 0) (omega arith) ∙ take-take 8 8 bs (omega arith)
+        ∙ sym (take-append-le 8 bs (replicate 8 0) (omega arith))
 
 -- set one after the other in eight zeros
 pub padded-sets : (bs : List ℕ) → sets (replicate 8 0) 0 (take 8 bs) ≡ padded bs
@@ -71,7 +75,8 @@ padded-in bs h i l = rw (padded-is bs h) (List·getD-append bs (replicate (8 - l
 pub padded-after : (bs : List ℕ) → length bs ≤ 8 → (i : ℕ) → length bs ≤ i → getD (padded bs) i 0 ≡ 0
 padded-after bs h i l =
     let e : length bs + (i - length bs) ≡ i = omega arith in
-    rw (padded-is bs h) ((rw e at (getD-append-add bs (replicate (8 - length bs) 0) (i - length bs) 0)) ∙ zeros-at (8 - length bs) (i - length bs))
+    rw (padded-is bs h)
+    ((rw e at (getD-append-add bs (replicate (8 - length bs) 0) (i - length bs) 0)) ∙ zeros-at (8 - length bs) (i - length bs))
 
 -- the bytes of a frame that count
 pub content-min : (f : Frame) → length (f .bytes) ≡ 8 → length (content f) ≡ min (f .len) 8
@@ -84,6 +89,25 @@ content-length f h l = omega (arith, content-min f h)
 pub content-at : (f : Frame) (i : ℕ) → i < f .len → getD (content f) i 0 ≡ getD (f .bytes) i 0
 unfolding content
 content-at f i h = getD-take (f .len) (f .bytes) i 0 h
+
+-- of at most eight bytes
+pub content-of-frame : (id : ℕ) (bs : List ℕ) → length bs ≤ 8 → content (frameWith id bs) ≡ bs
+unfolding content frameWith
+content-of-frame id bs h = rw (padded-is bs h) (take-append-le (length bs) bs (replicate (8 - length bs) 0) (omega arith) ∙ take-all (length bs) bs (omega arith))
+
+-- ── Frames of any parts and bytes ──────────────────────────────────────────────────────────────────────────────────
+
+-- of parts that the rows hold, and at most eight bytes
+pub build-lawful : (p : Parts) (bs : List ℕ) → Lawful p → length bs ≤ 8 → buildOf p bs ≡ frameWith (idIn p) bs
+unfolding buildOf
+build-lawful p bs l h = rw (same-in-rows p l, take-all 8 bs h)
+
+-- its parts one by one: what the code puts into a frame
+pub build-is : (p : Parts) (bs : List ℕ) → buildOf p bs ≡ record { id = idIn (inRows p); len = length (take 8 bs); bytes = padded bs }
+unfolding buildOf frameWith
+build-is p bs = rw (padded-take bs)
+
+-- ── Heads and lists ────────────────────────────────────────────────────────────────────────────────────────────────
 
 -- the length of a frame that no receiver refuses
 pub head-short : (own : ℕ) (f : Frame) → headNumber own f ≡ 0 → f .len ≤ 8
@@ -104,7 +128,9 @@ part-length m at n h = length-take-le n (drop at m) (simp length-drop (omega ari
 -- bytes set one after the other from a place on: the last of them
 sets-last : (bs m : List ℕ) (at b : ℕ) → sets m at (bs ++ (b ∷ [])) ≡ set (sets m at bs) (at + length bs) b
 sets-last [] m at b = rw add-zero
-sets-last (a ∷ bs) m at b = let e : at + suc (length bs) ≡ suc at + length bs = omega arith in rw e (sets-last bs (set m at a) (suc at) b)
+sets-last (a ∷ bs) m at b =
+    let e : at + suc (length bs) ≡ suc at + length bs = omega arith in
+    rw e (sets-last bs (set m at a) (suc at) b)
 
 module _ (m : List ℕ) (at : ℕ) (bs : List ℕ) (i : ℕ) where
   -- byte i, after the i before it
