@@ -97,14 +97,14 @@ sound-says d h =
     let b = both (leb (d .own) 15) (soundTables d 32) (a .0) in
     record {
       own = leb-true _ _ (b .0);
-      tables = λ k l. let t = tables-all d 32 (b .1) k l in record { size = t .0; right = t .1 };
+      tables = λ k l. let t = tables-all d 32 (b .1) k l in record { size = omega (arith, t .0); right = omega (arith, t .1) };
       total = leb-true _ _ (a .1);
     }
 
 pub says-sound : (d : Directory) → SoundDirectory d → soundDirectory d ≡ true
 unfolding soundDirectory
 says-sound d s =
-    rw (le-leb _ _ (s .own), all-tables d 32 (λ k l. (s .tables k l .size, s .tables k l .right)), le-leb _ _ (s .total))
+    rw (le-leb _ _ (s .own), all-tables d 32 (λ k l. (omega (arith, s .tables k l .size), omega (arith, s .tables k l .right))), le-leb _ _ (s .total))
 
 pub unsound : (d : Directory) → (15 < d .own) ⊎ ((soundTables d 32 ≡ false) ⊎ (32768 < totalOf d)) → soundDirectory d ≡ false
 unfolding soundDirectory

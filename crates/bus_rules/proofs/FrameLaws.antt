@@ -1,4 +1,4 @@
--- Laws of frames: bytes padded with zeros, the bytes that count, frames of any parts and bytes, and bytes set one after the other.
+-- Laws of frames: bytes padded with zeros, the bytes that count, and bytes set one after the other.
 use mathlib.Core.Path.{_≡_, refl, sym, _∙_, ap}
 use mathlib.Core.List.{List, [], _∷_, _++_}
 use Prim.Native.Nat.{ℕ, zero, suc, _+_, _-_, _≤_, _<_, min}
@@ -13,9 +13,7 @@ use Rattle.wire.specs.Put.{putAt, putOf}
 use Rattle.wire.proofs.Orders.{if-zero}
 use Rattle.wire.proofs.Parts.{take-length-le}
 use Rattle.wire.proofs.Puts.{put-fits, put-sets}
-use Rattle.bus_rules.specs.Ident.{Parts, idIn, inRows}
-use Rattle.bus_rules.specs.Frames.{Frame, padded, content, frameWith, buildOf, headNumber}
-use Rattle.bus_rules.proofs.IdentLaws.{Lawful, same-in-rows}
+use Rattle.bus_rules.specs.Frames.{Frame, padded, content, frameWith, headNumber}
 
 drop-same : (n m a : ℕ) → drop n (replicate m a) ≡ replicate (m - n) a
 drop-same zero m a = let e : m - 0 ≡ m = omega arith in rw e
@@ -93,19 +91,8 @@ content-at f i h = getD-take (f .len) (f .bytes) i 0 h
 -- of at most eight bytes
 pub content-of-frame : (id : ℕ) (bs : List ℕ) → length bs ≤ 8 → content (frameWith id bs) ≡ bs
 unfolding content frameWith
-content-of-frame id bs h = rw (padded-is bs h) (take-append-le (length bs) bs (replicate (8 - length bs) 0) (omega arith) ∙ take-all (length bs) bs (omega arith))
-
--- ── Frames of any parts and bytes ──────────────────────────────────────────────────────────────────────────────────
-
--- of parts that the rows hold, and at most eight bytes
-pub build-lawful : (p : Parts) (bs : List ℕ) → Lawful p → length bs ≤ 8 → buildOf p bs ≡ frameWith (idIn p) bs
-unfolding buildOf
-build-lawful p bs l h = rw (same-in-rows p l, take-all 8 bs h)
-
--- its parts one by one: what the code puts into a frame
-pub build-is : (p : Parts) (bs : List ℕ) → buildOf p bs ≡ record { id = idIn (inRows p); len = length (take 8 bs); bytes = padded bs }
-unfolding buildOf frameWith
-build-is p bs = rw (padded-take bs)
+content-of-frame id bs h =
+    rw (padded-is bs h) (take-append-le (length bs) bs (replicate (8 - length bs) 0) (omega arith) ∙ take-all (length bs) bs (omega arith))
 
 -- ── Heads and lists ────────────────────────────────────────────────────────────────────────────────────────────────
 

@@ -96,6 +96,9 @@ pub lawful-zero : (p : Parts) → Lawful p → packNumber p ≡ 0
 unfolding packNumber
 lawful-zero p l = let z : 0 ≡ packNumber p = search order depth 20 in sym z
 
+same-parts : {p q : Parts} → p .offset ≡ q .offset → p .kind ≡ q .kind → p .from ≡ q .from → p .to ≡ q .to → p .table ≡ q .table → p ≡ q
+same-parts {p} {q} o k f t b = rw (o, k, f, t, b)
+
 module _ (p : Parts) (l : Lawful p) where
   pub parts-of-packed : partsOf (idIn p) ≡ p
   unfolding partsOf
@@ -117,8 +120,7 @@ module _ (p : Parts) (l : Lawful p) where
   -- parts that the rows hold are as the rows hold them
   pub same-in-rows : inRows p ≡ p
   unfolding inRows
-  same-in-rows =
-      rw (mod-eq-of-lt (l .offset), mod-eq-of-lt (l .kind), mod-eq-of-lt (l .from), mod-eq-of-lt (l .to), mod-eq-of-lt (l .table))
+  same-in-rows = same-parts (omega (arith, l .offset)) (omega (arith, l .kind)) (omega (arith, l .from)) (omega (arith, l .to)) (omega (arith, l .table))
 
 pub in-rows-lawful : (p : Parts) → Lawful (inRows p)
 unfolding inRows

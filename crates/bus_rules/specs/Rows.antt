@@ -4,7 +4,7 @@ use mathlib.Core.Path.{_≡_}
 use mathlib.Core.List.{List, [], _∷_}
 use lib.ListN.{length, getD, take}
 use Rattle.bus_rules.specs.Ident.{Parts, row, inRows, packOf, unpackOf}
-use Rattle.bus_rules.specs.Frames.{Frame, content, buildOf}
+use Rattle.bus_rules.specs.Frames.{Frame, content, frameWith, buildOf}
 use Rattle.bus_rules.specs.Request.{Request, readRequestOf, requestBytesOf, request}
 use Rattle.bus_rules.specs.declared.Packed.{Packed}
 use Rattle.bus_rules.specs.declared.Packed.the-variants as P
@@ -46,11 +46,11 @@ ReadAfterWrite q r = r .number ≡ 0 → (a b c : ℕ) → r .bytes ≡ a ∷ b 
 abbrev pub WriteAfterRead : (a b c : ℕ) → RequestRead → Type 0
 WriteAfterRead a b c r = (q : Request) → r ≡ A.Is q → requestBytesOf q ≡ record { number = 0; bytes = a ∷ b ∷ c ∷ [] }
 
--- the frame that is built of parts and bytes: its identifier unpacks to the parts as the rows hold them, and is the one that they pack
--- into; its bytes are the first eight, then zeros
+-- the frame that is built of parts and bytes: its identifier unpacks to the parts as the rows hold them; of parts that pack it is the
+-- frame of their identifier; its bytes are the first eight, then zeros
 pub record Built (p : Parts) (bs : List ℕ) (f : Frame) : Type 0 where
   pub unpacks : unpackOf (f .id) ≡ U.Is (inRows p)
-  pub packed : (id : ℕ) → packOf p ≡ P.Is id → f .id ≡ id
+  pub packed : (id : ℕ) → packOf p ≡ P.Is id → f ≡ frameWith id (take 8 bs)
   pub content : content f ≡ take 8 bs
   pub eight : length (f .bytes) ≡ 8
   pub zeros : (i : ℕ) → f .len ≤ i → getD (f .bytes) i 0 ≡ 0

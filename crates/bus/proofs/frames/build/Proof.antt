@@ -5,11 +5,11 @@ use mathlib.Core.Path.{_≡_, sym, _∙_, ap, subst}
 use native.Mathlib.Omega.{arith}
 use lib.ListN.{length, take, length-take}
 use Rattle.bus_rules.specs.Ident.{idIn, inRows}
-use Rattle.bus_rules.specs.Frames.{buildOf}
+use Rattle.bus_rules.specs.Frames.{frameWith, buildOf}
 use Rattle.bus_rules.specs.declared.Frame.{Frame}
 use Rattle.bus_rules.specs.Rows.{Built}
 use Rattle.bus_rules.proofs.IdentLaws.{packed-small, in-rows-lawful}
-use Rattle.bus_rules.proofs.FrameLaws.{build-is}
+use Rattle.bus_rules.proofs.FrameLaws.{padded-take}
 use Rattle.bus_rules.proofs.RowTheorems.{row-theorems}
 
 -- the identifier is that of the parts in their rows
@@ -37,12 +37,13 @@ padded-requires : tie.Need-padded-requires
 padded-requires c κs = search needs
 
 returns : tie.Need-returns
+unfolding buildOf frameWith
 returns c =
     let a = c .before .before .before .before .before .args in
     let bs = a .bytes .now in
     let made : Frame = record { id = c .before .before .id-of .result; len = c .before .at-most-eight .result; bytes = c .padded .result } in
     let l : c .before .at-most-eight .result ≡ length (take 8 bs) = omega (arith, c .before .at-most-eight .ensures, length-take 8 bs) in
-    let e : made ≡ buildOf (a .p) bs = rw (build-is (a .p) bs, identifier (c .before .before), l, c .padded .ensures) in
+    let e : made ≡ buildOf (a .p) bs = rw (padded-take bs, identifier (c .before .before), l, c .padded .ensures) in
     (e, subst (Built (a .p) bs) (sym e) (row-theorems .built (a .p) bs))
 
 pub build-spec : {M : Type 1} → statement M

@@ -5,7 +5,7 @@ use mathlib.Core.Path.{_∙_}
 use native.Mathlib.Omega.{arith}
 use Rattle.bus_rules.specs.Holder.{replyTo, answerWith}
 use Rattle.bus_rules.proofs.IdentLaws.{Lawful}
-use Rattle.bus_rules.proofs.FrameLaws.{build-lawful}
+use Rattle.bus_rules.proofs.RowTheorems.{build-lawful}
 
 build-requires : tie.Need-build-requires
 build-requires c κs = search needs
