@@ -20,8 +20,8 @@ ghost use Prim.Native.Nat.{ℕ, _+_, _*_, _≤_, _<_};
 ghost use lib.ListN.{length, take, drop};
 ghost use Rattle.bus_rules.specs.Ident.{partsOf};
 ghost use Rattle.bus_rules.specs.Device.{Device, device, startOf, sizeOf, rightOf, totalOf, soundTables, directoryNumber, memoryNumber};
-ghost use Rattle.bus_rules.specs.Holder.{commandNumber, requestNumber, queryNumber, kindNumber, serveNumber, requestAt, tableOf, sizeAt, rightAt, noAnswer, replyTo};
-ghost use Rattle.bus_rules.specs.Holder.{placeOf, protocol, actOf, actAfter, serveOf, deviceAfter};
+ghost use Rattle.bus_rules.specs.Holder.{commandNumber, requestNumber, queryNumber, kindNumber, serveNumber, requestAt, tableOf, sizeAt, rightAt};
+ghost use Rattle.bus_rules.specs.Holder.{noAnswer, replyTo, placeOf, protocol, actOf, actAfter, serveOf, deviceAfter};
 ghost use Rattle.bus_rules.specs.Demand2.{Demand2};
 
 // A table: its start (the sum of the sizes before it), its size and its right.

@@ -14,7 +14,8 @@ use Rattle.bus_rules.specs.Ident.{idFrom, idKind, idOffset}
 use Rattle.bus_rules.specs.Frames.{Frame, cmd, req, xtnd, headNumber}
 use Rattle.bus_rules.specs.Device.{Device, device, ownOf, rangeOf, totalOf, memoryNumber}
 use Rattle.bus_rules.specs.Holder.{commandNumber, requestNumber, queryNumber, kindNumber, serveNumber, byteOf, requestAt, reservedAt}
-use Rattle.bus_rules.specs.Holder.{tableOf, sizeAt, rightAt, byKind, noAnswer, replyTo, placeOf, protocol, actOf, storing, actAfter, servedBy, afterBy, serveOf, deviceAfter}
+use Rattle.bus_rules.specs.Holder.{tableOf, sizeAt, rightAt, byKind, noAnswer, replyTo, placeOf, protocol, actOf, storing, actAfter}
+use Rattle.bus_rules.specs.Holder.{servedBy, afterBy, serveOf, deviceAfter}
 use Rattle.bus_rules.specs.Demand2.{SoundDirectory}
 use Rattle.bus_rules.proofs.IdentLaws.{table-small}
 use Rattle.bus_rules.proofs.Directories.{memory-zero, table-within}
