@@ -10,11 +10,12 @@ use lib.ListN.{length, take}
 use borrow.Author.Tests.{ltb-false, eqb-true, eqb-false, eq-eqb, ne-eqb}
 use Rattle.wire.specs.Order.{_if_else_}
 use Rattle.wire.proofs.Orders.{if-zero, else-zero}
-use Rattle.bus_rules.specs.Ident.{idKind, idOffset}
+use Rattle.bus_rules.specs.Ident.{idFrom, idKind, idOffset}
 use Rattle.bus_rules.specs.Frames.{Frame, cmd, req, xtnd, headNumber}
-use Rattle.bus_rules.specs.Device.{Device, device, ownOf, rangeOf, totalOf, sizeOf, rightOf, memoryNumber}
-use Rattle.bus_rules.specs.Holder.{commandNumber, requestNumber, queryNumber, kindNumber, serveNumber, byteOf, requestAt, reservedAt, tableOf, byKind}
-use Rattle.bus_rules.specs.Holder.{noAnswer, replyTo, placeOf, protocol, actOf, storing, actAfter, servedBy, afterBy, serveOf, deviceAfter}
+use Rattle.bus_rules.specs.Device.{Device, device, ownOf, rangeOf, totalOf, memoryNumber}
+use Rattle.bus_rules.specs.Holder.{commandNumber, requestNumber, queryNumber, kindNumber, serveNumber, byteOf, requestAt, reservedAt}
+use Rattle.bus_rules.specs.Holder.{tableOf, sizeAt, rightAt, byKind, noAnswer, replyTo, placeOf, protocol, actOf, storing, actAfter}
+use Rattle.bus_rules.specs.Holder.{servedBy, afterBy, serveOf, deviceAfter}
 use Rattle.bus_rules.specs.Demand2.{SoundDirectory}
 use Rattle.bus_rules.proofs.IdentLaws.{table-small}
 use Rattle.bus_rules.proofs.Directories.{memory-zero, table-within}
@@ -22,12 +23,12 @@ use Rattle.bus_rules.proofs.Directories.{memory-zero, table-within}
 -- ── Numbers by type ────────────────────────────────────────────────────────────────────────────────────────────────
 
 module _ (e : Device) (f : Frame) where
-  pub command-case : idKind (f .id) ≡ cmd → kindNumber e f ≡ commandNumber (f .len) (sizeOf (e .directory) (tableOf f)) (rightOf (e .directory) (tableOf f)) (idOffset (f .id))
+  pub command-case : idKind (f .id) ≡ cmd → kindNumber e f ≡ commandNumber (f .len) (sizeAt e f) (rightAt e f) (idOffset (f .id))
   unfolding kindNumber byKind
   command-case h = rw (eq-eqb _ _ h)
 
   pub request-case : idKind (f .id) ≡ req
-      → kindNumber e f ≡ requestNumber (f .len) (reservedAt f 0) (sizeOf (e .directory) (tableOf f)) (rightOf (e .directory) (tableOf f)) (idOffset (f .id)) (requestAt f 0 .count)
+      → kindNumber e f ≡ requestNumber (f .len) (reservedAt f 0) (sizeAt e f) (rightAt e f) (idOffset (f .id)) (requestAt f 0 .count)
   unfolding kindNumber byKind
   request-case h = rw (ne-eqb (idKind (f .id)) cmd (λ z. omega arith), eq-eqb _ _ h)
 
@@ -47,14 +48,14 @@ module _ (e : Device) (f : Frame) where
   act-command h = (rw (eq-eqb _ _ h), rw (eq-eqb _ _ h))
 
   pub act-request : idKind (f .id) ≡ req
-      → (actOf e f ≡ replyTo (ownOf e) f (requestAt f 0) (rangeOf e (tableOf f) (idOffset (f .id)) (requestAt f 0 .count))) × (actAfter e f ≡ e)
+      → (actOf e f ≡ replyTo (ownOf e) (idFrom (f .id)) (requestAt f 0) (rangeOf e (tableOf f) (idOffset (f .id)) (requestAt f 0 .count))) × (actAfter e f ≡ e)
   unfolding actOf actAfter byKind
   act-request h =
       let n = ne-eqb (idKind (f .id)) cmd (λ z. omega arith) in
       (rw (n, eq-eqb _ _ h), rw n)
 
   pub act-query : idKind (f .id) ≡ xtnd
-      → (actOf e f ≡ replyTo (ownOf e) f (requestAt f 1) (take (requestAt f 1 .count) (protocol (e .directory)))) × (actAfter e f ≡ e)
+      → (actOf e f ≡ replyTo (ownOf e) (idFrom (f .id)) (requestAt f 1) (take (requestAt f 1 .count) (protocol (e .directory)))) × (actAfter e f ≡ e)
   unfolding actOf actAfter byKind
   act-query h =
       let n = ne-eqb (idKind (f .id)) cmd (λ z. omega arith) in
@@ -138,18 +139,18 @@ accepted e f h =
 
 module _ (e : Device) (f : Frame) (a : Accepted e f) where
   -- a range of the addressed table lies within the memory
-  in-memory : (k : ℕ) → idOffset (f .id) + k ≤ sizeOf (e .directory) (tableOf f) → placeOf e f + k ≤ length (e .memory)
+  in-memory : (k : ℕ) → idOffset (f .id) + k ≤ sizeAt e f → placeOf e f + k ≤ length (e .memory)
   unfolding placeOf
   in-memory k h = omega (arith, table-within (e .directory) (tableOf f) (omega (arith, table-small (f .id))), a .total)
 
   pub command-fits : idKind (f .id) ≡ cmd
-      → (idOffset (f .id) + f .len ≤ sizeOf (e .directory) (tableOf f)) × (placeOf e f + f .len ≤ length (e .memory))
+      → (idOffset (f .id) + f .len ≤ sizeAt e f) × (placeOf e f + f .len ≤ length (e .memory))
   command-fits k =
       let r = command-zero _ _ _ _ (sym (command-case e f k) ∙ a .kind) in
       (r, in-memory (f .len) r)
 
   pub request-fits : idKind (f .id) ≡ req
-      → (requestAt f 0 .count ≤ 8) × (idOffset (f .id) + requestAt f 0 .count ≤ sizeOf (e .directory) (tableOf f))
+      → (requestAt f 0 .count ≤ 8) × (idOffset (f .id) + requestAt f 0 .count ≤ sizeAt e f)
       × (placeOf e f + requestAt f 0 .count ≤ length (e .memory))
   request-fits k =
       let r = request-zero _ _ _ _ _ _ (sym (request-case e f k) ∙ a .kind) in

@@ -10,20 +10,21 @@ use lib.ListN.{getD, take}
 use borrow.Author.Tests.{eqb-true, eqb-false, not-false}
 use Rattle.wire.specs.Order.{_if_else_}
 use Rattle.wire.proofs.Orders.{if-zero}
-use Rattle.bus_rules.specs.Ident.{idTable, idKind, idOffset}
+use Rattle.bus_rules.specs.Ident.{idTable, idFrom, idKind, idOffset}
 use Rattle.bus_rules.specs.Frames.{Frame, cmd, req, xtnd, content, headNumber}
 use Rattle.bus_rules.specs.Request.{Request}
 use Rattle.bus_rules.specs.Device.{Device, ownOf, rangeOf, sizeOf, rightOf}
-use Rattle.bus_rules.specs.Holder.{requestNumber, queryNumber, commandNumber, kindNumber, serveNumber, byteOf, requestAt, reservedAt, tableOf}
+use Rattle.bus_rules.specs.Holder.{requestNumber, queryNumber, commandNumber, kindNumber, serveNumber, byteOf, requestAt, reservedAt, sizeAt, rightAt}
 use Rattle.bus_rules.specs.Holder.{replyTo, placeOf, protocol, actOf, storing, actAfter, serveOf, deviceAfter}
 use Rattle.bus_rules.proofs.FrameLaws.{content-at}
-use Rattle.bus_rules.proofs.Cases.{Accepted, accepted, command-case, request-case, query-case, other-case, is-query, act-command, act-request, act-query, served-case, refused-case}
+use Rattle.bus_rules.proofs.Cases.{Accepted, accepted, command-case, request-case, query-case, other-case, is-query}
+use Rattle.bus_rules.proofs.Cases.{act-command, act-request, act-query, served-case, refused-case}
 
--- ── A length that is not the one asked for hides what follows ──────────────────────────────────────────────────────
+-- ── Where the length is not the one asked for, the bytes do not count ─────────────────────────────────────────────
 
-request-hides : (len : ℕ) (u v : Bool) (s r o a b : ℕ) → (len ≡ 3 → (u ≡ v) × (a ≡ b)) → requestNumber len u s r o a ≡ requestNumber len v s r o b
+request-by-length : (len : ℕ) (u v : Bool) (s r o a b : ℕ) → (len ≡ 3 → (u ≡ v) × (a ≡ b)) → requestNumber len u s r o a ≡ requestNumber len v s r o b
 unfolding requestNumber _if_else_
-request-hides len u v s r o a b h = go (eqb len 3) refl
+request-by-length len u v s r o a b h = go (eqb len 3) refl
   where
     go : (t : Bool) → eqb len 3 ≡ t
         → (6 if not (eqb len 3) else 6 if u else 7 if eqb s 0 else 7 if eqb r 0 else 9 if eqb a 0 else 9 if ltb 8 a else 8 if ltb s (o + a) else 0)
@@ -31,9 +32,9 @@ request-hides len u v s r o a b h = go (eqb len 3) refl
     go true e = let k = h (eqb-true len 3 e) in rw (k .0, k .1)
     go false e = rw e
 
-query-hides : (len x y : ℕ) (u v : Bool) (a b : ℕ) → (len ≢ 0 → x ≡ y) → (len ≡ 4 → (u ≡ v) × (a ≡ b)) → queryNumber len x u a ≡ queryNumber len y v b
+query-by-length : (len x y : ℕ) (u v : Bool) (a b : ℕ) → (len ≢ 0 → x ≡ y) → (len ≡ 4 → (u ≡ v) × (a ≡ b)) → queryNumber len x u a ≡ queryNumber len y v b
 unfolding queryNumber _if_else_
-query-hides len x y u v a b f h = go (eqb len 0) (eqb len 4) refl refl
+query-by-length len x y u v a b f h = go (eqb len 0) (eqb len 4) refl refl
   where
     go : (s t : Bool) → eqb len 0 ≡ s → eqb len 4 ≡ t
         → (6 if eqb len 0 else 5 if not (eqb x 0x80) else 6 if not (eqb len 4) else 6 if u else 0 if eqb a 1 else 0 if eqb a 5 else 9)
@@ -73,23 +74,27 @@ module _ (d : Device) (f g : Frame) (same-id : g .id ≡ f .id) (same-len : g .l
   some-length zero k = absurd (k refl)
   some-length (suc n) k = omega arith
 
-  request-number-same : requestNumber (g .len) (reservedAt g 0) (sizeOf (d .directory) (tableOf g)) (rightOf (d .directory) (tableOf g)) (idOffset (g .id)) (requestAt g 0 .count)
-      ≡ requestNumber (f .len) (reservedAt f 0) (sizeOf (d .directory) (tableOf f)) (rightOf (d .directory) (tableOf f)) (idOffset (f .id)) (requestAt f 0 .count)
+  request-number-same : requestNumber (g .len) (reservedAt g 0) (sizeAt d g) (rightAt d g) (idOffset (g .id)) (requestAt g 0 .count)
+      ≡ requestNumber (f .len) (reservedAt f 0) (sizeAt d f) (rightAt d f) (idOffset (f .id)) (requestAt f 0 .count)
   request-number-same =
-      ap₂ (λ (i l : ℕ). requestNumber l (reservedAt g 0) (sizeOf (d .directory) (idTable i)) (rightOf (d .directory) (idTable i)) (idOffset i) (requestAt g 0 .count)) same-id same-len
-      ∙ (request-hides (f .len) (reservedAt g 0) (reservedAt f 0) (sizeOf (d .directory) (tableOf f)) (rightOf (d .directory) (tableOf f)) (idOffset (f .id)) (requestAt g 0 .count) (requestAt f 0 .count)
-      (λ e. (reserved-same 0 (omega arith), ap (λ (q : Request). q .count) (request-same 0 (omega arith)))))
+      ap₂ (λ (i l : ℕ). requestNumber l (reservedAt g 0) (sizeOf (d .directory) (idTable i)) (rightOf (d .directory) (idTable i)) (idOffset i)
+      (requestAt g 0 .count)) same-id same-len
+      ∙ request-by-length (f .len) (reservedAt g 0) (reservedAt f 0) (sizeAt d f) (rightAt d f) (idOffset (f .id))
+      (requestAt g 0 .count) (requestAt f 0 .count)
+      (λ e. (reserved-same 0 (omega arith), ap (λ (q : Request). q .count) (request-same 0 (omega arith))))
 
-  query-same : queryNumber (g .len) (byteOf g 0) (reservedAt g 1) (requestAt g 1 .count) ≡ queryNumber (f .len) (byteOf f 0) (reservedAt f 1) (requestAt f 1 .count)
+  query-same : queryNumber (g .len) (byteOf g 0) (reservedAt g 1) (requestAt g 1 .count)
+      ≡ queryNumber (f .len) (byteOf f 0) (reservedAt f 1) (requestAt f 1 .count)
   query-same =
       ap (λ (l : ℕ). queryNumber l (byteOf g 0) (reservedAt g 1) (requestAt g 1 .count)) same-len
-      ∙ (query-hides (f .len) (byteOf g 0) (byteOf f 0) (reservedAt g 1) (reservedAt f 1) (requestAt g 1 .count) (requestAt f 1 .count)
+      ∙ query-by-length (f .len) (byteOf g 0) (byteOf f 0) (reservedAt g 1) (reservedAt f 1) (requestAt g 1 .count) (requestAt f 1 .count)
       (λ n. byte-same 0 (some-length (f .len) n))
-      (λ e. (reserved-same 1 (omega arith), ap (λ (q : Request). q .count) (request-same 1 (omega arith)))))
+      (λ e. (reserved-same 1 (omega arith), ap (λ (q : Request). q .count) (request-same 1 (omega arith))))
 
-  command-same : commandNumber (g .len) (sizeOf (d .directory) (tableOf g)) (rightOf (d .directory) (tableOf g)) (idOffset (g .id))
-      ≡ commandNumber (f .len) (sizeOf (d .directory) (tableOf f)) (rightOf (d .directory) (tableOf f)) (idOffset (f .id))
-  command-same = ap₂ (λ (i l : ℕ). commandNumber l (sizeOf (d .directory) (idTable i)) (rightOf (d .directory) (idTable i)) (idOffset i)) same-id same-len
+  command-same : commandNumber (g .len) (sizeAt d g) (rightAt d g) (idOffset (g .id))
+      ≡ commandNumber (f .len) (sizeAt d f) (rightAt d f) (idOffset (f .id))
+  command-same =
+      ap₂ (λ (i l : ℕ). commandNumber l (sizeOf (d .directory) (idTable i)) (rightOf (d .directory) (idTable i)) (idOffset i)) same-id same-len
 
   kind-same : kindNumber d g ≡ kindNumber d f
   kind-same = go (eqb (idKind (f .id)) cmd) (eqb (idKind (f .id)) req) (eqb (idKind (f .id)) xtnd) refl refl refl
@@ -121,7 +126,8 @@ module _ (d : Device) (f g : Frame) (same-id : g .id ≡ f .id) (same-len : g .l
   unfolding storing
   store-same = rw (place-same, same)
 
-  reply-same : (i : ℕ) (bs cs : List ℕ) → requestAt g i ≡ requestAt f i → bs ≡ cs → replyTo (ownOf d) g (requestAt g i) bs ≡ replyTo (ownOf d) f (requestAt f i) cs
+  reply-same : (i : ℕ) (bs cs : List ℕ) → requestAt g i ≡ requestAt f i → bs ≡ cs
+      → replyTo (ownOf d) (idFrom (g .id)) (requestAt g i) bs ≡ replyTo (ownOf d) (idFrom (f .id)) (requestAt f i) cs
   unfolding replyTo
   reply-same i bs cs e h = cc
 

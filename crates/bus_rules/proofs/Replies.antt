@@ -11,7 +11,8 @@ use Rattle.bus_rules.specs.Ident.{idOf, idFrom, idKind, idOffset}
 use Rattle.bus_rules.specs.Frames.{Frame, cmd, req, rsp, frameWith, padded}
 use Rattle.bus_rules.specs.Request.{request, requestOf}
 use Rattle.bus_rules.specs.Device.{Device, ownOf, rangeOf}
-use Rattle.bus_rules.specs.Holder.{Served, byteOf, requestAt, tableOf, serveNumber, noAnswer, answerWith, replyTo, actOf, actAfter, servedBy, serveOf, deviceAfter}
+use Rattle.bus_rules.specs.Holder.{Served, byteOf, requestAt, tableOf, serveNumber, noAnswer, answerWith, replyTo, actOf, actAfter}
+use Rattle.bus_rules.specs.Holder.{servedBy, serveOf, deviceAfter}
 use Rattle.bus_rules.proofs.Cases.{accepted, act-command, act-request, served-case}
 
 module _ (d : Device) (q g : Frame) (e : serveOf d q ≡ answerWith g) where

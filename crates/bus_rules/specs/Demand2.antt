@@ -11,7 +11,7 @@ use Rattle.bus_rules.specs.Ident.{idSpare, idTable, idTo, idFrom, idKind
 use Rattle.bus_rules.specs.Frames.{Frame, cmd, req, rsp, xtnd, content}
 use Rattle.bus_rules.specs.Request.{Request}
 use Rattle.bus_rules.specs.Device.{Directory, Device, SameTables, ownOf, sizeOf, rightOf, startOf, totalOf}
-use Rattle.bus_rules.specs.Holder.{Served, byteOf, requestAt, reservedAt, tableOf, placeOf, noAnswer, serveOf, deviceAfter}
+use Rattle.bus_rules.specs.Holder.{Served, byteOf, requestAt, reservedAt, tableOf, sizeAt, rightAt, placeOf, noAnswer, serveOf, deviceAfter}
 use Rattle.bus_rules.specs.declared.Unpacked.the-variants as U
 
 -- ── What a served frame does ───────────────────────────────────────────────────────────────────────────────────────
@@ -19,13 +19,14 @@ use Rattle.bus_rules.specs.declared.Unpacked.the-variants as U
 -- CMD: exactly the addressed bytes are set, all of them bytes of the addressed table, and no other byte of any table
 pub record CommandServed (e : Device) (f : Frame) (s : Served) (after : Device) : Type 0 where
   pub answer : s ≡ noAnswer 0
-  pub inTable : idOffset (f .id) + f .len ≤ sizeOf (e .directory) (tableOf f)
+  pub inTable : idOffset (f .id) + f .len ≤ sizeAt e f
   pub inMemory : placeOf e f + f .len ≤ length (e .memory)
   pub sameTables : SameTables e after
   pub sameLength : length (after .memory) ≡ length (e .memory)
   pub addressed : (i : ℕ) → i < f .len → getD (after .memory) (placeOf e f + i) 0 ≡ byteOf f i
   pub others : (j : ℕ) → (j < placeOf e f) ⊎ (placeOf e f + f .len ≤ j) → getD (after .memory) j 0 ≡ getD (e .memory) j 0
-  pub otherTables : (k i : ℕ) → k < 32 → i < sizeOf (e .directory) k → k ≢ tableOf f → getD (after .memory) (startOf (e .directory) k + i) 0 ≡ getD (e .memory) (startOf (e .directory) k + i) 0
+  pub otherTables : (k i : ℕ) → k < 32 → i < sizeOf (e .directory) k → k ≢ tableOf f
+      → getD (after .memory) (startOf (e .directory) k + i) 0 ≡ getD (e .memory) (startOf (e .directory) k + i) 0
 
 -- an answer frame: RSP to the sender, under the identifier asked for, with the count asked for, and zeros past it
 pub record Replied (e : Device) (f : Frame) (q : Request) (s : Served) : Type 0 where
@@ -40,7 +41,7 @@ pub record Replied (e : Device) (f : Frame) (q : Request) (s : Served) : Type 0 
 pub record RequestServed (e : Device) (f : Frame) (s : Served) (after : Device) : Type 0 where
   pub unchanged : after ≡ e
   pub reply : Replied e f (requestAt f 0) s
-  pub inTable : idOffset (f .id) + requestAt f 0 .count ≤ sizeOf (e .directory) (tableOf f)
+  pub inTable : idOffset (f .id) + requestAt f 0 .count ≤ sizeAt e f
   pub inMemory : placeOf e f + requestAt f 0 .count ≤ length (e .memory)
   pub asked : (i : ℕ) → i < requestAt f 0 .count → getD (s .frame .bytes) i 0 ≡ getD (e .memory) (placeOf e f + i) 0
 
@@ -50,7 +51,8 @@ pub record QueryServed (e : Device) (f : Frame) (s : Served) (after : Device) : 
   pub reply : Replied e f (requestAt f 1) s
   pub short : requestAt f 1 .count ≡ 1 → s .frame .bytes ≡ 2 ∷ 0 ∷ 0 ∷ 0 ∷ 0 ∷ 0 ∷ 0 ∷ 0 ∷ []
   pub long : requestAt f 1 .count ≡ 5 → s .frame .bytes
-      ≡ 2 ∷ e .directory .«table_blocking» / 256 ∷ e .directory .«table_blocking» % 256 ∷ e .directory .«write_blocking» / 256 ∷ e .directory .«write_blocking» % 256 ∷ 0 ∷ 0 ∷ 0 ∷ []
+      ≡ 2 ∷ e .directory .«table_blocking» / 256 ∷ e .directory .«table_blocking» % 256
+      ∷ e .directory .«write_blocking» / 256 ∷ e .directory .«write_blocking» % 256 ∷ 0 ∷ 0 ∷ 0 ∷ []
   pub noOther : (requestAt f 1 .count ≡ 1) ⊎ (requestAt f 1 .count ≡ 5)
 
 -- ── Which number ───────────────────────────────────────────────────────────────────────────────────────────────────
@@ -68,16 +70,16 @@ pub record SoundDirectory (d : Directory) : Type 0 where
 abbrev pub CommandNumber : Device → Frame → ℕ → Type 0
 CommandNumber e f =
     First (f .len ≡ 0) 6
-    (First ((sizeOf (e .directory) (tableOf f) ≡ 0) ⊎ (rightOf (e .directory) (tableOf f) ≢ 2)) 7
-    (First (sizeOf (e .directory) (tableOf f) < idOffset (f .id) + f .len) 8
+    (First ((sizeAt e f ≡ 0) ⊎ (rightAt e f ≢ 2)) 7
+    (First (sizeAt e f < idOffset (f .id) + f .len) 8
     Zero))
 
 abbrev pub RequestNumber : Device → Frame → ℕ → Type 0
 RequestNumber e f =
     Unless ((f .len ≡ 3) × (reservedAt f 0 ≡ false)) 6
-    (First ((sizeOf (e .directory) (tableOf f) ≡ 0) ⊎ (rightOf (e .directory) (tableOf f) ≡ 0)) 7
+    (First ((sizeAt e f ≡ 0) ⊎ (rightAt e f ≡ 0)) 7
     (Unless ((1 ≤ requestAt f 0 .count) × (requestAt f 0 .count ≤ 8)) 9
-    (First (sizeOf (e .directory) (tableOf f) < idOffset (f .id) + requestAt f 0 .count) 8
+    (First (sizeAt e f < idOffset (f .id) + requestAt f 0 .count) 8
     Zero)))
 
 abbrev pub QueryNumber : Frame → ℕ → Type 0

@@ -59,9 +59,15 @@ requestAt f i = requestOf (byteOf f i) (byteOf f (1 + i)) (byteOf f (2 + i))
 unfoldable pub reservedAt : Frame → ℕ → Bool
 reservedAt f i = reserved (byteOf f i) (byteOf f (2 + i))
 
--- the addressed table
+-- the addressed table, its size and its right
 abbrev pub tableOf : Frame → ℕ
 tableOf f = idTable (f .id)
+
+abbrev pub sizeAt : Device → Frame → ℕ
+sizeAt e f = sizeOf (e .directory) (tableOf f)
+
+abbrev pub rightAt : Device → Frame → ℕ
+rightAt e f = rightOf (e .directory) (tableOf f)
 
 -- by a frame's type: CMD, REQ, XTND, or another
 unfoldable pub byKind : {A : Type 0} → ℕ → A → A → A → A → A
@@ -71,9 +77,8 @@ byKind k c r x other = cond (eqb k cmd) c (cond (eqb k req) r (cond (eqb k xtnd)
 unfoldable pub kindNumber : Device → Frame → ℕ
 kindNumber e f =
     byKind (idKind (f .id))
-    (commandNumber (f .len) (sizeOf (e .directory) (tableOf f)) (rightOf (e .directory) (tableOf f)) (idOffset (f .id)))
-    (requestNumber (f .len) (reservedAt f 0) (sizeOf (e .directory) (tableOf f)) (rightOf (e .directory) (tableOf f)) (idOffset (f .id))
-    (requestAt f 0 .count))
+    (commandNumber (f .len) (sizeAt e f) (rightAt e f) (idOffset (f .id)))
+    (requestNumber (f .len) (reservedAt f 0) (sizeAt e f) (rightAt e f) (idOffset (f .id)) (requestAt f 0 .count))
     (queryNumber (f .len) (byteOf f 0) (reservedAt f 1) (requestAt f 1 .count))
     5
 
@@ -91,9 +96,9 @@ noAnswer n = record { number = n; answers = 0; frame = noFrame }
 unfoldable pub answerWith : Frame → Served
 answerWith f = record { number = 0; answers = 1; frame = f }
 
--- answers RSP to the sender, with the reply table and offset asked for, and these bytes
-unfoldable pub replyTo : (own : ℕ) → Frame → Request → List ℕ → Served
-replyTo own f q bs = answerWith (frameWith (idOf (q .offset) rsp own (idFrom (f .id)) (q .table)) bs)
+-- answers RSP, with the reply table and offset asked for, and these bytes
+unfoldable pub replyTo : (own to : ℕ) → Request → List ℕ → Served
+replyTo own to q bs = answerWith (frameWith (idOf (q .offset) rsp own to (q .table)) bs)
 
 -- where the frame's offset lies in memory
 unfoldable pub placeOf : Device → Frame → ℕ
@@ -103,13 +108,13 @@ placeOf e f = startOf (e .directory) (tableOf f) + idOffset (f .id)
 unfoldable pub protocol : Directory → List ℕ
 protocol d = 2 ∷ (beBytes 2 (d .«table_blocking») ++ beBytes 2 (d .«write_blocking»))
 
--- of a frame that is not refused: the answer, and the device after it. (Another type is refused with 5 before.)
+-- of a frame that is not refused: the answer, to the sender, and the device after it. (Another type is refused with 5 before.)
 unfoldable pub actOf : Device → Frame → Served
 actOf e f =
     byKind (idKind (f .id))
     (noAnswer 0)
-    (replyTo (ownOf e) f (requestAt f 0) (rangeOf e (tableOf f) (idOffset (f .id)) (requestAt f 0 .count)))
-    (replyTo (ownOf e) f (requestAt f 1) (take (requestAt f 1 .count) (protocol (e .directory))))
+    (replyTo (ownOf e) (idFrom (f .id)) (requestAt f 0) (rangeOf e (tableOf f) (idOffset (f .id)) (requestAt f 0 .count)))
+    (replyTo (ownOf e) (idFrom (f .id)) (requestAt f 1) (take (requestAt f 1 .count) (protocol (e .directory))))
     (noAnswer 0)
 
 -- CMD stores the bytes at the offset

@@ -1,6 +1,6 @@
 use borrow.Author.Needs.{needs}
-use Rattle.bus.proofs.rows.request_of.Statement.{statement}
-use Rattle.bus.proofs.rows.request_of.Tie as tie
+use Rattle.bus.proofs.requests.request_of.Statement.{statement}
+use Rattle.bus.proofs.requests.request_of.Tie as tie
 use mathlib.Core.Path.{refl}
 use native.Mathlib.Omega.{arith}
 use Rattle.bus_rules.specs.Request.{requestOf}

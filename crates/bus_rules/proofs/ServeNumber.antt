@@ -125,7 +125,8 @@ module _ (e : Device) (f : Frame) where
 module _ (e : Device) (f : Frame) where
   -- the four parts of the order as one chain
   whole : serveNumber e f
-      ≡ (11 if not (soundDirectory (e .directory)) else 10 if not (eqb (length (e .memory)) (totalOf (e .directory))) else 1 if leb (2 ^ 29) (f .id) else 2 if not (eqb (idSpare (f .id)) 0)
+      ≡ (11 if not (soundDirectory (e .directory)) else 10 if not (eqb (length (e .memory)) (totalOf (e .directory)))
+      else 1 if leb (2 ^ 29) (f .id) else 2 if not (eqb (idSpare (f .id)) 0)
       else 3 if ltb 8 (f .len) else 4 if not (eqb (idTo (f .id)) (ownOf e)) else kindNumber e f)
   unfolding serveNumber memoryNumber directoryNumber lengthNumber headNumber
   whole = rw (if-orElse, zero-orElse, if-orElse, if-orElse, zero-orElse, if-orElse, if-orElse, if-orElse, if-orElse, zero-orElse)

@@ -1,5 +1,5 @@
-use Rattle.bus.proofs.rows.unpack_number.Statement.{statement}
-use Rattle.bus.proofs.rows.unpack_number.Tie as tie
+use Rattle.bus.proofs.ident.unpack_number.Statement.{statement}
+use Rattle.bus.proofs.ident.unpack_number.Tie as tie
 use Rattle.bus_rules.specs.Ident.{unpackNumber}
 use Rattle.bus_rules.proofs.IdentLaws.{spare-is}
 use Rattle.wire.proofs.Orders.{order}

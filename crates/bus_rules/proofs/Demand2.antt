@@ -13,14 +13,15 @@ use Rattle.bus_rules.specs.Ident.{idFrom, idKind, idOffset}
 use Rattle.bus_rules.specs.Frames.{Frame, cmd, req, rsp, xtnd, padded, content, frameWith}
 use Rattle.bus_rules.specs.Request.{Request, requestOf}
 use Rattle.bus_rules.specs.Device.{Device, device, ownOf, rangeOf, startOf, sizeOf}
-use Rattle.bus_rules.specs.Holder.{Served, serveNumber, byteOf, requestAt, tableOf, noAnswer, answerWith, replyTo, placeOf, protocol}
+use Rattle.bus_rules.specs.Holder.{Served, serveNumber, byteOf, requestAt, tableOf, sizeAt, noAnswer, answerWith, replyTo, placeOf, protocol}
 use Rattle.bus_rules.specs.Holder.{byKind, actOf, storing, servedBy, serveOf, deviceAfter}
 use Rattle.bus_rules.specs.Demand2.{CommandServed, Replied, RequestServed, QueryServed, ServeNumber, Demand2}
 use Rattle.bus_rules.specs.declared.Unpacked.the-variants as U
 use Rattle.bus_rules.proofs.IdentLaws.{unpack-id, from-small}
 use Rattle.bus_rules.proofs.FrameLaws.{padded-length, padded-in, padded-after, content-length, content-at, head-short, part-length}
-use Rattle.bus_rules.proofs.Cases.{Accepted, accepted, command-fits, request-fits, query-fits, act-command, act-request, act-query, served-case, refused-case}
-use Rattle.bus_rules.proofs.Numbers.{serve-numbers}
+use Rattle.bus_rules.proofs.Cases.{Accepted, accepted, command-fits, request-fits, query-fits}
+use Rattle.bus_rules.proofs.Cases.{act-command, act-request, act-query, served-case, refused-case}
+use Rattle.bus_rules.proofs.ServeNumber.{serve-numbers}
 use Rattle.bus_rules.proofs.Directories.{table-apart}
 use Rattle.bus_rules.proofs.Ignored.{ignored}
 
@@ -36,7 +37,7 @@ module _ (d : Device) (f : Frame) (q : Request) (bs : List ℕ) (own : ownOf d �
   short : length bs ≤ 8
   short = omega arith
 
-  pub replied : Replied d f q (replyTo (ownOf d) f q bs)
+  pub replied : Replied d f q (replyTo (ownOf d) (idFrom (f .id)) q bs)
   unfolding replyTo answerWith frameWith
   replied =
       record {
@@ -49,11 +50,11 @@ module _ (d : Device) (f : Frame) (q : Request) (bs : List ℕ) (own : ownOf d �
         zeros = λ i l. padded-after bs short i (omega arith);
       }
 
-  pub reply-bytes : (i : ℕ) → i < q .count → getD (replyTo (ownOf d) f q bs .frame .bytes) i 0 ≡ getD bs i 0
+  pub reply-bytes : (i : ℕ) → i < q .count → getD (replyTo (ownOf d) (idFrom (f .id)) q bs .frame .bytes) i 0 ≡ getD bs i 0
   unfolding replyTo answerWith frameWith
   reply-bytes i l = padded-in bs short i (omega arith)
 
-  pub reply-padded : replyTo (ownOf d) f q bs .frame .bytes ≡ padded bs
+  pub reply-padded : replyTo (ownOf d) (idFrom (f .id)) q bs .frame .bytes ≡ padded bs
   unfolding replyTo answerWith frameWith
   reply-padded = refl
 
@@ -72,7 +73,7 @@ module _ (d : Device) (f : Frame) (w : IsFrame f)
   ok : Accepted d f
   ok = accepted d f z
 
-  apart-place : (k i : ℕ) → i < sizeOf (d .directory) k → k ≢ tableOf f → idOffset (f .id) + f .len ≤ sizeOf (d .directory) (tableOf f)
+  apart-place : (k i : ℕ) → i < sizeOf (d .directory) k → k ≢ tableOf f → idOffset (f .id) + f .len ≤ sizeAt d f
       → (startOf (d .directory) k + i < placeOf d f) ⊎ (placeOf d f + f .len ≤ startOf (d .directory) k + i)
   unfolding placeOf
   apart-place k i h n t = table-apart (d .directory) k (tableOf f) i (idOffset (f .id)) (f .len) h t n
@@ -113,7 +114,7 @@ module _ (d : Device) (f : Frame) (w : IsFrame f)
       let r = request-fits d f ok k in
       let q = requestAt f 0 in
       let bs = rangeOf d (tableOf f) (idOffset (f .id)) (q .count) in
-      let e : serveOf d f ≡ replyTo (ownOf d) f q bs = s .0 ∙ a .0 in
+      let e : serveOf d f ≡ replyTo (ownOf d) (idFrom (f .id)) q bs = s .0 ∙ a .0 in
       let l = range-length (q .count) (r .2) in
       let t = request-small f w 0 (omega arith) in
       record {
@@ -139,7 +140,8 @@ module _ (d : Device) (f : Frame) (w : IsFrame f)
 
   -- a factor is 16 bits wide
   five-bytes : d .directory .«table_blocking» < 65536 → d .directory .«write_blocking» < 65536 → padded (take 5 (protocol (d .directory)))
-      ≡ 2 ∷ d .directory .«table_blocking» / 256 ∷ d .directory .«table_blocking» % 256 ∷ d .directory .«write_blocking» / 256 ∷ d .directory .«write_blocking» % 256 ∷ 0 ∷ 0 ∷ 0 ∷ []
+      ≡ 2 ∷ d .directory .«table_blocking» / 256 ∷ d .directory .«table_blocking» % 256
+      ∷ d .directory .«write_blocking» / 256 ∷ d .directory .«write_blocking» % 256 ∷ 0 ∷ 0 ∷ 0 ∷ []
   unfolding padded protocol
   five-bytes t w =
       let e : d .directory .«table_blocking» / 256 % 256 ≡ d .directory .«table_blocking» / 256 = omega arith in
@@ -155,7 +157,7 @@ module _ (d : Device) (f : Frame) (w : IsFrame f)
       bs : List ℕ
       bs = take (q .count) (protocol (d .directory))
 
-      e : serveOf d f ≡ replyTo (ownOf d) f q bs
+      e : serveOf d f ≡ replyTo (ownOf d) (idFrom (f .id)) q bs
       e = served-case d f z .0 ∙ act-query d f k .0
 
       go : (q .count ≡ 1) ⊎ (q .count ≡ 5) → QueryServed d f (serveOf d f) (deviceAfter d f)
@@ -179,8 +181,12 @@ module _ (d : Device) (f : Frame) where
   unfolding actOf byKind replyTo answerWith noAnswer
   act-zero = go (eqb (idKind (f .id)) cmd) (eqb (idKind (f .id)) req) (eqb (idKind (f .id)) xtnd)
     where
-      go : (a b c : Bool) → (cond a (noAnswer 0) (cond b (replyTo (ownOf d) f (requestAt f 0) (rangeOf d (tableOf f) (idOffset (f .id)) (requestAt f 0 .count)))
-          (cond c (replyTo (ownOf d) f (requestAt f 1) (take (requestAt f 1 .count) (protocol (d .directory)))) (noAnswer 0)))) .number ≡ 0
+      to : ℕ
+      to = idFrom (f .id)
+
+      go : (a b c : Bool) → (cond a (noAnswer 0) (cond b
+          (replyTo (ownOf d) to (requestAt f 0) (rangeOf d (tableOf f) (idOffset (f .id)) (requestAt f 0 .count)))
+          (cond c (replyTo (ownOf d) to (requestAt f 1) (take (requestAt f 1 .count) (protocol (d .directory)))) (noAnswer 0)))) .number ≡ 0
       go true b c = refl
       go false true c = refl
       go false false true = refl

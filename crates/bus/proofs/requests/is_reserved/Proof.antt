@@ -1,5 +1,5 @@
-use Rattle.bus.proofs.rows.is_reserved.Statement.{statement}
-use Rattle.bus.proofs.rows.is_reserved.Tie as tie
+use Rattle.bus.proofs.requests.is_reserved.Statement.{statement}
+use Rattle.bus.proofs.requests.is_reserved.Tie as tie
 use mathlib.Core.Path.{refl}
 use Rattle.bus_rules.specs.Request.{reserved}
 
