@@ -149,8 +149,8 @@ pub fn in_layout(file: &[u8], header: &Header) -> bool {
 /// A block is either data, a mark, the end, or a refusal (`Err`).
 #[derive(Clone, Debug, PartialEq, Eq)]
 pub enum Block {
-    Data { counter: u8, right: bool, time: u16, start: usize, count: usize },
-    Mark { counter: u8, right: bool, time: u16, start: usize, count: usize },
+    Data { counter: u8, as_expected: bool, time: u16, start: usize, count: usize },
+    Mark { counter: u8, as_expected: bool, time: u16, start: usize, count: usize },
     End,
 }
 
@@ -171,18 +171,18 @@ pub fn read_block(file: &[u8], size: u16, earlier: u64, place: usize) -> Result<
         return Err(20);
     }
     let counter = rest[1];
-    let right = counter as u64 == earlier % 255;
+    let as_expected = counter as u64 == earlier % 255;
     let time = be16(rest, 2);
     let start = place + 4;
     if rest[0] == 1 {
         let text = zero_ended(&rest[4..54]).ok_or(28)?;
-        return Ok(Block::Mark { counter, right, time, start, count: text.len() });
+        return Ok(Block::Mark { counter, as_expected, time, start, count: text.len() });
     }
     let record = &rest[4..4 + size as usize];
     if rest[length - 1] != sum(record) {
         return Err(26);
     }
-    Ok(Block::Data { counter, right, time, start, count: record.len() })
+    Ok(Block::Data { counter, as_expected, time, start, count: record.len() })
 }
 
 /// The length of a block that was read.
