@@ -15,7 +15,11 @@ pub extern "C" fn hg_bridge_turn_in_place(b: &mut Bridge, buffer: &[u8]) -> Yiel
 }
 
 #[no_mangle]
-pub extern "C" fn hg_bridge_frame_in_place(b: &mut Bridge, buffer: &mut [u8], frame: bus::Frame) -> Yielded
+pub extern "C" fn hg_bridge_frame_in_place(
+    b: &mut Bridge,
+    buffer: &mut [u8],
+    frame: bus::Frame,
+) -> Yielded
     ensures { λ r. ⌜ (r ≡ steppedOf (frameOf (now (b .entry)) (now (buffer .entry)) frame) .answer) × ((now (b .exit) ≡ steppedOf (frameOf (now (b .entry)) (now (buffer .entry)) frame) .bridge) × (now (buffer .exit) ≡ frameOf (now (b .entry)) (now (buffer .entry)) frame .buffer)) ⌝ }
 {
     bridge::in_place::frame_in_place(b, buffer, frame)

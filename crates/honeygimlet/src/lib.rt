@@ -1,9 +1,9 @@
 // The C library: each entry is one call of the crates below it, with that call's promise. An answer enum goes out as a struct.
+pub mod bridge_entries;
+pub mod bridge_in_place;
 pub mod bus_entries;
 pub mod frd_entries;
-pub mod bridge_in_place;
 pub mod mlg_entries;
-pub mod bridge_entries;
 pub mod value_entries;
 
 ghost use mathlib.Core.Path.{_≡_};

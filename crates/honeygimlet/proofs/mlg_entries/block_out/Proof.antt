@@ -18,7 +18,10 @@ no-block-requires : tie.Need-no-block-requires
 no-block-requires c κs = search needs
 
 returns : tie.Need-returns
-returns c = c .no-block .ensures ∙ ap (mlgBlock (c .before .before .before .before .args .size)) (mlg-end (c .before .before .before .before .args .b) (c .before .before .before .match .keys2) (c .before .before .match2 .keys2) (c .before .match3 .keys2))
+returns c =
+    c .no-block .ensures ∙ ap (mlgBlock (c .before .before .before .before .args .size))
+    (mlg-end (c .before .before .before .before .args .b) (c .before .before .before .match .keys2) (c .before .before .match2 .keys2)
+    (c .before .match3 .keys2))
 
 no-block-requires-2 : tie.Need-no-block-requires-2
 no-block-requires-2 c κs = search needs

@@ -18,7 +18,9 @@ enum-known-v-2 : tie.Need-enum-known-v-2
 enum-known-v-2 c = search needs
 
 returns : tie.Need-returns
-returns c = ap (λ (z : ℤ). rawOut (Is z)) (toZ-ofZ w64 (c .before .v .given .0 .0) (search needs)) ∙ ap rawOut (sym (c .before .v .given .1) ∙ c .before .before .before .raw-value .ensures .0)
+returns c =
+    ap (λ (z : ℤ). rawOut (Is z)) (toZ-ofZ w64 (c .before .v .given .0 .0) (search needs))
+    ∙ ap rawOut (sym (c .before .v .given .1) ∙ c .before .before .before .raw-value .ensures .0)
 
 returns-2 : tie.Need-returns-2
 returns-2 c = ap rawOut (sym (c .before .v2 .given .1) ∙ c .before .before .before .raw-value .ensures .0)
