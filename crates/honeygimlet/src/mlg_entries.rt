@@ -17,8 +17,8 @@ ghost use Rattle.mlg_rules.specs.Block.{counterAfter, readBlockOf};
 ghost use Rattle.mlg_rules.specs.Log.{countBlocksOf};
 ghost use Rattle.mlg_rules.specs.Parts.{fieldSpanOf, namesSpanOf, infoSpanOf};
 ghost use Rattle.mlg_rules.specs.Writing.{headerBytes, writeHeaderNumber, dataBytes, markBytes, writeDataNumber, writeMarkNumber};
-ghost use Rattle.listing.specs.Listing.{listingOf, listingNumber};
-ghost use Rattle.listing.specs.Most.{longest};
+ghost use Rattle.listing_rules.specs.Listing.{listOf, listNumber};
+ghost use Rattle.listing_rules.specs.Longest.{longest};
 ghost use Rattle.honeygimlet.specs.Answers.{mlgHeader, noMlgBlock, foundMlgBlock, mlgBlock};
 
 #[no_mangle]
@@ -189,9 +189,9 @@ pub extern "C" fn hg_mlg_write_mark(
 // The listing of a file.
 #[no_mangle]
 pub extern "C" fn hg_mlg_list(out: &mut [u8], file: &[u8]) -> wire::Written
-    ensures { λ r. ⌜ (r ≡ wrote (listingNumber (now (file .entry)) (length (now (out .entry)))) (listingOf (now (file .entry))))
-        × (now (out .exit) ≡ leaves (listingNumber (now (file .entry)) (length (now (out .entry)))) (listingOf (now (file .entry))) (now (out .entry))) ⌝ }
-    ensures { λ r. ⌜ length (listingOf (now (file .entry))) ≤ longest ⌝ }
+    ensures { λ r. ⌜ (r ≡ wrote (listNumber (now (file .entry)) (length (now (out .entry)))) (listOf (now (file .entry))))
+        × (now (out .exit) ≡ leaves (listNumber (now (file .entry)) (length (now (out .entry)))) (listOf (now (file .entry))) (now (out .entry))) ⌝ }
+    ensures { λ r. ⌜ length (listOf (now (file .entry))) ≤ longest ⌝ }
 {
     listing::list(out, file)
 }

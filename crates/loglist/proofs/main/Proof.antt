@@ -53,7 +53,7 @@ part-write-all-start : tie.Need-part-write-all-start
 part-write-all-start c = search needs
 
 part-write-all-end : tie.Need-part-write-all-end
-part-write-all-end c = omega (arith, c .before .listing-of .ensures .0)
+part-write-all-end c = omega (arith, c .before .listing-of .ensures .0 .0)
 
 write-all-requires-2 : tie.Need-write-all-requires-2
 write-all-requires-2 c κs = search needs
