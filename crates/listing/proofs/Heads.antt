@@ -18,8 +18,8 @@ use Rattle.mlg_rules.specs.Fields.{fieldNumber, fieldsNumber, sizes}
 use Rattle.mlg_rules.specs.Header.{numbersOf, fieldsEnd, lastNumber, bodyNumber, fieldsFrom, areaIn, readHeaderNumber, readHeaderOf}
 use Rattle.mlg_rules.specs.declared.Header.{Header}
 use Rattle.mlg_rules.specs.declared.Head.the-variants.{Is, Refused}
-use Rattle.mlg_rules.proofs.Places.{Placed}
-use Rattle.mlg_rules.proofs.Spans.{placed-in}
+use Rattle.mlg_rules.proofs.HeaderLaws.{Placed}
+use Rattle.mlg_rules.proofs.SpanLaws.{placed-in}
 use Rattle.listing.specs.Stands.{Valued}
 
 pub header-stands : (f : List ℕ) (h : Header) → readHeaderOf f ≡ Is h → (readHeaderNumber f ≡ 0) × (numbersOf f ≡ h)

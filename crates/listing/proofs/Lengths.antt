@@ -18,13 +18,13 @@ use Rattle.wire.proofs.Orders.{if-zero, else-zero}
 use Rattle.mlg_rules.specs.Types.{sizeOf}
 use Rattle.mlg_rules.specs.Field.{typeOf, fieldSize, typeNumber}
 use Rattle.mlg_rules.specs.Raw.{valueFieldNumber, valueNumber, rawOf}
-use Rattle.mlg_rules.proofs.Raws.{sized, raw-below}
+use Rattle.mlg_rules.proofs.RawLaws.{sized, raw-below}
 use Rattle.mlg_rules.specs.Block.{blockLen}
 use Rattle.mlg_rules.specs.Log.{lengthOf}
 use Rattle.mlg_rules.specs.declared.Block.{Block}
 use Rattle.mlg_rules.specs.declared.Block.the-variants.{Data, Mark, End, Refused}
 use Rattle.mlg_rules.proofs.Block.{the-type}
-use Rattle.mlg_rules.proofs.Logs.{Goes}
+use Rattle.mlg_rules.proofs.LogLaws.{IsBlock}
 use Rattle.listing.specs.Text.{digit, digits, decimal, integer}
 use Rattle.listing.specs.Lines.{valueText}
 use Rattle.listing.specs.Most.{mostOf}
@@ -85,7 +85,7 @@ value-short v d b e g =
     omega arith
 
 -- a block's line by its bytes, and the line that ends a list
-pub goes-most : (l : ℕ) (b : Block) → Goes b → mostOf l b ≤ 5 * lengthOf l b
+pub goes-most : (l : ℕ) (b : Block) → IsBlock b → mostOf l b ≤ 5 * lengthOf l b
 unfolding lengthOf blockLen
 goes-most l (Data c m s r) g = omega arith
 goes-most l (Mark c m s k r) g = omega arith

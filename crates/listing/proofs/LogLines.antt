@@ -20,9 +20,9 @@ use Rattle.mlg_rules.specs.declared.Head.the-variants.{Is}
 use Rattle.mlg_rules.specs.declared.Block.{Block}
 use Rattle.mlg_rules.specs.declared.Block.the-variants.{Data, Mark, End, Refused}
 use Rattle.mlg_rules.proofs.Block.{the-type}
-use Rattle.mlg_rules.proofs.Logs as logs
-use Rattle.mlg_rules.proofs.Logs.{Goes, Next, log-end, log-refused, log-go, stands-at}
-use Rattle.mlg_rules.proofs.Tallies.{at-fits}
+use Rattle.mlg_rules.proofs.LogLaws as logs
+use Rattle.mlg_rules.proofs.LogLaws.{IsBlock, Next, log-end, log-refused, log-more, stands-at}
+use Rattle.mlg_rules.proofs.TallyLaws.{at-fits}
 use Rattle.listing.specs.Lines.{blockLine, blockLines}
 use Rattle.listing.specs.Listing.{logLines}
 use Rattle.listing.specs.Stands.{Stands}
@@ -39,12 +39,12 @@ module _ (h : Header) (f : List ℕ) where
   unfolding logLines
   lines-stop n at b log e = let z : n + 0 ≡ n = omega arith in rw (e, z)
 
-  pub block-next : (k n at : ℕ) (b : Block) → (k ≡ 0 → ⊥) → readBlockOf (h .size) n f at ≡ b → Goes b
+  pub block-next : (k n at : ℕ) (b : Block) → (k ≡ 0 → ⊥) → readBlockOf (h .size) n f at ≡ b → IsBlock b
       → logLines h f n (logFrom k (h .size) n f at) ≡ blockLine h f n b ++ logLines h f (n + 1) (logFrom (k - 1) (h .size) (n + 1) f (at + lengthOf (h .size) b))
   block-next zero n at b z e g = absurd (z refl)
   block-next (suc k) n at b z e g =
       let q : suc k - 1 ≡ k = omega arith in
-      rw q (lines-next n _ _ at b (log-go k (h .size) n f at b e g))
+      rw q (lines-next n _ _ at b (log-more k (h .size) n f at b e g))
 
   pub block-last : (k n at : ℕ) (b : Block) → (k ≡ 0 → ⊥) → readBlockOf (h .size) n f at ≡ b → OneOf (2 ∷ 3 ∷ []) (tagOf the-type b)
       → logLines h f n (logFrom k (h .size) n f at) ≡ blockLine h f n b
@@ -71,12 +71,12 @@ module _ (h : Header) (f : List ℕ) where
       let s : textLen (textIn t) ≤ 50 = omega (arith, text-most (textIn t), take-length-le 50 (drop 4 t)) in
       (omega arith, s)
 
-  stands-by : readHeaderOf f ≡ Is h → (n at : ℕ) (b : Block) → logs.Stands (h .size) n f at b → at + lengthOf (h .size) b ≤ length f → Goes b → Stands h f b
+  stands-by : readHeaderOf f ≡ Is h → (n at : ℕ) (b : Block) → logs.Stands (h .size) n f at b → at + lengthOf (h .size) b ≤ length f → IsBlock b → Stands h f b
   stands-by e n at b (logs.a-block p some num q) i g = rw q (parts-stand e _ _ at _ (rw q at i))
   stands-by e n at b (logs.the-end p q) i g = absurd (rw q at g)
   stands-by e n at b (logs.refused m q) i g = absurd (rw q at g)
 
-  pub block-stands : readHeaderOf f ≡ Is h → (n at : ℕ) (b : Block) → readBlockOf (h .size) n f at ≡ b → Goes b → Stands h f b
+  pub block-stands : readHeaderOf f ≡ Is h → (n at : ℕ) (b : Block) → readBlockOf (h .size) n f at ≡ b → IsBlock b → Stands h f b
   block-stands e n at b q g = stands-by e n at b (rw q at (stands-at (h .size) n f at)) (at-fits (h .size) n f at b q g) g
 
   pub end-stands : (b : Block) → OneOf (2 ∷ 3 ∷ []) (tagOf the-type b) → Stands h f b

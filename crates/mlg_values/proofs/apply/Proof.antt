@@ -6,7 +6,7 @@ use native.Mathlib.Omega.{arith}
 use borrow.Author.Tests.{not-true, not-false}
 use Rattle.mlg_rules.specs.Shown.{applyOf}
 use Rattle.wire.proofs.Answers.{refuses, stands}
-use Rattle.mlg_rules.proofs.Scalings.{by-sum, by-product, all-finite, apply-means}
+use Rattle.mlg_rules.proofs.ShownLaws.{by-sum, by-product, all-finite, apply-means}
 use Rattle.mlg_rules.specs.declared.ShownValue.the-variants as S
 
 is-finite-requires : tie.Need-is-finite-requires

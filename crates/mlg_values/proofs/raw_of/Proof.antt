@@ -7,8 +7,8 @@ use lib.IntN.{pos}
 use mir.Syntax.{w64}
 use mir.ValLaws.{toZ-ofZ, toZ-pos}
 use Rattle.mlg_rules.specs.Types.{sizeOf}
-use Rattle.mlg_rules.proofs.Types.{size-at, size-plain}
-use Rattle.mlg_rules.proofs.Raws.{raw-signed, raw-plain, whole, single}
+use Rattle.mlg_rules.proofs.TypeLaws.{size-at, size-plain}
+use Rattle.mlg_rules.proofs.RawLaws.{raw-signed, raw-plain, whole, single}
 use Rattle.mlg_rules.specs.Raw.{signedType}
 
 byte-at-requires : tie.Need-byte-at-requires

@@ -7,7 +7,7 @@ use lib.Ieee.{binary32, ofInt}
 use mir.Syntax.{w64}
 use mir.ValLaws.{toZ-ofZ}
 use Rattle.mlg_rules.specs.Shown.{applyOf}
-use Rattle.mlg_rules.proofs.Raws.{raw-small}
+use Rattle.mlg_rules.proofs.RawLaws.{raw-small}
 
 raw-of-requires : tie.Need-raw-of-requires
 raw-of-requires c κs = search needs

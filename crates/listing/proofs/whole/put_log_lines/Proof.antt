@@ -12,7 +12,7 @@ use mathlib.Core.Path.{_≡_, refl, sym, _∙_, ap}
 use Prim.Native.Nat.{_≤_, _<_, _+_, _*_, _^_}
 use lib.ListN.{length}
 use Rattle.mlg_rules.specs.Log.{logFrom, logOf}
-use Rattle.mlg_rules.proofs.Tallies.{at-fits, goes-by}
+use Rattle.mlg_rules.proofs.TallyLaws.{at-fits, tag-block}
 use Rattle.listing.specs.Listing.{logLines}
 use Rattle.listing.proofs.Putting.{puts-as, Completes, whole-as, onward}
 use Rattle.listing.proofs.LogLines.{block-next, block-last, block-none, log-all, block-stands, end-stands}
@@ -45,13 +45,13 @@ returns : tie.Need-returns Inv-loop μ-loop
 returns c = (c .before .before .before .before .before .before .before .loop .inv .5 _ _ (puts-as _ (sym (block-last (c .before .before .before .before .before .before .before .before .before .before .before .args .h) (c .before .before .before .before .before .before .before .before .before .before .before .args .file .now) (c .before .before .before .before .before .before .before .loop .left) (c .before .before .before .before .before .before .before .loop .n) (c .before .before .before .before .before .before .before .loop .place) (c .before .before .before .before .before .read-block .result) (c .before .before .before .before .before .before .loop-test .taken) (sym (c .before .before .before .before .before .read-block .ensures .0 .0)) (c .before .before .before .before .match .keys2))) (c .before .before .put-block-line .ensures .0)), omega (arith, c .before .before .put-block-line .ensures .1, c .before .before .before .before .before .before .before .loop .inv .1, c .before .before .before .before .before .before .before .loop .inv .3, stop-most (c .before .before .before .before .before .before .before .before .before .before .before .args .h .size) (c .before .before .before .before .before .read-block .result) (c .before .before .before .before .match .keys2)))
 
 put-block-line-requires-2 : tie.Need-put-block-line-requires-2 Inv-loop μ-loop
-put-block-line-requires-2 c κs = (omega (arith, c .before .before .before .before .before .before .before .before .pre .0, c .before .before .before .before .before .before .before .before .pre .1), block-stands (c .before .before .before .before .before .before .before .before .args .h) (c .before .before .before .before .before .before .before .before .args .file .now) (c .before .before .before .before .before .before .before .before .pre .2) (c .before .before .before .before .loop .n) (c .before .before .before .before .loop .place) (c .before .before .read-block .result) (sym (c .before .before .read-block .ensures .0 .0)) (goes-by (c .before .before .read-block .result) (c .before .match .keys1)), omega (arith, c .before .before .before .before .before .before .before .before .pre .1))
+put-block-line-requires-2 c κs = (omega (arith, c .before .before .before .before .before .before .before .before .pre .0, c .before .before .before .before .before .before .before .before .pre .1), block-stands (c .before .before .before .before .before .before .before .before .args .h) (c .before .before .before .before .before .before .before .before .args .file .now) (c .before .before .before .before .before .before .before .before .pre .2) (c .before .before .before .before .loop .n) (c .before .before .before .before .loop .place) (c .before .before .read-block .result) (sym (c .before .before .read-block .ensures .0 .0)) (tag-block (c .before .before .read-block .result) (c .before .match .keys1)), omega (arith, c .before .before .before .before .before .before .before .before .pre .1))
 
 length-of-requires : tie.Need-length-of-requires Inv-loop μ-loop
 length-of-requires c κs = tt
 
 add-place : tie.Need-add-place Inv-loop μ-loop
-add-place c = omega (arith, c .length-of .ensures, at-fits (c .before .before .before .before .before .before .before .before .before .before .before .before .args .h .size) (c .before .before .before .before .before .before .before .before .loop .n) (c .before .before .before .before .before .before .before .before .before .before .before .before .args .file .now) (c .before .before .before .before .before .before .before .before .loop .place) (c .before .before .before .before .before .before .read-block .result) (sym (c .before .before .before .before .before .before .read-block .ensures .0 .0)) (goes-by (c .before .before .before .before .before .before .read-block .result) (c .before .before .before .before .before .match .keys1)))
+add-place c = omega (arith, c .length-of .ensures, at-fits (c .before .before .before .before .before .before .before .before .before .before .before .before .args .h .size) (c .before .before .before .before .before .before .before .before .loop .n) (c .before .before .before .before .before .before .before .before .before .before .before .before .args .file .now) (c .before .before .before .before .before .before .before .before .loop .place) (c .before .before .before .before .before .before .read-block .result) (sym (c .before .before .before .before .before .before .read-block .ensures .0 .0)) (tag-block (c .before .before .before .before .before .before .read-block .result) (c .before .before .before .before .before .match .keys1)))
 
 add-n : tie.Need-add-n Inv-loop μ-loop
 add-n c = omega (arith, c .before .before .before .before .before .before .before .before .before .before .before .before .pre .1)
@@ -63,7 +63,7 @@ loop-less : tie.Need-loop-less Inv-loop μ-loop
 loop-less c = search needs
 
 loop-again : tie.Need-loop-again Inv-loop μ-loop
-loop-again c = (refl, omega (arith, c .length-of .ensures, at-fits (c .before .before .before .before .before .before .before .before .before .before .before .before .args .h .size) (c .before .before .before .before .before .before .before .before .loop .n) (c .before .before .before .before .before .before .before .before .before .before .before .before .args .file .now) (c .before .before .before .before .before .before .before .before .loop .place) (c .before .before .before .before .before .before .read-block .result) (sym (c .before .before .before .before .before .before .read-block .ensures .0 .0)) (goes-by (c .before .before .before .before .before .before .read-block .result) (c .before .before .before .before .before .match .keys1))), omega arith, omega (arith, c .before .before .before .put-block-line2 .ensures .1, c .length-of .ensures, c .before .before .before .before .before .before .before .before .loop .inv .3, goes-most (c .before .before .before .before .before .before .before .before .before .before .before .before .args .h .size) (c .before .before .before .before .before .before .read-block .result) (goes-by (c .before .before .before .before .before .before .read-block .result) (c .before .before .before .before .before .match .keys1))), c .before .before .before .put-block-line2 .ensures .0 .same ∙ c .before .before .before .before .before .before .before .before .loop .inv .4, rw (c .length-of .ensures) (onward (c .before .before .before .before .before .before .before .before .loop .inv .5) (block-next (c .before .before .before .before .before .before .before .before .before .before .before .before .args .h) (c .before .before .before .before .before .before .before .before .before .before .before .before .args .file .now) (c .before .before .before .before .before .before .before .before .loop .left) (c .before .before .before .before .before .before .before .before .loop .n) (c .before .before .before .before .before .before .before .before .loop .place) (c .before .before .before .before .before .before .read-block .result) (c .before .before .before .before .before .before .before .loop-test .taken) (sym (c .before .before .before .before .before .before .read-block .ensures .0 .0)) (goes-by (c .before .before .before .before .before .before .read-block .result) (c .before .before .before .before .before .match .keys1))) (c .before .before .before .put-block-line2 .ensures .0)))
+loop-again c = (refl, omega (arith, c .length-of .ensures, at-fits (c .before .before .before .before .before .before .before .before .before .before .before .before .args .h .size) (c .before .before .before .before .before .before .before .before .loop .n) (c .before .before .before .before .before .before .before .before .before .before .before .before .args .file .now) (c .before .before .before .before .before .before .before .before .loop .place) (c .before .before .before .before .before .before .read-block .result) (sym (c .before .before .before .before .before .before .read-block .ensures .0 .0)) (tag-block (c .before .before .before .before .before .before .read-block .result) (c .before .before .before .before .before .match .keys1))), omega arith, omega (arith, c .before .before .before .put-block-line2 .ensures .1, c .length-of .ensures, c .before .before .before .before .before .before .before .before .loop .inv .3, goes-most (c .before .before .before .before .before .before .before .before .before .before .before .before .args .h .size) (c .before .before .before .before .before .before .read-block .result) (tag-block (c .before .before .before .before .before .before .read-block .result) (c .before .before .before .before .before .match .keys1))), c .before .before .before .put-block-line2 .ensures .0 .same ∙ c .before .before .before .before .before .before .before .before .loop .inv .4, rw (c .length-of .ensures) (onward (c .before .before .before .before .before .before .before .before .loop .inv .5) (block-next (c .before .before .before .before .before .before .before .before .before .before .before .before .args .h) (c .before .before .before .before .before .before .before .before .before .before .before .before .args .file .now) (c .before .before .before .before .before .before .before .before .loop .left) (c .before .before .before .before .before .before .before .before .loop .n) (c .before .before .before .before .before .before .before .before .loop .place) (c .before .before .before .before .before .before .read-block .result) (c .before .before .before .before .before .before .before .loop-test .taken) (sym (c .before .before .before .before .before .before .read-block .ensures .0 .0)) (tag-block (c .before .before .before .before .before .before .read-block .result) (c .before .before .before .before .before .match .keys1))) (c .before .before .before .put-block-line2 .ensures .0)))
 
 put-block-line-requires-3 : tie.Need-put-block-line-requires-3 Inv-loop μ-loop
 put-block-line-requires-3 c κs = (omega (arith, c .before .before .before .before .before .before .pre .0, c .before .before .before .before .before .before .pre .1), tt, omega (arith, c .before .before .before .before .before .before .pre .1))

@@ -3,7 +3,7 @@ use Rattle.mlg.proofs.block_reading.block_of.Statement.{statement}
 use Rattle.mlg.proofs.block_reading.block_of.Tie as tie
 use mathlib.Core.Path.{sym, _∙_}
 use native.Mathlib.Omega.{arith}
-use Rattle.mlg_rules.proofs.Cases.{block-end, block-here, judged-no, judged-yes}
+use Rattle.mlg_rules.proofs.BlockLaws.{block-end, block-here, judged-no, judged-yes}
 
 returns : tie.Need-returns
 returns c = sym (block-end _ _ _ _ (c .if1 .taken))

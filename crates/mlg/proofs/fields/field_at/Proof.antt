@@ -10,7 +10,7 @@ use lib.Seq.{length-take-le}
 use Rattle.mlg_rules.specs.Layout.{fieldLen}
 use Rattle.mlg_rules.specs.Fields.{fieldNumber}
 use Rattle.mlg_rules.specs.Field.{fieldSize}
-use Rattle.mlg_rules.proofs.Layouts.{field-least}
+use Rattle.mlg_rules.proofs.LayoutLaws.{field-least}
 use Rattle.wire.proofs.Parts.{part-is}
 
 field-len-requires : tie.Need-field-len-requires

@@ -8,8 +8,8 @@ use lib.ListN.{length-drop}
 use Rattle.mlg_rules.specs.Header.{fieldsEnd}
 use Rattle.mlg_rules.specs.Layout.{headerLen}
 use Rattle.mlg_rules.specs.Fields.{sizes}
-use Rattle.mlg_rules.proofs.Places.{placed}
-use Rattle.mlg_rules.proofs.Areas.{file-area, file-rest, same-fields}
+use Rattle.mlg_rules.proofs.HeaderLaws.{placed}
+use Rattle.mlg_rules.proofs.AreaLaws.{file-area, file-rest, same-fields}
 
 fields-end-requires : tie.Need-fields-end-requires
 fields-end-requires c κs = search needs
