@@ -19,9 +19,8 @@ block-parts-requires c κs = (omega arith, sym (c .before .rest-number .ensures)
 
 returns-3 : tie.Need-returns-3
 returns-3 c =
-    let if1 = c .before .before .before .if1 in
-    c .block-parts .ensures ∙ sym
-    (block-here _ _ _ _ (if1 .left) ∙ judged-yes _ _ _ (sym (c .before .before .rest-number .ensures) ∙ c .before .if2 .left))
+    let zero = sym (c .before .before .rest-number .ensures) ∙ c .before .if2 .left in
+    c .block-parts .ensures ∙ sym (block-here _ _ _ _ (c .before .before .before .if1 .left) ∙ judged-yes _ _ _ zero)
 
 pub block-of-spec : {M : Type 1} → statement M
 block-of-spec =
