@@ -19,8 +19,8 @@ use Rattle.mlg_rules.specs.declared.Head.the-variants.{Is}
 use Rattle.mlg_rules.specs.declared.Block.{Block}
 use Rattle.mlg_rules.specs.declared.Block.the-variants.{Data, Mark, End, Refused}
 use Rattle.mlg_rules.proofs.Block.{the-type}
-use Rattle.mlg_rules.proofs.Logs.{Goes, Stands, a-block, the-end, refused, stands-at}
-use Rattle.mlg_rules.proofs.Tallies.{at-fits}
+use Rattle.mlg_rules.proofs.LogLaws.{IsBlock, Stands, a-block, the-end, refused, stands-at}
+use Rattle.mlg_rules.proofs.TallyLaws.{at-fits}
 use Rattle.listing_rules.specs.BlockInFile.{BlockInFile}
 use Rattle.listing_rules.proofs.FieldsInFile.{fields-in}
 use Rattle.listing_rules.proofs.ValuesNotRefused.{record-not-refused}
@@ -35,12 +35,12 @@ module _ (h : Header) (f : List ℕ) where
       let s : textLen (textIn t) ≤ 50 = omega (arith, text-most (textIn t), take-length-le 50 (drop 4 t)) in
       (omega arith, s)
 
-  in-file-by : readHeaderOf f ≡ Is h → (n at : ℕ) (b : Block) → Stands (h .size) n f at b → at + lengthOf (h .size) b ≤ length f → Goes b → BlockInFile h f b
+  in-file-by : readHeaderOf f ≡ Is h → (n at : ℕ) (b : Block) → Stands (h .size) n f at b → at + lengthOf (h .size) b ≤ length f → IsBlock b → BlockInFile h f b
   in-file-by e n at b (a-block p some num q) i g = rw q (parts-in-file e _ _ at _ (rw q at i))
   in-file-by e n at b (the-end p q) i g = absurd (rw q at g)
   in-file-by e n at b (refused m q) i g = absurd (rw q at g)
 
-  pub block-in-file : readHeaderOf f ≡ Is h → (n at : ℕ) (b : Block) → readBlockOf (h .size) n f at ≡ b → Goes b → BlockInFile h f b
+  pub block-in-file : readHeaderOf f ≡ Is h → (n at : ℕ) (b : Block) → readBlockOf (h .size) n f at ≡ b → IsBlock b → BlockInFile h f b
   block-in-file e n at b q g = in-file-by e n at b (rw q at (stands-at (h .size) n f at)) (at-fits (h .size) n f at b q g) g
 
   pub ending-in-file : (b : Block) → OneOf (2 ∷ 3 ∷ []) (tagOf the-type b) → BlockInFile h f b

@@ -9,8 +9,8 @@ use Rattle.mlg_rules.specs.Layout.{layoutOf, headerLen, fieldLen}
 use Rattle.mlg_rules.specs.Header.{numbersOf, fieldsEnd, readHeaderNumber, readHeaderOf}
 use Rattle.mlg_rules.specs.declared.Header.{Header}
 use Rattle.mlg_rules.specs.declared.Head.the-variants.{Is, Refused}
-use Rattle.mlg_rules.proofs.Places.{Placed}
-use Rattle.mlg_rules.proofs.Spans.{placed-in}
+use Rattle.mlg_rules.proofs.HeaderLaws.{Placed}
+use Rattle.mlg_rules.proofs.SpanLaws.{placed-in}
 
 pub header-is : (f : List ℕ) (h : Header) → readHeaderOf f ≡ Is h → (readHeaderNumber f ≡ 0) × (numbersOf f ≡ h)
 unfolding readHeaderOf

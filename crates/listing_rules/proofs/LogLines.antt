@@ -13,7 +13,7 @@ use Rattle.mlg_rules.specs.declared.Header.{Header}
 use Rattle.mlg_rules.specs.declared.Block.{Block}
 use Rattle.mlg_rules.specs.declared.Block.the-variants.{Data, Mark, End, Refused}
 use Rattle.mlg_rules.proofs.Block.{the-type}
-use Rattle.mlg_rules.proofs.Logs.{Goes, Next, log-end, log-refused, log-go}
+use Rattle.mlg_rules.proofs.LogLaws.{IsBlock, Next, log-end, log-refused, log-more}
 use Rattle.listing_rules.specs.Lines.{blockLine}
 use Rattle.listing_rules.specs.Listing.{logLines}
 
@@ -28,13 +28,13 @@ module _ (h : Header) (f : List ℕ) where
   unfolding logLines
   lines-stop n at b log e = let z : n + 0 ≡ n = omega arith in rw (e, z)
 
-  pub block-next : (k n at : ℕ) (b : Block) → (k ≡ 0 → ⊥) → readBlockOf (h .size) n f at ≡ b → Goes b
+  pub block-next : (k n at : ℕ) (b : Block) → (k ≡ 0 → ⊥) → readBlockOf (h .size) n f at ≡ b → IsBlock b
       → logLines h f n (logFrom k (h .size) n f at)
       ≡ blockLine h f n b ++ logLines h f (n + 1) (logFrom (k - 1) (h .size) (n + 1) f (at + lengthOf (h .size) b))
   block-next zero n at b z e g = absurd (z refl)
   block-next (suc k) n at b z e g =
       let q : suc k - 1 ≡ k = omega arith in
-      rw q (lines-next n _ _ at b (log-go k (h .size) n f at b e g))
+      rw q (lines-next n _ _ at b (log-more k (h .size) n f at b e g))
 
   pub block-end : (k n at : ℕ) → readBlockOf (h .size) n f at ≡ End → logLines h f n (logFrom (suc k) (h .size) n f at) ≡ blockLine h f n End
   block-end k n at e = lines-stop n at End _ (log-end k (h .size) n f at e)

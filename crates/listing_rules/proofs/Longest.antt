@@ -17,8 +17,8 @@ use Rattle.mlg_rules.specs.declared.Head.{Head}
 use Rattle.mlg_rules.specs.declared.Head.the-variants as head
 use Rattle.mlg_rules.specs.declared.Block.{Block}
 use Rattle.mlg_rules.specs.declared.Block.the-variants.{Data, Mark, End, Refused}
-use Rattle.mlg_rules.proofs.Logs.{Goes, Stands, a-block, the-end, refused, stands-at, parts-go}
-use Rattle.mlg_rules.proofs.Tallies.{at-fits}
+use Rattle.mlg_rules.proofs.LogLaws.{IsBlock, Stands, a-block, the-end, refused, stands-at, parts-block}
+use Rattle.mlg_rules.proofs.TallyLaws.{at-fits}
 use Rattle.listing_rules.specs.Lines.{headerLine, fieldLines, blockLine}
 use Rattle.listing_rules.specs.Listing.{logLines, headedLines, headLines, listOf, LongInput}
 use Rattle.listing_rules.specs.Longest.{longest, NoneLonger}
@@ -42,7 +42,7 @@ module _ (h : Header) (f : List ℕ) (e : readHeaderOf f ≡ head.Is h) (g : Byt
   abbrev Within : ℕ → ℕ → ℕ → Type 0
   Within k n at = length (logLines h f n (logFrom k (h .size) n f at)) + 5 * at ≤ 5 * length f + 53
 
-  block-then : (k n at : ℕ) (b : Block) → readBlockOf (h .size) n f at ≡ b → Goes b
+  block-then : (k n at : ℕ) (b : Block) → readBlockOf (h .size) n f at ≡ b → IsBlock b
       → length (blockLine h f n b) ≤ 5 * lengthOf (h .size) b → Within k (n + 1) (at + lengthOf (h .size) b) → Within (suc k) n at
   block-then k n at b q go line rest =
       let all = block-next h f (suc k) n at b (λ z. omega arith) q go in
@@ -53,7 +53,7 @@ module _ (h : Header) (f : List ℕ) (e : readHeaderOf f ≡ head.Is h) (g : Byt
   log-by : (k n at : ℕ) (b : Block) → readBlockOf (h .size) n f at ≡ b → Stands (h .size) n f at b → at ≤ length f → n + suc k ≤ 65537
       → ((to : ℕ) → to ≤ length f → Within k (n + 1) to) → Within (suc k) n at
   log-by k n at b q (a-block p some num r) i j next =
-      let go : Goes b = rw r (parts-go (kindIn (drop at f)) (counterAfter n) at (drop at f)) in
+      let go : IsBlock b = rw r (parts-block (kindIn (drop at f)) (counterAfter n) at (drop at f)) in
       let within = block-in-file h f e n at b q go in
       let line = parts-line-length h f n (omega arith) (kindIn (drop at f)) (counterAfter n) at g (rw r at within) in
       block-then k n at b q go (rw r line) (next (at + lengthOf (h .size) b) (at-fits (h .size) n f at b q go))

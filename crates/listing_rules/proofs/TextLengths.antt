@@ -15,7 +15,7 @@ use Rattle.wire.proofs.Orders.{if-zero, else-zero}
 use Rattle.mlg_rules.specs.Types.{sizeOf}
 use Rattle.mlg_rules.specs.Field.{typeOf, typeNumber}
 use Rattle.mlg_rules.specs.Raw.{valueFieldNumber, valueNumber, rawOf}
-use Rattle.mlg_rules.proofs.Raws.{sized, raw-below}
+use Rattle.mlg_rules.proofs.RawLaws.{sized, raw-below}
 use Rattle.listing_rules.specs.Text.{digit, digits, decimal, integer}
 use Rattle.listing_rules.specs.Lines.{valueText}
 use Rattle.listing_rules.proofs.Digits.{fewer}

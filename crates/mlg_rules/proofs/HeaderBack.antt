@@ -23,11 +23,11 @@ use Rattle.mlg_rules.specs.Parts.{fieldsIn, namesEnd, namesIn, infoLengt
 use Rattle.mlg_rules.specs.RoundTrip.{HeaderBack}
 use Rattle.mlg_rules.specs.declared.Header.{Header}
 use Rattle.mlg_rules.specs.declared.Head.the-variants.{Is, Refused}
-use Rattle.mlg_rules.proofs.Areas.{area-length, ended-some}
+use Rattle.mlg_rules.proofs.AreaLaws.{area-length, ended-some}
 use Rattle.mlg_rules.proofs.EachField.{fields-alone, sizes-alone}
 use Rattle.mlg_rules.proofs.Fits.{Fit, fit, fields-end}
 use Rattle.mlg_rules.proofs.HeaderBytes.{first-length, number-length, header-length, header-fits, start-most}
-use Rattle.mlg_rules.proofs.Layouts.{header-two, fields-fit}
+use Rattle.mlg_rules.proofs.LayoutLaws.{header-two, fields-fit}
 
 -- the numbers
 numbers-in : (t i b s n : ℕ) (r : List ℕ) → t < 256 ^ 4 → i < 256 ^ 4 → b < 256 ^ 4 → s < 256 ^ 2 → n < 256 ^ 2

@@ -10,7 +10,7 @@ use mathlib.Core.Path.{_≡_, refl, sym, _∙_}
 use native.Mathlib.Omega.{arith}
 use lib.ListN.{length}
 use Rattle.mlg_rules.specs.Log.{logFrom, logOf}
-use Rattle.mlg_rules.proofs.Tallies.{at-fits, goes-by}
+use Rattle.mlg_rules.proofs.TallyLaws.{at-fits, tag-block}
 use Rattle.listing_rules.specs.Listing.{logLines}
 use Rattle.listing_rules.proofs.PutsText.{puts-as, Completes, completes-all, completes-next}
 use Rattle.listing_rules.proofs.FieldsInFile.{begin-in}
@@ -65,7 +65,7 @@ returns c =
 
 put-block-line-requires-2 : tie.Need-put-block-line-requires-2 Inv-loop μ-loop
 put-block-line-requires-2 c κs =
-    let goes = goes-by (c .before .before .read-block .result) (c .before .match .keys1) in
+    let goes = tag-block (c .before .before .read-block .result) (c .before .match .keys1) in
     let read = c .before .before .read-block in
     let l = c .before .before .before .before .loop in
     let entry = c .before .before .before .before .before .before .before .before in
@@ -79,7 +79,7 @@ length-of-requires c κs = tt
 add-place : tie.Need-add-place Inv-loop μ-loop
 add-place c =
     let read = c .before .before .before .before .before .before .read-block in
-    let goes = goes-by (read .result) (c .before .before .before .before .before .match .keys1) in
+    let goes = tag-block (read .result) (c .before .before .before .before .before .match .keys1) in
     let l = c .before .before .before .before .before .before .before .before .loop in
     let a = c .before .before .before .before .before .before .before .before .before .before .before .before .args in
     omega (arith, c .length-of .ensures, at-fits (a .h .size) (l .n) (a .file .now) (l .place) (read .result) (sym (read .ensures .0 .0)) goes)
@@ -100,7 +100,7 @@ loop-again c =
     let length = c .length-of .ensures in
     let line = c .before .before .before .put-block-line2 .ensures in
     let read = c .before .before .before .before .before .before .read-block in
-    let goes = goes-by (read .result) (c .before .before .before .before .before .match .keys1) in
+    let goes = tag-block (read .result) (c .before .before .before .before .before .match .keys1) in
     let some = c .before .before .before .before .before .before .before .loop-test .taken in
     let l = c .before .before .before .before .before .before .before .before .loop in
     let a = c .before .before .before .before .before .before .before .before .before .before .before .before .args in

@@ -126,13 +126,13 @@ least l t false k e = omega (arith, mark-whole l t e (eqb-false _ _ k))
 -- the last test of a block, by its type
 pub last-data : (k l : ℕ) (t : List ℕ) → k ≡ 0 → sumOf (recordIn l t) ≡ sumIn l t → 0 ≡ lastOf k l t
 unfolding lastOf
-last-data zero l t e s = if-no 26 _ 0 0 (not-no _ (eq-eqb _ _ s)) refl
+last-data zero l t e s = if-no _ _ 0 0 (not-no _ (eq-eqb _ _ s)) refl
 last-data (suc k) l t e s = absurd (omega arith)
 
 pub last-mark : (k l : ℕ) (t : List ℕ) → k ≡ 1 → textLen (textIn t) < 50 → 0 ≡ lastOf k l t
 unfolding lastOf
 last-mark zero l t e s = absurd (omega arith)
-last-mark (suc k) l t e s = if-no 28 _ 0 0 (lt-leb _ _ s) refl
+last-mark (suc k) l t e s = if-no _ _ 0 0 (lt-leb _ _ s) refl
 
 -- a block that stands
 pub data-stands : (l : ℕ) (t : List ℕ) → kindIn t ≡ 0 → l + 5 ≤ length t → sumOf (recordIn l t) ≡ sumIn l t → restNumber l t ≡ 0

@@ -18,8 +18,8 @@ use Rattle.wire.specs.declared.Tally.{Tally}
 use Rattle.mlg_rules.specs.declared.Block.the-variants.{Data, Mark, End, Refused}
 use Rattle.mlg_rules.proofs.Block.{the-type}
 use Rattle.mlg_rules.proofs.Head as head-type
-use Rattle.mlg_rules.proofs.Cases.{whole}
-use Rattle.mlg_rules.proofs.Logs.{Goes, Next, Stands, a-block, the-end, refused, stands-at, step, parts-length, log-end, log-refused, log-go}
+use Rattle.mlg_rules.proofs.BlockLaws.{whole}
+use Rattle.mlg_rules.proofs.LogLaws.{IsBlock, Next, Stands, a-block, the-end, refused, stands-at, step, parts-length, log-end, log-refused, log-more}
 
 -- the tally of a log after n blocks
 abbrev pub from : ℕ → ℕ → Log → Tally
@@ -30,12 +30,12 @@ from-next l n log next at b g =
     let e : n + length (log .blocks) ≡ n + 1 + length (next .blocks) = omega (arith, ap length (g .0)) in
     rw (e, g .1, g .2)
 
-pub tally-next : (k l n : ℕ) (f : List ℕ) (at : ℕ) (b : Block) → (k ≡ 0 → ⊥) → readBlockOf l n f at ≡ b → Goes b
+pub tally-next : (k l n : ℕ) (f : List ℕ) (at : ℕ) (b : Block) → (k ≡ 0 → ⊥) → readBlockOf l n f at ≡ b → IsBlock b
     → from l n (logFrom k l n f at) ≡ from l (n + 1) (logFrom (k - 1) l (n + 1) f (at + lengthOf l b))
 tally-next zero l n f at b h e g = absurd (h refl)
 tally-next (suc k) l n f at b h e g =
     let q : suc k - 1 ≡ k = omega arith in
-    rw q (from-next l n _ _ at b (log-go k l n f at b e g))
+    rw q (from-next l n _ _ at b (log-more k l n f at b e g))
 
 stop-tally : (l n at : ℕ) (b : Block) (log : Log) → log ≡ record { blocks = []; ending = b; place = at }
     → from l n log ≡ record { blocks = n; ending = blockAnswer l b .number; place = at }
@@ -61,29 +61,29 @@ tally-all k l f at e =
     rw (q, z)
 
 -- a block that is passed over lies within the file
-fits-by : (l n : ℕ) (f : List ℕ) (at : ℕ) (b : Block) → Stands l n f at b → Goes b → at + lengthOf l b ≤ length f
+fits-by : (l n : ℕ) (f : List ℕ) (at : ℕ) (b : Block) → Stands l n f at b → IsBlock b → at + lengthOf l b ≤ length f
 fits-by l n f at b (a-block h some num e) g =
     rw (e, parts-length (kindIn _) l (counterAfter n) at _ (whole l _ num .0)) (step l n f at h num .1)
 fits-by l n f at b (the-end h e) g = absurd (rw e at g)
 fits-by l n f at b (refused m e) g = absurd (rw e at g)
 
-pub at-fits : (l n : ℕ) (f : List ℕ) (at : ℕ) (b : Block) → readBlockOf l n f at ≡ b → Goes b → at + lengthOf l b ≤ length f
+pub at-fits : (l n : ℕ) (f : List ℕ) (at : ℕ) (b : Block) → readBlockOf l n f at ≡ b → IsBlock b → at + lengthOf l b ≤ length f
 at-fits l n f at b e g = fits-by l n f at b (rw e at (stands-at l n f at)) g
 
 -- a header that is refused
-pub head-stop : (f : List ℕ) (b : Head) → readHeaderOf f ≡ b → OneOf (1 ∷ []) (tagOf head-type.the-type b)
+pub count-none : (f : List ℕ) (b : Head) → readHeaderOf f ≡ b → OneOf (1 ∷ []) (tagOf head-type.the-type b)
     → _≡_ {A = Tally} (record { blocks = 0; ending = headAnswer b .0; place = 0 }) (countBlocksOf f)
 unfolding countBlocksOf tallyHead headAnswer
-head-stop f (head.Is h) e g = absurd (omega arith)
-head-stop f (head.Refused n) e g = rw e
+count-none f (head.Is h) e g = absurd (omega arith)
+count-none f (head.Refused n) e g = rw e
 
-pub head-go : (f : List ℕ) (h : Header) → readHeaderOf f ≡ head.Is h → tallyOf (h .size) (logOf (h .size) f (h .begin)) ≡ countBlocksOf f
+pub count-is : (f : List ℕ) (h : Header) → readHeaderOf f ≡ head.Is h → tallyOf (h .size) (logOf (h .size) f (h .begin)) ≡ countBlocksOf f
 unfolding countBlocksOf tallyHead
-head-go f h e = rw e
+count-is f h e = rw e
 
 -- an arm that holds data and marks
-pub goes-by : (b : Block) → OneOf (0 ∷ 1 ∷ []) (tagOf the-type b) → Goes b
-goes-by (Data c m s r) g = tt
-goes-by (Mark c m s k r) g = tt
-goes-by End g = absurd (⊎-elim (λ h. omega arith) (λ h. omega arith) g)
-goes-by (Refused n p) g = absurd (⊎-elim (λ h. omega arith) (λ h. omega arith) g)
+pub tag-block : (b : Block) → OneOf (0 ∷ 1 ∷ []) (tagOf the-type b) → IsBlock b
+tag-block (Data c m s r) g = tt
+tag-block (Mark c m s k r) g = tt
+tag-block End g = absurd (⊎-elim (λ h. omega arith) (λ h. omega arith) g)
+tag-block (Refused n p) g = absurd (⊎-elim (λ h. omega arith) (λ h. omega arith) g)

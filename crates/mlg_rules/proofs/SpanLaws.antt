@@ -15,7 +15,7 @@ use Rattle.mlg_rules.specs.Header.{numbersOf, fieldsEnd, readHeaderNumbe
 use Rattle.mlg_rules.specs.Parts.{fieldPlace, namesEnd, infoLength}
 use Rattle.mlg_rules.specs.declared.Header.{Header}
 use Rattle.wire.specs.declared.Span.{Span}
-use Rattle.mlg_rules.proofs.Places.{Placed, placed}
+use Rattle.mlg_rules.proofs.HeaderLaws.{Placed, placed}
 
 pub span-no : (n s k x : ℕ) → x ≡ n → (x ≡ 0 → ⊥) → _≡_ {A = Span} (record { number = x; start = 0; len = 0 }) (spanWith n s k)
 unfolding spanWith

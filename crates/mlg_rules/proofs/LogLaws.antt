@@ -11,19 +11,19 @@ use Rattle.mlg_rules.specs.Block.{counterAfter, blockLen, kindIn, restNu
 use Rattle.mlg_rules.specs.Log.{Log, lengthOf, followedBy, logFrom}
 use Rattle.mlg_rules.specs.declared.Block.{Block}
 use Rattle.mlg_rules.specs.declared.Block.the-variants.{Data, Mark, End, Refused}
-use Rattle.mlg_rules.proofs.Cases.{at-past, at-within, block-end, block-here, judged-no, judged-yes, whole}
+use Rattle.mlg_rules.proofs.BlockLaws.{at-past, at-within, block-end, block-here, judged-no, judged-yes, whole}
 
 -- data and marks are passed over
-abbrev pub Goes : Block → Type 0
-Goes (Data c m s r) = Unit
-Goes (Mark c m s k r) = Unit
-Goes End = ⊥
-Goes (Refused n p) = ⊥
+abbrev pub IsBlock : Block → Type 0
+IsBlock (Data c m s r) = Unit
+IsBlock (Mark c m s k r) = Unit
+IsBlock End = ⊥
+IsBlock (Refused n p) = ⊥
 
-pub parts-go : (k c at : ℕ) (t : List ℕ) → Goes (partsOf k c at t)
+pub parts-block : (k c at : ℕ) (t : List ℕ) → IsBlock (partsOf k c at t)
 unfolding partsOf
-parts-go zero c at t = tt
-parts-go (suc k) c at t = tt
+parts-block zero c at t = tt
+parts-block (suc k) c at t = tt
 
 -- a block takes its type's length
 pub parts-length : (k l c at : ℕ) (t : List ℕ) → (blockLen l k ≡ 0 → ⊥) → lengthOf l (partsOf k c at t) ≡ blockLen l k
@@ -70,33 +70,33 @@ step l n f at h z =
     positive (suc x) k = omega arith
 
 -- one block on
-pub go : (at : ℕ) (b : Block) (next : Log) → Goes b
+pub followed : (at : ℕ) (b : Block) (next : Log) → IsBlock b
     → (followedBy at b next .blocks ≡ (at, b) ∷ next .blocks) × (followedBy at b next .ending ≡ next .ending) × (followedBy at b next .place ≡ next .place)
 unfolding followedBy
-go at (Data c m s r) next g = (refl, refl, refl)
-go at (Mark c m s k r) next g = (refl, refl, refl)
-go at End next g = absurd g
-go at (Refused n p) next g = absurd g
+followed at (Data c m s r) next g = (refl, refl, refl)
+followed at (Mark c m s k r) next g = (refl, refl, refl)
+followed at End next g = absurd g
+followed at (Refused n p) next g = absurd g
 
-pub stop-end : (at : ℕ) (next : Log) → followedBy at End next ≡ record { blocks = []; ending = End; place = at }
+pub followed-end : (at : ℕ) (next : Log) → followedBy at End next ≡ record { blocks = []; ending = End; place = at }
 unfolding followedBy
-stop-end at next = refl
+followed-end at next = refl
 
-pub stop-refused : (at m p : ℕ) (next : Log) → followedBy at (Refused m p) next ≡ record { blocks = []; ending = Refused m p; place = at }
+pub followed-refused : (at m p : ℕ) (next : Log) → followedBy at (Refused m p) next ≡ record { blocks = []; ending = Refused m p; place = at }
 unfolding followedBy
-stop-refused at m p next = refl
+followed-refused at m p next = refl
 
 -- a log at a place where a block, or the end, stands
 pub log-end : (k l n : ℕ) (f : List ℕ) (at : ℕ) → readBlockOf l n f at ≡ End → logFrom (suc k) l n f at ≡ record { blocks = []; ending = End; place = at }
-log-end k l n f at e = rw e (stop-end at (logFrom k l (n + 1) f (at + lengthOf l End)))
+log-end k l n f at e = rw e (followed-end at (logFrom k l (n + 1) f (at + lengthOf l End)))
 
 pub log-refused : (k l n : ℕ) (f : List ℕ) (at m p : ℕ) → readBlockOf l n f at ≡ Refused m p
     → logFrom (suc k) l n f at ≡ record { blocks = []; ending = Refused m p; place = at }
-log-refused k l n f at m p e = rw e (stop-refused at m p (logFrom k l (n + 1) f (at + lengthOf l (Refused m p))))
+log-refused k l n f at m p e = rw e (followed-refused at m p (logFrom k l (n + 1) f (at + lengthOf l (Refused m p))))
 
 abbrev pub Next : Log → ℕ → Block → Log → Type 0
 Next log at b next = (log .blocks ≡ (at, b) ∷ next .blocks) × (log .ending ≡ next .ending) × (log .place ≡ next .place)
 
-pub log-go : (k l n : ℕ) (f : List ℕ) (at : ℕ) (b : Block) → readBlockOf l n f at ≡ b → Goes b
+pub log-more : (k l n : ℕ) (f : List ℕ) (at : ℕ) (b : Block) → readBlockOf l n f at ≡ b → IsBlock b
     → Next (logFrom (suc k) l n f at) at b (logFrom k l (n + 1) f (at + lengthOf l b))
-log-go k l n f at b e g = rw e (go at b (logFrom k l (n + 1) f (at + lengthOf l b)) g)
+log-more k l n f at b e g = rw e (followed at b (logFrom k l (n + 1) f (at + lengthOf l b)) g)
