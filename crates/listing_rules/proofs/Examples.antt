@@ -1,5 +1,5 @@
 -- The examples, by computing them.
-use mathlib.Core.Path.{_≡_, refl}
+use mathlib.Core.Path.{refl}
 use Rattle.wire.specs.Answer.{answer}
 use Rattle.wire.specs.Sign.{twos}
 use Rattle.wire.specs.Order.{_if_else_, _orElse_}
@@ -14,7 +14,7 @@ use Rattle.mlg_rules.specs.Block.{counterModulus, blockLen, lastOf, restNumber,
 use Rattle.mlg_rules.specs.Log.{lengthOf, followedBy, logOf}
 use Rattle.listing_rules.specs.Text.{decimal, integer, printedByte, printed, toZero}
 use Rattle.listing_rules.specs.Lines.{headerLine, nameOf, fieldLine, valueText, asExpectedText, blockLine}
-use Rattle.listing_rules.specs.Listing.{logLines, headedLines, headLines, listOf}
+use Rattle.listing_rules.specs.Listing.{logLines, headedLines, headLines, listOf, listNumber}
 use Rattle.listing_rules.specs.Examples.{Examples}
 
 -- the definitions of an MLG's header
@@ -37,7 +37,7 @@ unfolding twos rawOf signedType decimal integer printedByte printed toZero heade
 lines = tt
 
 pub examples : Examples
-unfolding header headerNumbers blocks lines logLines headedLines headLines listOf
+unfolding header headerNumbers blocks lines logLines headedLines headLines listOf listNumber
 examples = record {
   oneRecord = refl;
   wrongCounter = refl;
@@ -46,4 +46,8 @@ examples = record {
   wrongSum = refl;
   cutShort = refl;
   noBytes = refl;
+  longestFile = refl;
+  tooLong = refl;
+  fits = refl;
+  doesNotFit = refl;
 }

@@ -5,7 +5,6 @@ pub mod FieldNames
 pub mod RawValues
 pub mod FieldLines
 pub mod ValuesText
-pub mod BlockLines
 pub mod FieldsInFile
 pub mod ValuesNotRefused
 pub mod BlockInFile

@@ -1,10 +1,10 @@
 -- How long lines get.
-use Prim.Native.Nat.{ℕ, zero, suc, _+_, _-_, _*_, _^_, _≤_, _<_}
-use mathlib.Core.Path.{_≡_, refl, sym, ap, _∙_}
+use Prim.Native.Nat.{ℕ, zero, suc, _+_, _*_, _≤_, _<_}
+use mathlib.Core.Path.{refl}
 use mathlib.Core.Bool.{Bool, true, false}
-use mathlib.Core.List.{List, [], _∷_, _++_}
+use mathlib.Core.List.{List}
 use native.Mathlib.Omega.{arith}
-use lib.ListN.{length, getD, take, drop, length-append, length-take, length-drop}
+use lib.ListN.{length, take, drop, length-append, length-take, length-drop}
 use Rattle.wire.specs.BigEndian.{beAt}
 use Rattle.wire.specs.Text.{textLen}
 use Rattle.wire.proofs.Numbers.{Bytes, bytes-take, bytes-drop, be-below, below-part}
@@ -14,10 +14,8 @@ use Rattle.mlg_rules.specs.Field.{typeOf, fieldSize}
 use Rattle.mlg_rules.specs.Block.{blockLen, counterIn, timeIn, textIn, partsOf}
 use Rattle.mlg_rules.specs.Log.{lengthOf}
 use Rattle.mlg_rules.specs.declared.Header.{Header}
-use Rattle.mlg_rules.specs.declared.Block.{Block}
 use Rattle.mlg_rules.specs.declared.Block.the-variants.{Data, Mark, End, Refused}
-use Rattle.listing_rules.specs.Text.{ascii, decimal, printed}
-use Rattle.listing_rules.specs.Lines.{space, headerLine, nameOf, fieldLine, fieldLines, valueText, valuesText, asExpectedText, blockLine}
+use Rattle.listing_rules.specs.Lines.{headerLine, nameOf, fieldLine, fieldLines, valueText, valuesText, asExpectedText, blockLine}
 use Rattle.listing_rules.specs.BlockInFile.{ValuesNotRefused, BlockInFile}
 use Rattle.listing_rules.proofs.FieldNames.{name-length}
 use Rattle.listing_rules.proofs.PrintedText.{printed-length}

@@ -7,7 +7,6 @@ use borrow.Author.Tests.{lt-ltb, le-ltb}
 use lib.ListN.{length, take, drop, length-append}
 use lib.Seq.{take-at}
 use Rattle.wire.specs.Put.{putAt}
-use Rattle.wire.specs.Order.{_if_else_}
 use Rattle.wire.specs.Writer.{wrote, leaves}
 use Rattle.wire.specs.declared.Written.{Written}
 use Rattle.wire.proofs.Orders.{if-yes, if-no}

@@ -57,3 +57,10 @@ module _ (h : Header) (f : List ℕ) where
   pub log-all : (k : ℕ) → k ≡ length f + 1 → logLines h f 0 (logFrom k (h .size) 0 f (h .begin)) ≡ logLines h f 0 (logOf (h .size) f (h .begin))
   unfolding logOf
   log-all k e = let q : k ≡ suc (length f) = omega arith in rw q
+
+-- the arm of the end
+pub is-end : (b : Block) → OneOf (2 ∷ []) (tagOf the-type b) → End ≡ b
+is-end (Data c m s r) k = absurd (omega arith)
+is-end (Mark c m s n r) k = absurd (omega arith)
+is-end End k = refl
+is-end (Refused x p) k = absurd (omega arith)

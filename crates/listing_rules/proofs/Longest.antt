@@ -1,8 +1,8 @@
 -- No listing is longer than five bytes for each byte of the longest file.
 use Prim.Native.Nat.{ℕ, zero, suc, _+_, _-_, _*_, _≤_, _<_}
-use mathlib.Core.Path.{_≡_, refl, sym, ap, _∙_}
+use mathlib.Core.Path.{_≡_, refl, ap, _∙_}
 use mathlib.Core.Bool.{Bool, true, false}
-use mathlib.Core.List.{List, _++_}
+use mathlib.Core.List.{List}
 use native.Mathlib.Omega.{arith}
 use borrow.Author.Tests.{ltb-true, ltb-false}
 use lib.Dec.{ltb}
@@ -10,16 +10,16 @@ use lib.ListN.{length, drop, length-append}
 use Rattle.wire.proofs.Numbers.{Bytes, bytes-drop}
 use Rattle.mlg_rules.specs.Layout.{layoutOf, headerLen}
 use Rattle.mlg_rules.specs.Header.{numbersOf, fieldsFrom, noHeader, readHeaderOf}
-use Rattle.mlg_rules.specs.Block.{counterAfter, kindIn, partsOf, readBlockOf}
+use Rattle.mlg_rules.specs.Block.{counterAfter, kindIn, readBlockOf}
 use Rattle.mlg_rules.specs.Log.{lengthOf, logFrom, logOf}
 use Rattle.mlg_rules.specs.declared.Header.{Header}
 use Rattle.mlg_rules.specs.declared.Head.{Head}
 use Rattle.mlg_rules.specs.declared.Head.the-variants as head
 use Rattle.mlg_rules.specs.declared.Block.{Block}
-use Rattle.mlg_rules.specs.declared.Block.the-variants.{Data, Mark, End, Refused}
+use Rattle.mlg_rules.specs.declared.Block.the-variants.{Refused}
 use Rattle.mlg_rules.proofs.LogLaws.{IsBlock, Stands, a-block, the-end, refused, stands-at, parts-block}
 use Rattle.mlg_rules.proofs.TallyLaws.{at-fits}
-use Rattle.listing_rules.specs.Lines.{headerLine, fieldLines, blockLine}
+use Rattle.listing_rules.specs.Lines.{blockLine}
 use Rattle.listing_rules.specs.Listing.{logLines, headedLines, headLines, listOf, LongInput}
 use Rattle.listing_rules.specs.Longest.{longest, NoneLonger}
 use Rattle.listing_rules.proofs.FieldsInFile.{header-is, begin-in, begin-after}
@@ -73,7 +73,7 @@ module _ (h : Header) (f : List ℕ) (e : readHeaderOf f ≡ head.Is h) (g : Byt
   size-small : h .size < 65536
   size-small = rw (← header-is f h e .1) (size-in f g)
 
-  headed-length : length (headedLines h f) ≤ 327680
+  headed-length : length (headedLines h f) ≤ longest
   unfolding headedLines logOf
   headed-length =
       let fields = field-lines-length (h .version) 0 (h .count) (fieldsFrom f h) (omega (arith, count-small)) (bytes-drop (headerLen (h .version)) f g) in

@@ -1,12 +1,12 @@
 -- The readers' numbers are at most 28.
 use Prim.Native.Nat.{ℕ, zero, suc, _≤_}
-use mathlib.Core.Path.{_≡_, refl, ap}
+use mathlib.Core.Path.{_≡_, refl}
 use mathlib.Core.Bool.{Bool, true, false}
 use mathlib.Core.List.{List, [], _∷_}
 use native.Mathlib.Omega.{arith}
 use borrow.Author.Tests.{leb-true}
 use lib.Dec.{leb}
-use lib.ListN.{length, take, drop}
+use lib.ListN.{take, drop}
 use Rattle.wire.specs.Order.{_if_else_, _orElse_}
 use Rattle.wire.specs.Answer.{answer}
 use Rattle.wire.specs.Log.{judged}
@@ -16,7 +16,6 @@ use Rattle.mlg_rules.specs.Fields.{textsNumber, namesNumber, fieldNumber, field
 use Rattle.mlg_rules.specs.Header.{fieldsEnd, nameNumber, placesNumber, lastNumber, bodyNumber, readHeaderNumber, readHeaderOf, numbersOf, fieldsFrom, areaIn}
 use Rattle.mlg_rules.specs.Block.{lastOf, restNumber, partsOf, blockOf, placeNumber, readBlockOf}
 use Rattle.mlg_rules.specs.declared.Header.{Header}
-use Rattle.mlg_rules.specs.declared.Head.{Head}
 use Rattle.mlg_rules.specs.declared.Head.the-variants as head
 use Rattle.mlg_rules.specs.declared.Block.{Block}
 use Rattle.mlg_rules.specs.declared.Block.the-variants.{Data, Mark, End, Refused}

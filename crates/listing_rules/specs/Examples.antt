@@ -4,7 +4,7 @@ use mathlib.Core.Path.{_≡_}
 use mathlib.Core.List.{List, [], _∷_, _++_}
 use lib.ListN.{length, replicate}
 use Rattle.listing_rules.specs.Text.{ascii}
-use Rattle.listing_rules.specs.Listing.{listOf}
+use Rattle.listing_rules.specs.Listing.{listOf, listNumber}
 
 -- a log of one field with these blocks: "time 0, one .. field .. with all else 0, no info, data begin 113, record length 1"
 abbrev pub logWith : (type : ℕ) (name blocks : List ℕ) → List ℕ
@@ -34,3 +34,9 @@ pub record Examples : Type 0 where
       ≡ ascii "fields 1 record 1\nfield 0 0 t\n0 data 0 10 7\nrefused 20 at 119\n"
   -- a header's refusal, at 0
   pub noBytes : listOf [] ≡ ascii "refused 20 at 0\n"
+  -- "at most 65,536 bytes .. (longer: it prints `too long`)"
+  pub longestFile : listOf (replicate 65536 0) ≡ ascii "refused 21 at 0\n"
+  pub tooLong : listOf (replicate 65537 0) ≡ ascii "too long\n"
+  -- a listing of 16 bytes, and its room
+  pub fits : listNumber [] 16 ≡ 0
+  pub doesNotFit : listNumber [] 15 ≡ 27

@@ -5,12 +5,13 @@ use Rattle.listing.proofs.lines.put_as_expected.Reads as reads
 use Rattle.listing.proofs.lines.put_as_expected.Lts as lts
 use Rattle.listing.proofs.text.put_bytes.Reads as put-bytes-reads
 use native.Mathlib.Omega.{arith}
+use mathlib.Core.Path.{sym, ap}
 use Rattle.listing_rules.specs.Lines.{asExpectedText}
 use Rattle.listing_rules.proofs.PutsText.{puts-as, puts-nothing}
-use Rattle.listing_rules.proofs.BlockLines.{as-expected, not-as-expected}
 
 returns : tie.Need-returns
-returns c = (puts-as (asExpectedText (c .before .before .args .expected)) (as-expected _ (c .if1 .taken)) (puts-nothing _ _), omega arith)
+unfolding asExpectedText
+returns c = (puts-as _ (ap asExpectedText (sym (c .if1 .taken))) (puts-nothing _ _), omega arith)
 
 slice-aggregate-put-bytes : tie.Need-slice-aggregate-put-bytes
 slice-aggregate-put-bytes c = search needs
@@ -22,10 +23,10 @@ same-length : tie.Need-same-length
 same-length c = search needs
 
 returns-2 : tie.Need-returns-2
+unfolding asExpectedText
 returns-2 c =
     let if1 = c .before .before .before .before .before .if1 in
-    let expected = c .before .before .before .before .before .before .before .args .expected in
-    (puts-as (asExpectedText expected) (not-as-expected _ (if1 .left)) (c .before .before .put-bytes .ensures), omega arith)
+    (puts-as _ (ap asExpectedText (sym (if1 .left))) (c .before .before .put-bytes .ensures), omega arith)
 
 pub put-as-expected-spec : {M : Type 1} → statement M
 put-as-expected-spec =

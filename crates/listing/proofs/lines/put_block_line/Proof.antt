@@ -12,7 +12,7 @@ use mathlib.Core.Path.{sym, ap}
 use Rattle.mlg_rules.specs.declared.Block.{Block}
 use Rattle.listing_rules.specs.Lines.{blockLine}
 use Rattle.listing_rules.proofs.PutsText.{puts-as}
-use Rattle.listing_rules.proofs.BlockLines.{is-end}
+use Rattle.listing_rules.proofs.LogLines.{is-end}
 
 enum-known-b : tie.Need-enum-known-b
 enum-known-b c = search needs

@@ -68,11 +68,11 @@ slice-aggregate-put-bytes c = search needs
 
 put-bytes-requires : tie.Need-put-bytes-requires
 put-bytes-requires c κs =
-    let mark = c .before .before .before .before in
-    let values = mark .before .before .before .before in
+    let expected = c .before .before .before .before in
+    let values = expected .before .before .before .before in
     let start = values .before .before .before .before .before .before in
     let pre = start .before .before .before .before .before .before .before .pre in
-    omega (arith, pre .0, start .put-start .ensures .1, values .put-values .ensures .1, mark .put-as-expected .ensures .1)
+    omega (arith, pre .0, start .put-start .ensures .1, values .put-values .ensures .1, expected .put-as-expected .ensures .1)
 
 same-length : tie.Need-same-length
 same-length c = search needs
@@ -80,19 +80,19 @@ same-length c = search needs
 returns : tie.Need-returns
 unfolding blockLine
 returns c =
-    let end = c .before .before in
-    let mark = end .before .before .before .before .before in
-    let values = mark .before .before .before .before in
+    let newline = c .before .before in
+    let expected = newline .before .before .before .before .before in
+    let values = expected .before .before .before .before in
     let start = values .before .before .before .before .before .before in
     let header = ap (λ (l : Layout). l .header) (start .before .before .before .before .layout-of .ensures) in
     let a = start .before .before .before .before .before .before .before .args in
     let same = cut-values (a .h .version) (a .h .count) (a .file .now) _ (a .start) (a .h .size) header in (
       start .put-start .ensures .0
           then puts-as _ same (values .put-values .ensures .0)
-          then mark .put-as-expected .ensures .0
-          then end .put-bytes .ensures,
+          then expected .put-as-expected .ensures .0
+          then newline .put-bytes .ensures,
       omega
-          (arith, start .put-start .ensures .1, values .put-values .ensures .1, mark .put-as-expected .ensures .1, end .put-bytes .ensures .counted),
+          (arith, start .put-start .ensures .1, values .put-values .ensures .1, expected .put-as-expected .ensures .1, newline .put-bytes .ensures .counted),
     )
 
 pub put-data-line-spec : {M : Type 1} → statement M

@@ -30,10 +30,10 @@ same-length c = search needs
 returns : tie.Need-returns
 unfolding blockLine
 returns c =
-    let line = c .before .before in
-    let number = line .before .before .before .before .before in
+    let newline = c .before .before in
+    let number = newline .before .before .before .before .before in
     let word = number .before .before .before .before in
-    (λ h f. word .put-bytes .ensures then number .put-decimal .ensures .0 then line .put-bytes2 .ensures, omega arith)
+    (λ h f. word .put-bytes .ensures then number .put-decimal .ensures .0 then newline .put-bytes2 .ensures, omega arith)
 
 pub put-end-line-spec : {M : Type 1} → statement M
 put-end-line-spec =

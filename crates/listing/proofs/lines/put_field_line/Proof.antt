@@ -49,10 +49,10 @@ slice-aggregate-put-bytes-4 c = search needs
 put-bytes-requires-4 : tie.Need-put-bytes-requires-4
 put-bytes-requires-4 c κs =
     let name = c .before .before .before .before in
-    let gap = name .before .before .before .before in
-    let type = gap .before .before .before .before .before in
-    let gap2 = type .before .before .before .before in
-    let index = gap2 .before .before .before .before .before in
+    let name-space = name .before .before .before .before in
+    let type = name-space .before .before .before .before .before in
+    let type-space = type .before .before .before .before in
+    let index = type-space .before .before .before .before .before in
     let word = index .before .before .before .before in
     let pre = word .before .before .before .before .before .before .pre in
     omega (
@@ -60,9 +60,9 @@ put-bytes-requires-4 c κs =
       pre .0,
       word .put-bytes .ensures .counted,
       index .put-decimal .ensures .1,
-      gap2 .put-bytes2 .ensures .counted,
+      type-space .put-bytes2 .ensures .counted,
       type .put-decimal2 .ensures .1,
-      gap .put-bytes3 .ensures .counted,
+      name-space .put-bytes3 .ensures .counted,
       name .put-name .ensures .1,
     )
 
@@ -72,29 +72,29 @@ same-length c = search needs
 returns : tie.Need-returns
 unfolding fieldLine
 returns c =
-    let end = c .before .before in
-    let name = end .before .before .before .before .before in
-    let gap = name .before .before .before .before in
-    let type = gap .before .before .before .before .before in
-    let gap2 = type .before .before .before .before in
-    let index = gap2 .before .before .before .before .before in
+    let newline = c .before .before in
+    let name = newline .before .before .before .before .before in
+    let name-space = name .before .before .before .before in
+    let type = name-space .before .before .before .before .before in
+    let type-space = type .before .before .before .before in
+    let index = type-space .before .before .before .before .before in
     let word = index .before .before .before .before in (
       word .put-bytes .ensures
           then index .put-decimal .ensures .0
-          then gap2 .put-bytes2 .ensures
+          then type-space .put-bytes2 .ensures
           then type .put-decimal2 .ensures .0
-          then gap .put-bytes3 .ensures
+          then name-space .put-bytes3 .ensures
           then name .put-name .ensures .0
-          then end .put-bytes4 .ensures,
+          then newline .put-bytes4 .ensures,
       omega (
         arith,
         word .put-bytes .ensures .counted,
         index .put-decimal .ensures .1,
-        gap2 .put-bytes2 .ensures .counted,
+        type-space .put-bytes2 .ensures .counted,
         type .put-decimal2 .ensures .1,
-        gap .put-bytes3 .ensures .counted,
+        name-space .put-bytes3 .ensures .counted,
         name .put-name .ensures .1,
-        end .put-bytes4 .ensures .counted,
+        newline .put-bytes4 .ensures .counted,
       ),
     )
 

@@ -45,8 +45,8 @@ same-length c = search needs
 returns : tie.Need-returns
 unfolding headerLine
 returns c =
-    let end = c .before .before in
-    let size = end .before .before .before .before .before in
+    let newline = c .before .before in
+    let size = newline .before .before .before .before .before in
     let record-word = size .before .before .before .before .before in
     let count = record-word .before .before .before .before .before in
     let word = count .before .before .before .before .before in (
@@ -54,7 +54,7 @@ returns c =
           then count .put-decimal .ensures .0
           then record-word .put-bytes2 .ensures
           then size .put-decimal2 .ensures .0
-          then end .put-bytes3 .ensures,
+          then newline .put-bytes3 .ensures,
       omega arith,
     )
 

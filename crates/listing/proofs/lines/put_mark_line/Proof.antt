@@ -56,24 +56,24 @@ same-length c = search needs
 returns : tie.Need-returns
 unfolding blockLine
 returns c =
-    let end = c .before .before in
-    let mark = end .before .before .before .before .before in
-    let text = mark .before .before .before .before in
-    let gap = text .before .before .before .before .before in
-    let start = gap .before .before .before .before .before in
+    let newline = c .before .before in
+    let expected = newline .before .before .before .before .before in
+    let text = expected .before .before .before .before in
+    let text-space = text .before .before .before .before .before in
+    let start = text-space .before .before .before .before .before in
     let a = start .before .before .before .before .before .args in
     let same = ap printed (part-is (a .file .now) (a .start) (a .len) (a .len) refl) in (
       start .put-start .ensures .0
-          then (gap .put-bytes .ensures then puts-as _ same (text .put-printed .ensures .0))
-          then mark .put-as-expected .ensures .0
-          then end .put-bytes2 .ensures,
+          then (text-space .put-bytes .ensures then puts-as _ same (text .put-printed .ensures .0))
+          then expected .put-as-expected .ensures .0
+          then newline .put-bytes2 .ensures,
       omega (
         arith,
         start .put-start .ensures .1,
-        gap .put-bytes .ensures .counted,
+        text-space .put-bytes .ensures .counted,
         text .put-printed .ensures .1,
-        mark .put-as-expected .ensures .1,
-        end .put-bytes2 .ensures .counted,
+        expected .put-as-expected .ensures .1,
+        newline .put-bytes2 .ensures .counted,
       ),
     )
 

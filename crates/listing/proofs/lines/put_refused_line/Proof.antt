@@ -39,8 +39,8 @@ same-length c = search needs
 returns : tie.Need-returns
 unfolding blockLine
 returns c =
-    let end = c .before .before in
-    let place = end .before .before .before .before .before in
+    let newline = c .before .before in
+    let place = newline .before .before .before .before .before in
     let at-word = place .before .before .before .before in
     let number = at-word .before .before .before .before .before in
     let word = number .before .before .before .before in (
@@ -49,7 +49,7 @@ returns c =
           then number .put-decimal .ensures .0
           then at-word .put-bytes2 .ensures
           then place .put-decimal2 .ensures .0
-          then end .put-bytes3 .ensures,
+          then newline .put-bytes3 .ensures,
       omega arith,
     )
 

@@ -32,14 +32,14 @@ same-length c = search needs
 returns : tie.Need-returns
 returns c =
     let time = c .before .before in
-    let gap = time .before .before .before .before in
-    let counter = gap .before .before .before .before .before in
+    let time-space = time .before .before .before .before in
+    let counter = time-space .before .before .before .before .before in
     let kind = counter .before .before .before .before in
     let number = kind .before .before .before .before in (
       number .put-decimal .ensures .0
           then kind .put-bytes .ensures
           then counter .put-decimal2 .ensures .0
-          then gap .put-bytes2 .ensures
+          then time-space .put-bytes2 .ensures
           then time .put-decimal3 .ensures .0,
       omega arith,
     )

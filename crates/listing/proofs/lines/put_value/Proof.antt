@@ -48,15 +48,15 @@ same-length c = search needs
 returns-2 : tie.Need-returns-2
 unfolding valueText
 returns-2 c =
-    let gap = c .before .before .before .before .before .before in
-    let is = gap .before .before .before .before .value .given in
-    let raw = gap .before .before .before .before .before .before .raw-value in
-    let entry = gap .before .before .before .before .before .before .before .before .before .before in
+    let space = c .before .before .before .before .before .before in
+    let is = space .before .before .before .before .value .given in
+    let raw = space .before .before .before .before .before .before .raw-value in
+    let entry = space .before .before .before .before .before .before .before .before .before .before in
     let a = entry .args in
     let z = raw-is 2 (a .field .now) (a .raw .now) (raw .result) _ (entry .pre .1) (raw .ensures .0) (is .1) in
     let text = ap integer (toZ-ofZ w64 (is .0 .0) (search needs) ∙ z) in
     let value = c .before .before .put-integer .ensures .0 in
-    (gap .put-bytes .ensures then puts-as (integer (rawOf (typeOf (a .field .now)) (a .raw .now))) text value, omega arith)
+    (space .put-bytes .ensures then puts-as (integer (rawOf (typeOf (a .field .now)) (a .raw .now))) text value, omega arith)
 
 pub put-value-spec : {M : Type 1} → statement M
 put-value-spec =

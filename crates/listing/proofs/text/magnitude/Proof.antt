@@ -2,9 +2,7 @@ use Rattle.listing.proofs.text.magnitude.Statement.{statement}
 use Rattle.listing.proofs.text.magnitude.Tie as tie
 use Rattle.listing.proofs.text.magnitude.Reads as reads
 use Rattle.listing.proofs.text.magnitude.Lts as lts
-use borrow.Author.Needs.{needs}
 use native.Mathlib.Omega.{arith}
-use mathlib.Core.Path.{_≡_, sym, _∙_, ap}
 use Rattle.listing_rules.proofs.Integers.{negative, positive, difference-fits, difference-casts, size-of-negative, casts, size-of-positive, size-fits}
 
 sub-result : tie.Need-sub-result

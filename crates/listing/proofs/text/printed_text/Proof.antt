@@ -6,7 +6,6 @@ use Rattle.listing.proofs.text.printed_byte.Reads as printed-byte-reads
 use borrow.Author.Needs.{needs}
 use Prim.Native.Nat.{_≤_, _-_}
 use mathlib.Core.Path.{_≡_, refl}
-use native.Mathlib.Omega.{arith}
 use lib.ListN.{length}
 use Rattle.listing_rules.proofs.PrintedText.{Printed, printed-more, printed-all}
 

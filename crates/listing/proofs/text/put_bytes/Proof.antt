@@ -6,7 +6,6 @@ use Rattle.listing.proofs.text.put_bytes.Lts as lts
 use Rattle.wire.proofs.put.Reads as put-reads
 use Rattle.listing_rules.proofs.PutsText.{puts-bytes}
 use mathlib.Core.Path.{refl}
-use native.Mathlib.Omega.{arith}
 
 put-requires : tie.Need-put-requires
 put-requires c κs = search needs

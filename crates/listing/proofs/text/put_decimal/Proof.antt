@@ -4,11 +4,11 @@ use Rattle.listing.proofs.text.put_decimal.Reads as reads
 use Rattle.listing.proofs.text.put_decimal.Lts as lts
 use Rattle.listing.proofs.text.put_bytes.Reads as put-bytes-reads
 use borrow.Author.Needs.{needs}
-use Prim.Native.Nat.{_≤_, _<_, _+_, _^_, _/_}
-use mathlib.Core.Path.{_≡_, refl}
+use Prim.Native.Nat.{_≤_, _<_, _^_}
+use mathlib.Core.Path.{_≡_}
 use mathlib.Core.List.{_++_}
 use native.Mathlib.Omega.{arith}
-use lib.ListN.{length, drop, length-drop}
+use lib.ListN.{length, drop}
 use Rattle.listing_rules.specs.Text.{decimal}
 use Rattle.listing_rules.proofs.PutsText.{puts-as}
 use Rattle.listing_rules.proofs.Digits.{allOf, more, decimal-all, done, fewer}

@@ -7,9 +7,7 @@ use Rattle.listing.proofs.text.magnitude.Reads as magnitude-reads
 use Rattle.listing.proofs.text.put_bytes.Reads as put-bytes-reads
 use Rattle.listing.proofs.text.put_decimal.Reads as put-decimal-reads
 use native.Mathlib.Omega.{arith}
-use mathlib.Core.Path.{_≡_, sym, _∙_, ap}
-use mathlib.Core.List.{_∷_}
-use Rattle.listing_rules.specs.Text.{decimal, integer}
+use Rattle.listing_rules.specs.Text.{integer}
 use Rattle.listing_rules.proofs.PutsText.{puts-as, _then_}
 use Rattle.listing_rules.proofs.Integers.{negative, positive, negative-text, positive-text}
 

@@ -6,7 +6,7 @@ use Rattle.listing.proofs.text.put_printed.Lts as lts
 use Rattle.listing.proofs.text.put_bytes.Reads as put-bytes-reads
 use Rattle.listing.proofs.text.printed_text.Reads as printed-text-reads
 use native.Mathlib.Omega.{arith}
-use mathlib.Core.Path.{_≡_, sym, _∙_, ap}
+use mathlib.Core.Path.{sym, _∙_, ap}
 use lib.ListN.{length}
 use Rattle.listing_rules.proofs.PutsText.{puts-as}
 use Rattle.listing_rules.proofs.PrintedText.{printed-length}
