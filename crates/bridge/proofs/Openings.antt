@@ -16,7 +16,7 @@ use Rattle.bridge_rules.specs.declared.Opened.{Opened}
 use Rattle.bridge_rules.specs.State.{lowestFree, isNone, orZero, orFour}
 use Rattle.bridge_rules.specs.Answers.{openedOf}
 use Rattle.bridge_rules.specs.Opening.{Ask, write, askCount, opened, openNumber, openOf}
-use Rattle.bridge_rules.proofs.Refusals.{open-facts, lent-ok}
+use Rattle.bridge_rules.proofs.NumberLaws.{open-facts, lent-ok}
 use Rattle.bridge.proofs.Searches.{free-small, slot-found}
 
 module _ (s : Bridge) (b : List ℕ) (a : Ask) where

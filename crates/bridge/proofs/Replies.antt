@@ -28,10 +28,11 @@ use Rattle.bridge_rules.specs.Answers.{yieldedOf, steppedOf}
 use Rattle.bridge_rules.specs.Turn.{chunkLen, advanced}
 use Rattle.bridge_rules.specs.Incoming.{awaits, awaiting, contentNumber, replyNumber, frameOf}
 use Rattle.bridge_rules.proofs.Search.{lowest-some, lowest-none, option-cases}
-use Rattle.bridge_rules.proofs.Sound.{true-sound}
-use Rattle.bridge_rules.proofs.CallKinds.{AwaitsOk, awaits-ok, wait-ok}
+use Rattle.bridge_rules.proofs.SoundTest.{true-sound}
+use Rattle.bridge_rules.proofs.AwaitsTest.{AwaitsOk, awaits-ok}
+use Rattle.bridge_rules.proofs.SlotOk.{wait-ok}
 use Rattle.bridge_rules.proofs.FrameLaws.{len-inside}
-use Rattle.bridge_rules.proofs.Refusals.{lent-ok}
+use Rattle.bridge_rules.proofs.NumberLaws.{lent-ok}
 use Rattle.bridge.proofs.Searches.{awaiting-small, slot-found}
 
 -- ── 1 to 5 ─────────────────────────────────────────────────────────────────────────────────────────────────────────
@@ -90,9 +91,9 @@ module _ (s : Bridge) (f : Frame) (h : sound s ≡ true) (p : Parts) (e : p ≡ 
   unfolding partsOf
   whose j l z =
       let a = awaits-ok s f j z in
-      let w = wait-ok (s .issued) (slot s j) (true-sound s h .each j l) (a .waits) in
+      let w = wait-ok (slot s j) (true-sound s h .each j l) (a .waits) in
       let o : p .offset ≡ idOffset (f .id) = ap (λ (x : Parts). x .offset) e in
-      omega (arith, a .place, w .mid .below, w .common .few)
+      omega (arith, a .place, w .partway .below, w .held .args .few)
 
   pub awaited-there : k < 4 → takes (slot s k) k p (f .len) ≡ true → k ≡ orFour (awaiting s f)
   unfolding awaiting
@@ -146,9 +147,9 @@ module _ (s : Bridge) (b : List ℕ) (f : Frame) where
 
       reply-fits : 128 * k + slot s k .progress + f .len ≤ length b
       reply-fits =
-          let w = wait-ok (s .issued) (slot s k) (true-sound s (reply-lent .0) .each k (reply-at .1)) (reply-awaited .waits) in
-          let i = len-inside (slot s k .count) (slot s k .progress) (w .mid .below) in
-          omega (arith, reply-at .1, reply-lent .1, reply-awaited .len, w .common .few, w .mid .below, i)
+          let w = wait-ok (slot s k) (true-sound s (reply-lent .0) .each k (reply-at .1)) (reply-awaited .waits) in
+          let i = len-inside (slot s k .count) (slot s k .progress) (w .partway .below) in
+          omega (arith, reply-at .1, reply-lent .1, reply-awaited .len, w .held .args .few, w .partway .below, i)
 
       reply-puts : putOf b (128 * k + slot s k .progress) (content f) ≡ sets b (128 * k + slot s k .progress) (content f)
       unfolding content

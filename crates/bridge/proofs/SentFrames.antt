@@ -19,7 +19,8 @@ use Rattle.bridge_rules.specs.declared.Bridge.{Bridge}
 use Rattle.bridge_rules.specs.declared.Slot.{Slot}
 use Rattle.bridge_rules.specs.State.{slot, sound, isReady}
 use Rattle.bridge_rules.specs.Turn.{chunkLen, outgoing}
-use Rattle.bridge_rules.proofs.Sound.{ReadyOk, ready-ok, true-sound}
+use Rattle.bridge_rules.proofs.SlotOk.{ReadyOk, ready-ok}
+use Rattle.bridge_rules.proofs.SoundTest.{true-sound}
 use Rattle.bridge_rules.proofs.FrameLaws.{len-inside}
 
 -- parts that the rows hold
@@ -51,5 +52,5 @@ module _ (k : ℕ) (x : Slot) (b : List ℕ) (hk : k < 4) (hp : x .progress < x 
   goes-length = part-length b (128 * k + x .progress) (chunkLen (x .count) (x .progress)) goes-inside
 
 -- what is known of a ready slot of a sound bridge
-pub readies : (s : Bridge) (k : ℕ) → sound s ≡ true → k < 4 → isReady (slot s k .phase) ≡ true → ReadyOk (s .issued) (slot s k)
-readies s k h l r = ready-ok (s .issued) (slot s k) (true-sound s h .each k l) r
+pub readies : (s : Bridge) (k : ℕ) → sound s ≡ true → k < 4 → isReady (slot s k .phase) ≡ true → ReadyOk (slot s k)
+readies s k h l r = ready-ok (slot s k) (true-sound s h .each k l) r

@@ -13,7 +13,8 @@ use Rattle.bridge_rules.specs.declared.Bridge.{Bridge}
 use Rattle.bridge_rules.specs.declared.Slot.{Slot}
 use Rattle.bridge_rules.specs.State.{slot, heldSlot, isNone, orZero, orFour, sound, asks}
 use Rattle.bridge_rules.specs.Ending.{ticketNumber, bytesNumber, slotSpan, spanOf, noSpan, partOf, bytesOf}
-use Rattle.bridge_rules.proofs.Sound.{SlotOk, okFree, okReady, okWaiting, okDone, okGaveUp, true-sound}
+use Rattle.bridge_rules.proofs.SlotOk.{count-few}
+use Rattle.bridge_rules.proofs.SoundTest.{true-sound}
 use Rattle.bridge.proofs.Searches.{held-small, slot-found, orZero-four}
 
 module _ (s : Bridge) (n t : ℕ) where
@@ -40,21 +41,13 @@ module _ (s : Bridge) (n t : ℕ) where
     unfolding spanOf
     span-is = rw (← bytes-at .0, eq-eqb _ 0 e)
 
--- a sound slot has at most 128 bytes
-count-few : (t : ℕ) (x : Slot) → SlotOk t x → x .count ≤ 128
-count-few t x (okFree e) = omega (arith, ap (λ (y : Slot). y .count) e)
-count-few t x (okReady e c m s w l) = c .few
-count-few t x (okWaiting e c m w s s′ l l′) = c .few
-count-few t x (okDone e c q s l) = c .few
-count-few t x (okGaveUp e c m w s l) = c .few
-
 -- a span lies within the buffer
 slotSpan-fits : (s : Bridge) (k : ℕ) → sound s ≡ true → k < 4 → slotSpan s k .start + slotSpan s k .len ≤ 512
 unfolding slotSpan
 slotSpan-fits s k h l = go (asks (slot s k .kind))
   where
     few : slot s k .count ≤ 128
-    few = count-few (s .issued) (slot s k) (true-sound s h .each k l)
+    few = count-few (slot s k) (true-sound s h .each k l)
 
     go : (b : Bool) → cond b (record { number = 0; start = 128 * k; len = slot s k .count }) (noSpan 0) .start
         + cond b (record { number = 0; start = 128 * k; len = slot s k .count }) (noSpan 0) .len ≤ 512

@@ -12,9 +12,9 @@ use Rattle.bridge_rules.specs.State.{slot, sound, isReady, nextReady}
 use Rattle.bridge_rules.specs.Answers.{lentNumber, yieldedOf, steppedOf}
 use Rattle.bridge_rules.specs.Turn.{agedBridge, turnOf, sendFor}
 use Rattle.bridge_rules.proofs.Search.{search-some}
-use Rattle.bridge_rules.proofs.Sound.{true-sound, sound-true}
-use Rattle.bridge_rules.proofs.CallKinds.{aged-sound}
-use Rattle.bridge_rules.proofs.Refusals.{lent-ok}
+use Rattle.bridge_rules.proofs.SoundTest.{true-sound, sound-true}
+use Rattle.bridge_rules.proofs.SoundStates.{aged-sound}
+use Rattle.bridge_rules.proofs.NumberLaws.{lent-ok}
 
 module _ (s : Bridge) (b : List ℕ) where
   pub turn-refused : (n : ℕ) → n ≡ lentNumber s (length b) → (n ≡ 0 → ⊥)

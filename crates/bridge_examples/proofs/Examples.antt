@@ -1,6 +1,6 @@
 -- The example runs, proved by computation; what is said of every event is tested over the list of calls.
 use Prim.Native.Nat.{ℕ, zero, suc, _+_, _≤_, _<_}
-use mathlib.Core.Path.{_≡_, refl, sym, _∙_, ap, subst}
+use mathlib.Core.Path.{_≡_, refl, sym, _∙_, ap, ap₂, subst}
 use mathlib.Core.Logic.{_⊎_, inl, inr, _≢_}
 use mathlib.Core.List.{List, [], _∷_}
 use mathlib.Core.Option.{some}
@@ -15,19 +15,21 @@ use Rattle.bus_rules.specs.Ident.{idOf, idFrom}
 use Rattle.bus_rules.specs.Frames.{frameWith, content, req, rsp}
 use Rattle.bus_rules.specs.Holder.{serveOf, answerWith}
 use Rattle.bus_rules.specs.declared.Served.{Served}
+use Rattle.bus_rules.specs.Device.{Device, SameTables}
+use Rattle.bus_rules.proofs.Replies.{answerer-unchanged}
 use Rattle.bridge_rules.specs.State.{Frame}
 use Rattle.bridge_rules.specs.Opening.{read, isWrite, askDevice}
 use Rattle.bridge_rules.specs.Incoming.{contentNumber}
 use Rattle.bridge_rules.specs.Call.{Lent, itsOwn, other, Call, opening, turn, frame, status, bytes, close, reset}
 use Rattle.bridge_rules.specs.Run.{Run, Lawful, ShapedLent, Shaped, Transfer, Closing, Stands, isTurn, accepted, turns, chunks, answer, ledger}
 use Rattle.bridge_rules.specs.Replies.{requestFrame, matchesCall, Matches, Sent, Replied}
-use Rattle.bridge_rules.specs.Device.{Device, Timeline, Arrives, Own, range, NotAfter, Meanwhile, Unwritten}
+use Rattle.bridge_rules.specs.Device.{Timeline, Arrives, Own, range, NotAfter, Meanwhile, Unwritten}
 use Rattle.bridge_examples.specs.Examples.{directory, memory, holding, after, run, reply, before, DoneRead, alone, unchanging, AloneShows}
 use Rattle.bridge_examples.specs.Examples.{together, written, TogetherShows, restarted, writtenOnce, RestartedShows, torn, overwritten, TornShows}
 use Rattle.bridge_examples.specs.Examples.{forged, ForgedShows, late, slow, LateShows, silence, sendsOf, Reckonings, Examples}
-use Rattle.bridge_rules.proofs.Openers.{everything}
+use Rattle.bridge_rules.proofs.Computing.{everything}
 use Rattle.bridge_rules.proofs.Search.{and-true, some-eq}
-use Rattle.bridge_rules.proofs.CallKinds.{isFrame}
+use Rattle.bridge_rules.proofs.CallCases.{isFrame}
 
 -- ── tests of every call of a list ──────────────────────────────────────────────────────────────────────────────────
 
@@ -192,16 +194,18 @@ same-frame c f g p q = let z : frame itsOwn f ≡ frame itsOwn g = sym p ∙ q i
 -- a reply that is the device's own, as the holder's rules give it
 own-reply : (r : Run) (t : Timeline) (m : ℕ) (q g : Frame) → t .asked m < m → accepted r (t .asked m) ≡ true
     → answer r (t .asked m) .sent ≡ some q → t .when (t .asked m) ≤ t .answered m → t .answered m ≤ t .when m
-    → serveOf (t .device (t .answered m) .directory) (t .device (t .answered m) .memory) q ≡ answerWith g → Own r t m g
+    → serveOf (t .device (t .answered m)) q ≡ answerWith g → Own r t m g
 own-reply r t m q g e a y s u h = record {
   request = q;
   reply = g;
+  before = t .device (t .answered m);
   earlier = e;
   turned = a;
   yields = y;
   sinceAsked = s;
   untilArrived = u;
   gives = h;
+  after = sym (answerer-unchanged (t .device (t .answered m)) q g h);
   sameId = refl;
   sameLen = refl;
   sameBytes = refl;
@@ -295,7 +299,7 @@ alone-shows = record {
         current = λ m f a y c. sent-before (run alone) y c (alone-x .at) m (a .since);
       };
       first = not-after alone 2 3 unchanging refl (λ m l. omega arith) alone-x 5;
-      unwritten = record { directory = λ τ τ′ a b. refl; unchanged = λ τ τ′ a b. refl };
+      unwritten = record { sameTables = λ τ τ′ a b. refl; unchanged = λ τ τ′ a b. refl };
     };
     meanwhile = until (run alone) alone-x 5 unchanging 3 5 1 4 (omega arith) (omega arith) alone-replied′ (omega arith);
     same = refl;
@@ -340,7 +344,7 @@ unfolding together
 together-call30 = refl
 
 -- the device is the same all the while
-together-same : (τ : ℕ) → Meanwhile (run together) together-x 33 written 5 τ → written .device τ ≡ holding (after memory 6 (1 ∷ 2 ∷ []))
+together-same : (τ : ℕ) → Meanwhile (run together) together-x 33 written 5 τ → written .device τ ≡ after holding 6 (1 ∷ 2 ∷ [])
 together-same τ w =
     let l : 4 ≤ τ = omega (arith, w .since) in
     let u : τ < 33 = omega (arith, w .until, w .before) in
@@ -375,7 +379,7 @@ together-shows = record {
       };
       first = not-after together 6 5 written refl (λ m l. omega arith) together-x 33;
       unwritten = record {
-        directory = λ τ τ′ a b. ap (λ (d : Device). d .directory) (together-same τ a ∙ sym (together-same τ′ b));
+        sameTables = λ τ τ′ a b. ap (λ (d : Device). d .directory) (together-same τ a ∙ sym (together-same τ′ b));
         unchanged = λ τ τ′ a b. ap (range (run together) together-x) (together-same τ a ∙ sym (together-same τ′ b));
       };
     };
@@ -415,7 +419,7 @@ restarted-replied : Replied (run restarted) restarted-x 0 5
 unfolding everything restarted restarted-x
 restarted-replied = replied-next restarted restarted-x 0 4 restarted-stands (omega arith) refl (omega arith) refl refl (omega arith) refl
 
-restarted-same : (τ : ℕ) → Meanwhile (run restarted) restarted-x 6 writtenOnce 5 τ → writtenOnce .device τ ≡ holding (after memory 6 (1 ∷ 2 ∷ []))
+restarted-same : (τ : ℕ) → Meanwhile (run restarted) restarted-x 6 writtenOnce 5 τ → writtenOnce .device τ ≡ after holding 6 (1 ∷ 2 ∷ [])
 restarted-same τ w =
     let l : 2 ≤ τ = omega (arith, w .since) in
     rw (le-ltb τ 2 l)
@@ -446,7 +450,7 @@ restarted-shows = record {
       };
       first = not-after restarted 5 5 writtenOnce refl (λ m l. omega arith) restarted-x 6;
       unwritten = record {
-        directory = λ τ τ′ a b. ap (λ (d : Device). d .directory) (restarted-same τ a ∙ sym (restarted-same τ′ b));
+        sameTables = λ τ τ′ a b. ap (λ (d : Device). d .directory) (restarted-same τ a ∙ sym (restarted-same τ′ b));
         unchanged = λ τ τ′ a b. ap (range (run restarted) restarted-x) (restarted-same τ a ∙ sym (restarted-same τ′ b));
       };
     };
@@ -497,7 +501,7 @@ torn-read =
     record { lawful = run-lawful torn refl; x = torn-x; opened = refl; stands = torn-stands 7 (omega arith); done = refl; shown = refl }
 
 -- the range's bytes before and after the write differ from those shown, at place 8 and at place 6
-torn-never : (b : Bool) → range (run torn) torn-x (holding (cond b memory (after memory 12 (1 ∷ 2 ∷ 3 ∷ 4 ∷ []))))
+torn-never : (b : Bool) → range (run torn) torn-x (cond b holding (after holding 12 (1 ∷ 2 ∷ 3 ∷ 4 ∷ [])))
     ≢ 106 ∷ 107 ∷ 108 ∷ 109 ∷ 110 ∷ 111 ∷ 112 ∷ 113 ∷ 3 ∷ 4 ∷ []
 unfolding everything torn reply torn-x directory memory after
 torn-never true e = let z : _≡_ {A = ℕ} 114 3 = ap (λ (l : List ℕ). getD l 8 0) e in omega arith
@@ -556,7 +560,8 @@ forged-forgery : ¬ Own (run forged) unchanging 4 (reply 5 8 (0 ∷ 0 ∷ []))
 unfolding everything forged reply directory memory
 forged-forgery o =
     let q : frameWith 0x3882B8 (6 ∷ 1 ∷ 2 ∷ []) ≡ o .request = some-eq (o .yields) in
-    let g : answerWith (reply 5 8 (114 ∷ 115 ∷ [])) ≡ answerWith (o .reply) = ap (serveOf directory memory) q ∙ o .gives in
+    let d : holding ≡ o .before = o .after ∙ answerer-unchanged (o .before) (o .request) (o .reply) (o .gives) in
+    let g : answerWith (reply 5 8 (114 ∷ 115 ∷ [])) ≡ answerWith (o .reply) = ap₂ serveOf d q ∙ o .gives in
     let z : _≡_ {A = ℕ} 0 114 = ap (λ (l : List ℕ). getD l 0 0) (o .sameBytes ∙ sym (ap (λ (s : Served). content (s .frame)) g)) in
     omega arith
 
@@ -572,7 +577,7 @@ forged-shows = record {
   own = forged-others;
   current = λ m f a y c. sent-before (run forged) y c (forged-x .at) m (a .since);
   first = not-after forged 2 3 unchanging refl (λ m l. omega arith) forged-x 5;
-  unwritten = record { directory = λ τ τ′ a b. refl; unchanged = λ τ τ′ a b. refl };
+  unwritten = record { sameTables = λ τ τ′ a b. refl; unchanged = λ τ τ′ a b. refl };
   asked = refl;
   forgery = forged-forgery;
 }
@@ -633,7 +638,7 @@ late-shows = record {
   reader = late-read;
   own = two-own late slow late-x 6 5 5 _ _ refl refl late-call5 late-own5 late-call5 late-own5;
   first = not-after late 5 5 slow refl (λ m l. omega arith) late-x 6;
-  unwritten = record { directory = λ τ τ′ a b. refl; unchanged = λ τ τ′ a b. refl };
+  unwritten = record { sameTables = λ τ τ′ a b. refl; unchanged = λ τ τ′ a b. refl };
   asked = refl;
   closed = (late-closed, late-sent, late-gone);
 }

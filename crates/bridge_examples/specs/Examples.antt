@@ -10,14 +10,15 @@ use lib.ListN.{replicate}
 use lib.Dec.{ltb}
 use Rattle.bus_rules.specs.Ident.{idOf}
 use Rattle.bus_rules.specs.Frames.{cmd, rsp, frameWith}
-use Rattle.bus_rules.specs.Holder.{memoryOf}
+use Rattle.bus_rules.specs.Device.{Device, device}
+use Rattle.bus_rules.specs.Holder.{deviceAfter}
 use Rattle.bus_rules.specs.declared.Directory.{Directory}
 use Rattle.bridge_rules.specs.State.{Frame}
 use Rattle.bridge_rules.specs.Opening.{read, write}
 use Rattle.bridge_rules.specs.Call.{Call, itsOwn, opening, turn, frame, status, close, reset}
 use Rattle.bridge_rules.specs.Run.{Run, Lawful, Transfer, Stands, Done, shownAt, answer, answerTo}
 use Rattle.bridge_rules.specs.Replies.{Sent}
-use Rattle.bridge_rules.specs.Device.{Device, Timeline, range, Arrives, Own, Arrivals, Current, NotAfter, Meanwhile, Unwritten, Premises}
+use Rattle.bridge_rules.specs.Device.{Timeline, range, Arrives, Own, Arrivals, Current, NotAfter, Meanwhile, Unwritten, Premises}
 use Rattle.bridge_rules.specs.Demand3.{showing, runOf}
 
 -- device 5: table 7 has 16 bytes, 100 to 115, and all rights
@@ -33,13 +34,12 @@ directory = record {
 unfoldable pub memory : List ℕ
 memory = 100 ∷ 101 ∷ 102 ∷ 103 ∷ 104 ∷ 105 ∷ 106 ∷ 107 ∷ 108 ∷ 109 ∷ 110 ∷ 111 ∷ 112 ∷ 113 ∷ 114 ∷ 115 ∷ []
 
--- the device with these bytes
-abbrev pub holding : List ℕ → Device
-holding m = record { directory = directory; memory = m }
+abbrev pub holding : Device
+holding = device directory memory
 
--- what becomes of these bytes by a CMD from bridge 0 that writes at an offset of table 7
-unfoldable pub after : List ℕ → (offset : ℕ) → List ℕ → List ℕ
-after m offset bs = memoryOf directory m (frameWith (idOf offset cmd 0 5 7) bs)
+-- what becomes of a device by a CMD from bridge 0 that writes at an offset of table 7
+unfoldable pub after : Device → (offset : ℕ) → List ℕ → Device
+after d offset bs = deviceAfter d (frameWith (idOf offset cmd 0 5 7) bs)
 
 -- the run of bridge 0, from 512 zeros
 abbrev pub run : List Call → Run
@@ -83,7 +83,7 @@ alone =
 
 -- events are two moments apart, and a reply arrives one moment after it is given
 abbrev pub unchanging : Timeline
-unchanging = record { when = λ k. 2 * k; device = λ τ. holding memory; asked = before; answered = λ m. 2 * m - 1 }
+unchanging = record { when = λ k. 2 * k; device = λ τ. holding; asked = before; answered = λ m. 2 * m - 1 }
 
 pub record AloneShows : Type 0 where
   pub shows : Shows alone 0 5 (106 ∷ 107 ∷ 108 ∷ 109 ∷ 110 ∷ 111 ∷ 112 ∷ 113 ∷ 114 ∷ 115 ∷ []) unchanging 3 5
@@ -122,7 +122,7 @@ together =
 abbrev pub written : Timeline
 written = record {
   when = λ k. k;
-  device = λ τ. holding (cond (ltb τ 4) memory (cond (ltb τ 33) (after memory 6 (1 ∷ 2 ∷ [])) (after (after memory 6 (1 ∷ 2 ∷ [])) 6 (3 ∷ 4 ∷ []))));
+  device = λ τ. cond (ltb τ 4) holding (cond (ltb τ 33) (after holding 6 (1 ∷ 2 ∷ [])) (after (after holding 6 (1 ∷ 2 ∷ [])) 6 (3 ∷ 4 ∷ [])));
   asked = before;
   answered = λ m. m;
 }
@@ -154,7 +154,7 @@ restarted =
 abbrev pub writtenOnce : Timeline
 writtenOnce = record {
   when = λ k. k;
-  device = λ τ. holding (cond (ltb τ 2) memory (after memory 6 (1 ∷ 2 ∷ [])));
+  device = λ τ. cond (ltb τ 2) holding (after holding 6 (1 ∷ 2 ∷ []));
   asked = before;
   answered = λ m. m;
 }
@@ -185,7 +185,7 @@ torn =
 abbrev pub overwritten : Timeline
 overwritten = record {
   when = λ k. k;
-  device = λ τ. holding (cond (ltb τ 5) memory (after memory 12 (1 ∷ 2 ∷ 3 ∷ 4 ∷ [])));
+  device = λ τ. cond (ltb τ 5) holding (after holding 12 (1 ∷ 2 ∷ 3 ∷ 4 ∷ []));
   asked = before;
   answered = λ m. m;
 }
@@ -219,7 +219,7 @@ pub record ForgedShows : Type 0 where
   pub current : Current (run forged) (reader .x) 5 unchanging
   pub first : NotAfter (run forged) (reader .x) 5 unchanging 3
   pub unwritten : Unwritten (run forged) (reader .x) unchanging (Meanwhile (run forged) (reader .x) 5 unchanging 3)
-  pub asked : range (run forged) (reader .x) (holding memory) ≡ 106 ∷ 107 ∷ 108 ∷ 109 ∷ 110 ∷ 111 ∷ 112 ∷ 113 ∷ 114 ∷ 115 ∷ []
+  pub asked : range (run forged) (reader .x) holding ≡ 106 ∷ 107 ∷ 108 ∷ 109 ∷ 110 ∷ 111 ∷ 112 ∷ 113 ∷ 114 ∷ 115 ∷ []
   -- the premise that fails: the holder's rules give other bytes
   pub forgery : ¬ Own (run forged) unchanging 4 (reply 5 8 (0 ∷ 0 ∷ []))
 
@@ -239,7 +239,7 @@ late =
 
 -- a reply answers the first read's request
 abbrev pub slow : Timeline
-slow = record { when = λ k. k; device = λ τ. holding memory; asked = λ m. 1; answered = λ m. m }
+slow = record { when = λ k. k; device = λ τ. holding; asked = λ m. 1; answered = λ m. m }
 
 -- each reply is the device's own and nothing is written; yet the second read is done and shows the first one's bytes
 pub record LateShows : Type 0 where
@@ -247,7 +247,7 @@ pub record LateShows : Type 0 where
   pub own : (m : ℕ) (f : Frame) → Arrives (run late) (reader .x) 6 m f → Own (run late) slow m f
   pub first : NotAfter (run late) (reader .x) 6 slow 5
   pub unwritten : Unwritten (run late) (reader .x) slow (Meanwhile (run late) (reader .x) 6 slow 5)
-  pub asked : range (run late) (reader .x) (holding memory) ≡ 108 ∷ 109 ∷ 110 ∷ 111 ∷ 112 ∷ 113 ∷ 114 ∷ 115 ∷ []
+  pub asked : range (run late) (reader .x) holding ≡ 108 ∷ 109 ∷ 110 ∷ 111 ∷ 112 ∷ 113 ∷ 114 ∷ 115 ∷ []
   -- the premise that fails: the transfer whose request is answered was closed
   pub closed : (y : Transfer (run late)) × Sent (run late) y 0 1 × (¬ Stands (run late) y 5)
 

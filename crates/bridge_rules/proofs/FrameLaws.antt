@@ -13,7 +13,7 @@ use Rattle.bus_rules.specs.Request.{request}
 use Rattle.bridge_rules.specs.State.{Frame, Slot, asks, carries}
 use Rattle.bridge_rules.specs.Turn.{outgoing, sentFrame, readFrame, writeFrame, chunkLen}
 use Rattle.bus_rules.proofs.IdentLaws.{kind-of-id}
-use Rattle.bridge_rules.proofs.ReadWrite.{asks-alone}
+use Rattle.bridge_rules.proofs.KindTests.{asks-only}
 
 -- a CMD is no REQ
 pub kinds-apart : (o f t tb o′ f′ t′ tb′ : ℕ) → o < 2048 → f < 16 → t < 16 → tb < 32 → o′ < 2048 → f′ < 16 → t′ < 16 → tb′ < 32
@@ -67,7 +67,7 @@ pub read-is : (own k : ℕ) (x : Slot) (b : List ℕ) → asks (x .kind) ≡ tru
     → sentFrame own k x b ≡ frameWith (idOf (x .offset + x .progress) req own (x .device) (x .table))
     (request 6 (128 * k + x .progress) (chunkLen (x .count) (x .progress)))
 unfolding sentFrame readFrame
-read-is own k x b e = rw (asks-alone (x .kind) e)
+read-is own k x b e = rw (asks-only (x .kind) e)
 
 pub write-is : (own k : ℕ) (x : Slot) (b : List ℕ) → carries (x .kind) ≡ true
     → sentFrame own k x b ≡ frameWith (idOf (x .offset + x .progress) cmd own (x .device) (x .table))

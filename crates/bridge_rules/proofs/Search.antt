@@ -4,7 +4,7 @@ use mathlib.Core.Path.{_≡_, refl, sym, _∙_, ap}
 use mathlib.Core.Logic.{_⊎_, inl, inr, _≢_}
 use mathlib.Core.List.{List}
 use mathlib.Core.Option.{Option, none, some}
-use mathlib.Core.Bool.{Bool, true, false, cond, _&&_, false≢true}
+use mathlib.Core.Bool.{Bool, true, false, cond, _&&_, false≢true, true≢false}
 use native.Mathlib.Nat.{add-suc, suc-add, add-zero}
 use native.Mathlib.Omega.{arith}
 use lib.Dec.{eqb}
@@ -99,6 +99,9 @@ lowest-some p k e =
 
 pub lowest-none : (p : ℕ → Bool) → firstSlot p 0 4 ≡ none → (k : ℕ) → k < 4 → p k ≡ false
 lowest-none p q k l = ap p (sym (small k l)) ∙ search-none p 0 4 q k l
+
+pub contradiction : {A : Type 0} {b : Bool} → b ≡ true → b ≡ false → A
+contradiction p q = absurd (true≢false (sym p ∙ q))
 
 pub and-true : (a b : Bool) → (a && b) ≡ true → (a ≡ true) × (b ≡ true)
 and-true true b e = (refl, e)

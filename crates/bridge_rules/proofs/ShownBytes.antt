@@ -9,7 +9,7 @@ use lib.ListN.{length, take, drop, getD, length-take, length-drop}
 use lib.Seq.{take-add, getD-take, getD-drop, drop-drop, ext-getD}
 use lib.Dec.{eqb}
 use borrow.Author.Tests.{eqb-true, eq-eqb, ne-eqb}
-use Rattle.bridge_rules.specs.State.{Bridge, Slot, free, ready, waiting, done, gaveUp, slot, asks, carries}
+use Rattle.bridge_rules.specs.State.{Bridge, done, slot, asks, carries}
 use Rattle.bridge_rules.specs.Answers.{plain, Answer}
 use Rattle.bridge_rules.specs.Opening.{isWrite, askCount}
 use Rattle.bridge_rules.specs.Turn.{chunkLen}
@@ -18,16 +18,15 @@ use Rattle.bridge_rules.specs.Call.{Call, itsOwn, frame}
 use Rattle.bridge_rules.specs.Run.{Run, state, buffer, Lawful, Shaped, Transfer, slotOf, Stands, chunks, lenOf, statusAt, shownAt}
 use Rattle.bridge_rules.specs.Replies.{place, Matches, Replied}
 use Rattle.bridge_rules.specs.Demand3.{brought, join, showing}
-use Rattle.bridge_rules.proofs.ReadWrite.{carries-of, carries-alone}
+use Rattle.bridge_rules.proofs.KindTests.{carries-of, carries-only}
 use Rattle.bridge_rules.proofs.FrameLaws.{len-eight, len-inside, content-length}
-use Rattle.bridge_rules.proofs.Sound.{SlotOk, okFree, okReady, okWaiting, okDone, okGaveUp}
-use Rattle.bridge_rules.proofs.Storages.{storage-sound}
-use Rattle.bridge_rules.proofs.Runs.{okAt, openedAt, view, Held, held}
+use Rattle.bridge_rules.proofs.SlotOk.{done-ok}
+use Rattle.bridge_rules.proofs.SoundRuns.{storage-sound}
+use Rattle.bridge_rules.proofs.Standing.{okAt, openedAt, slotAt, held}
 use Rattle.bridge_rules.proofs.Status.{shown-is, done-is}
-use Rattle.bridge_rules.proofs.Ages.{phases}
-use Rattle.bridge_rules.proofs.Sends.{matches-ok}
-use Rattle.bridge_rules.proofs.Past.{Past, Got}
-use Rattle.bridge_rules.proofs.Ahead.{replied-once}
+use Rattle.bridge_rules.proofs.Matching.{matches-ok}
+use Rattle.bridge_rules.proofs.AskedSoFar.{AskedSoFar, Got}
+use Rattle.bridge_rules.proofs.RepliesInOrder.{replied-once}
 
 chunk-sum : (count p : ℕ) → 8 * p < count → (min (8 * suc p) count ≡ 8 * p + chunkLen count (8 * p)) × (min (8 * p) count ≡ 8 * p)
 unfolding chunkLen
@@ -78,24 +77,14 @@ part-of s b k n e f = rw (e, f)
 
 part-write : (s : Bridge) (b : List ℕ) (k : ℕ) → carries (slot s k .kind) ≡ true → partOf b (slotSpan s k) ≡ []
 unfolding slotSpan
-part-write s b k e = rw (carries-alone (slot s k .kind) e)
+part-write s b k e = rw (carries-only (slot s k .kind) e)
 
 module _ (r : Run) (w : Lawful r) (x : Transfer r) where
   pub hidden : (n : ℕ) → Stands r x n → statusAt r x n ≢ 0 → shownAt r x n ≡ plain (statusAt r x n)
   hidden n s h = shown-is r w x n s ∙ rw (ne-eqb (statusAt r x n) 0 h)
 
-  pub done-progress : (n : ℕ) → Stands r x n → view r x n .phase ≡ done → view r x n .progress ≡ askCount (x .ask)
-  done-progress n s e = go (okAt r w x n)
-    where
-      h : Held r x n
-      h = held r w x n s
-
-      go : SlotOk (state r n .issued) (view r x n) → view r x n .progress ≡ askCount (x .ask)
-      go (okFree q) = phases (view r x n .phase) free done (ap (λ (y : Slot). y .phase) q) e (λ z. omega arith)
-      go (okReady q c m i v l) = phases (view r x n .phase) ready done q e (λ z. omega arith)
-      go (okWaiting q c m v i i′ l l′) = phases (view r x n .phase) waiting done q e (λ z. omega arith)
-      go (okDone q c p i l) = p ∙ h .count
-      go (okGaveUp q c m v i l) = phases (view r x n .phase) gaveUp done q e (λ z. omega arith)
+  pub done-progress : (n : ℕ) → Stands r x n → slotAt r x n .phase ≡ done → slotAt r x n .progress ≡ askCount (x .ask)
+  done-progress n s e = done-ok (slotAt r x n) (okAt r w x n) e .whole ∙ held r w x n s .count
 
   pub write-hidden : (n : ℕ) → Stands r x n → isWrite (x .ask) ≡ true → shownAt r x n ≡ plain (statusAt r x n)
   write-hidden n s e = shown-is r w x n s ∙ go (eqb (statusAt r x n) 0) refl
@@ -106,12 +95,12 @@ module _ (r : Run) (w : Lawful r) (x : Transfer r) where
           ∙ ap plain (sym (eqb-true _ 0 q))
       go false q = refl
 
-module _ (r : Run) (w : Lawful r) (x : Transfer r) (n : ℕ) (s : Stands r x n) (p : Past r x n) where
-  pub all-got : view r x n .phase ≡ done → (c : ℕ) → 8 * c < askCount (x .ask) → Got r x c n
+module _ (r : Run) (w : Lawful r) (x : Transfer r) (n : ℕ) (s : Stands r x n) (p : AskedSoFar r x n) where
+  pub all-got : slotAt r x n .phase ≡ done → (c : ℕ) → 8 * c < askCount (x .ask) → Got r x c n
   all-got e c l = p .got c (omega (arith, l, done-progress r w x n s e))
 
   -- the part of the buffer is the replies' bytes
-  pub shown-part : (e : view r x n .phase ≡ done) (g : ℕ → List ℕ)
+  pub shown-part : (e : slotAt r x n .phase ≡ done) (g : ℕ → List ℕ)
       → ((c : ℕ) → (q : 8 * c < askCount (x .ask)) → g c ≡ brought (r .calls (all-got e c q .m)))
       → take (askCount (x .ask)) (drop (128 * slotOf r x) (buffer r n)) ≡ join g (chunks r x)
   shown-part e g h = sym (join-all g (askCount (x .ask)) (drop (128 * slotOf r x) (buffer r n)) chunk)
@@ -143,7 +132,7 @@ module _ (r : Run) (w : Lawful r) (x : Transfer r) (n : ℕ) (s : Stands r x n) 
   pub shown-joined : statusAt r x n ≡ 0 → (m : ℕ → ℕ) → ((c : ℕ) → c < chunks r x → (m c < n) × Replied r x c (m c))
       → shownAt r x n ≡ showing (join (λ c. brought (r .calls (m c))) (chunks r x))
   shown-joined e m h =
-      let d : view r x n .phase ≡ done = done-is r w x n s .0 e in
+      let d : slotAt r x n .phase ≡ done = done-is r w x n s .0 e in
       shown-done e ∙ ap showing (shown-part d (λ c. brought (r .calls (m c)))
       (λ c q. ap (λ (k : ℕ). brought (r .calls k)) (replied-once r w x c (m c) (all-got d c q .m) (h c (omega arith) .1)
       (all-got d c q .replied))))

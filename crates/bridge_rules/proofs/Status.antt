@@ -18,17 +18,18 @@ use Rattle.bridge_rules.specs.Call.{itsOwn, status, bytes, step}
 use Rattle.bridge_rules.specs.Run.{Run, state, buffer, Lawful, Transfer, ticket, slotOf, Stands, statusAt, shownAt}
 use Rattle.bridge_rules.specs.Demand3.{showing}
 use Rattle.bridge_rules.proofs.Search.{cases, Lowest, lowest-some, lowest-none, and-true}
-use Rattle.bridge_rules.proofs.Sound.{held-free, Sound, sound-true}
-use Rattle.bridge_rules.proofs.CallKinds.{heldBy}
-use Rattle.bridge_rules.proofs.Storages.{storage-sound}
-use Rattle.bridge_rules.proofs.Runs.{openedAt, view, held}
+use Rattle.bridge_rules.proofs.SlotOk.{held-free}
+use Rattle.bridge_rules.proofs.SoundTest.{Sound, sound-true}
+use Rattle.bridge_rules.proofs.CallCases.{heldBy}
+use Rattle.bridge_rules.proofs.SoundRuns.{storage-sound}
+use Rattle.bridge_rules.proofs.Standing.{openedAt, slotAt, held}
 
-holder : (s : Bridge) (k t : ℕ) → Sound s → k < 4 → slot s k .ticket ≡ t → 0 < t → (o : Option ℕ) → heldSlot s t ≡ o → o ≡ some k
+held-by-ticket : (s : Bridge) (k t : ℕ) → Sound s → k < 4 → slot s k .ticket ≡ t → 0 < t → (o : Option ℕ) → heldSlot s t ≡ o → o ≡ some k
 unfolding heldSlot
-holder s k t h l e p none q =
-    let f : isFree (slot s k .phase) ≡ false = held-free (s .issued) (slot s k) (h .each k l) (omega arith) in
+held-by-ticket s k t h l e p none q =
+    let f : isFree (slot s k .phase) ≡ false = held-free (slot s k) (h .each k l) (omega arith) in
     absurd (false≢true (sym (lowest-none (heldBy s t) q k l) ∙ rw (f, eq-eqb (slot s k .ticket) t e)))
-holder s k t h l e p (some j) q = go (ℕ-discrete j k)
+held-by-ticket s k t h l e p (some j) q = go (ℕ-discrete j k)
   where
     w : Lowest (heldBy s t) j
     w = lowest-some (heldBy s t) j q
@@ -109,14 +110,14 @@ phase-other p a b = go (number-cases p)
 
 module _ (r : Run) (w : Lawful r) (x : Transfer r) where
   pub held-by : (n : ℕ) → Stands r x n → heldSlot (state r n) (ticket r x) ≡ some (slotOf r x)
-  held-by n s = holder (state r n) (slotOf r x) (ticket r x) (storage-sound r w n .0) (openedAt r w x .bound) (held r w x n s .ticket)
+  held-by n s = held-by-ticket (state r n) (slotOf r x) (ticket r x) (storage-sound r w n .0) (openedAt r w x .bound) (held r w x n s .ticket)
       (omega (arith, openedAt r w x .ticketed)) _ refl
 
-  number-is : (n : ℕ) → Stands r x n → ticketNumber (state r n) (ticket r x) ≡ phaseNumber (view r x n .phase)
+  number-is : (n : ℕ) → Stands r x n → ticketNumber (state r n) (ticket r x) ≡ phaseNumber (slotAt r x n .phase)
   unfolding ticketNumber _if_else_
   number-is n s = rw (held-by n s)
 
-  pub status-is : (n : ℕ) → Stands r x n → statusAt r x n ≡ phaseNumber (view r x n .phase)
+  pub status-is : (n : ℕ) → Stands r x n → statusAt r x n ≡ phaseNumber (slotAt r x n .phase)
   unfolding step statusOf _if_else_
   status-is n s = rw (sound-true (state r n) (storage-sound r w n .0)) (number-is n s)
 
@@ -128,15 +129,15 @@ module _ (r : Run) (w : Lawful r) (x : Transfer r) where
       ∙ sym (status-is n s))) (held-by n s)
 
   -- 0 is done, 16 given up
-  pub done-is : (n : ℕ) → Stands r x n → (statusAt r x n ≡ 0) ↔ (view r x n .phase ≡ done)
-  done-is n s = (λ e. phase-done (view r x n .phase) (sym (status-is n s) ∙ e), λ e. status-is n s ∙ ap phaseNumber e ∙ done-number)
+  pub done-is : (n : ℕ) → Stands r x n → (statusAt r x n ≡ 0) ↔ (slotAt r x n .phase ≡ done)
+  done-is n s = (λ e. phase-done (slotAt r x n .phase) (sym (status-is n s) ∙ e), λ e. status-is n s ∙ ap phaseNumber e ∙ done-number)
 
-  pub gave-up-is : (n : ℕ) → Stands r x n → (statusAt r x n ≡ 16) ↔ (view r x n .phase ≡ gaveUp)
-  gave-up-is n s = (λ e. phase-gave-up (view r x n .phase) (sym (status-is n s) ∙ e), λ e. status-is n s ∙ ap phaseNumber e ∙ gave-up-number)
+  pub gave-up-is : (n : ℕ) → Stands r x n → (statusAt r x n ≡ 16) ↔ (slotAt r x n .phase ≡ gaveUp)
+  gave-up-is n s = (λ e. phase-gave-up (slotAt r x n .phase) (sym (status-is n s) ∙ e), λ e. status-is n s ∙ ap phaseNumber e ∙ gave-up-number)
 
   -- and otherwise 15
   pub unfinished-is : (n : ℕ) → Stands r x n → statusAt r x n ≢ 0 → statusAt r x n ≢ 16 → statusAt r x n ≡ 15
-  unfinished-is n s a b = status-is n s ∙ phase-other (view r x n .phase) (λ e. a (status-is n s ∙ e)) (λ e. b (status-is n s ∙ e))
+  unfinished-is n s a b = status-is n s ∙ phase-other (slotAt r x n .phase) (λ e. a (status-is n s ∙ e)) (λ e. b (status-is n s ∙ e))
 
 -- a ticket that no slot has
 pub unknown-ticket : (s : Bridge) (b : List ℕ) (t : ℕ) → Sound s → length b ≡ 512 → heldSlot s t ≡ none

@@ -1,15 +1,13 @@
 -- DEMAND 3, continued: the device's own replies, and the premises of its last sentence.
-use Prim.Native.Nat.{ℕ, _+_, _≤_, _<_}
+use Prim.Native.Nat.{ℕ, _≤_, _<_}
 use mathlib.Core.List.{List}
 use mathlib.Core.Option.{some}
 use mathlib.Core.Bool.{true}
-use lib.ListN.{take, drop}
 use Rattle.bus_rules.specs.Ident.{idFrom}
 use Rattle.bus_rules.specs.Frames.{content}
-use Rattle.bus_rules.specs.Request.{request}
 use mathlib.Core.Path.{_≡_}
-use Rattle.bus_rules.specs.Holder.{startOf, serveOf, answerWith}
-use Rattle.bus_rules.specs.declared.Directory.{Directory}
+use Rattle.bus_rules.specs.Device.{Device, SameTables, rangeOf}
+use Rattle.bus_rules.specs.Holder.{serveOf, deviceAfter, answerWith}
 use Rattle.bus_rules.specs.declared.Frame.{Frame}
 use Rattle.bridge_rules.specs.Opening.{askDevice, askTable, askOffset, askCount}
 use Rattle.bridge_rules.specs.Incoming.{contentNumber}
@@ -20,12 +18,8 @@ use Rattle.bridge_rules.specs.Replies.{Sent, Replied}
 -- ── "A reply is the device's own if the holder's rules give it for a request sent earlier, from the device's memory when
 -- it answered, between the two." ─────────────────────────────────────────────────────────────────────────────────────
 
-pub record Device : Type 0 where
-  pub directory : Directory
-  pub memory : List ℕ
-
 -- a timeline: when each event was, what the device was at each moment, and for each event at which a reply arrives the
--- turn whose request it answers and the moment at which the device answered
+-- turn whose request it answers and the moment at which the device answered; at that moment it is the device after its answer
 pub record Timeline : Type 0 where
   pub when : ℕ → ℕ
   pub device : ℕ → Device
@@ -50,12 +44,15 @@ pub record Arrives (r : Run) (x : Transfer r) (n m : ℕ) (f : Frame) : Type 0 w
 pub record Own (r : Run) (t : Timeline) (m : ℕ) (f : Frame) : Type 0 where
   pub request : Frame
   pub reply : Frame
+  -- the device before it served the request
+  pub before : Device
   pub earlier : t .asked m < m
   pub turned : accepted r (t .asked m) ≡ true
   pub yields : answer r (t .asked m) .sent ≡ some request
   pub sinceAsked : t .when (t .asked m) ≤ t .answered m
   pub untilArrived : t .answered m ≤ t .when m
-  pub gives : serveOf (t .device (t .answered m) .directory) (t .device (t .answered m) .memory) request ≡ answerWith reply
+  pub gives : serveOf before request ≡ answerWith reply
+  pub after : t .device (t .answered m) ≡ deviceAfter before request
   pub sameId : f .id ≡ reply .id
   pub sameLen : f .len ≡ reply .len
   pub sameBytes : content f ≡ content reply
@@ -79,7 +76,7 @@ pub record Meanwhile (r : Run) (x : Transfer r) (n : ℕ) (t : Timeline) (τ₀ 
 
 -- THE TABLE'S BYTES: those of the asked range, in a device as it is at a moment
 unfoldable pub range : (r : Run) → Transfer r → Device → List ℕ
-range r x d = take (askCount (x .ask)) (drop (startOf (d .directory) (askTable (x .ask)) + askOffset (x .ask)) (d .memory))
+range r x d = rangeOf d (askTable (x .ask)) (askOffset (x .ask)) (askCount (x .ask))
 
 -- "no reply to a closed or reset transfer arrives": the transfer whose request is answered still stands
 abbrev pub Current : (r : Run) → Transfer r → ℕ → Timeline → Type 0
@@ -92,9 +89,9 @@ pub record Arrivals (r : Run) (x : Transfer r) (n : ℕ) (t : Timeline) : Type 0
   pub current : Current r x n t
 
 -- "its range isn't written" between any two moments of a set, and "a changed directory counts as a write". (The paper asks for
--- `directory`; the proof does without it, for `range` speaks of the range where the directory puts it.)
+-- `sameTables`; the proof does without it, for `range` speaks of the range where the directory puts it.)
 pub record Unwritten (r : Run) (x : Transfer r) (t : Timeline) (During : ℕ → Type 0) : Type 0 where
-  pub directory : (τ τ′ : ℕ) → During τ → During τ′ → t .device τ .directory ≡ t .device τ′ .directory
+  pub sameTables : (τ τ′ : ℕ) → During τ → During τ′ → SameTables (t .device τ) (t .device τ′)
   pub unchanged : (τ τ′ : ℕ) → During τ → During τ′ → range r x (t .device τ) ≡ range r x (t .device τ′)
 
 -- the premises of demand 3's last sentence, from moment τ₀ on

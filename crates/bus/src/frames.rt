@@ -1,11 +1,15 @@
-// The bytes of frames.
+// Frames of parts and bytes, and the bytes of frames.
 use crate::Frame;
+use crate::Parts;
+use crate::rows::id_of;
+use crate::rows::in_rows;
 ghost use mathlib.Core.Path.{_≡_};
-ghost use Prim.Native.Nat.{_+_, _≤_};
+ghost use Prim.Native.Nat.{_+_, _≤_, min};
 ghost use lib.ListN.{length};
 ghost use lib.Seq.{sets};
 ghost use Rattle.wire.specs.Put.{putOf};
-ghost use Rattle.bus_rules.specs.Frames.{padded, content};
+ghost use Rattle.bus_rules.specs.Frames.{padded, buildOf, content};
+ghost use Rattle.bus_rules.specs.Rows.{Built};
 
 // The first eight bytes given, and zeros where there are fewer.
 pub fn padded(bytes: &[u8]) -> [u8; 8]
@@ -22,12 +26,31 @@ pub fn padded(bytes: &[u8]) -> [u8; 8]
     out
 }
 
+fn at_most_eight(n: usize) -> usize
+    ensures { λ r. ⌜ r ≡ min n 8 ⌝ }
+{
+    if n < 8 { n } else { 8 }
+}
+
+// The frame of these parts, each modulo its row's width, and of the first eight bytes: of parts that pack and at most eight bytes the
+// frame that they make.
+pub fn build(p: Parts, bytes: &[u8]) -> Frame
+    ensures { λ r. ⌜ r ≡ buildOf p (now (bytes .entry)) ⌝ }
+    ensures built { λ r. ⌜ Built p (now (bytes .entry)) r ⌝ }
+{
+    let id = id_of(in_rows(p));
+    Frame {
+        id: id as u32,
+        len: at_most_eight(bytes.len()) as u8,
+        bytes: padded(bytes),
+    }
+}
+
 // How many bytes of a frame count.
 fn content_len(f: Frame) -> usize
     ensures { λ r. ⌜ r ≡ length (content f) ⌝ }
 {
-    let n = f.len as usize;
-    if n < 8 { n } else { 8 }
+    at_most_eight(f.len as usize)
 }
 
 // The bytes of a frame that count, copied to a place. Eight tests of the length are quicker than a call of memcpy.

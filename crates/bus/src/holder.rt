@@ -2,25 +2,26 @@
 use crate::CMD;
 use crate::Directory;
 use crate::Frame;
+use crate::Parts;
 use crate::REQ;
 use crate::RSP;
 use crate::Request;
 use crate::Served;
 use crate::XTND;
+use crate::frames::build;
 use crate::frames::copy_content;
-use crate::frames::padded;
-use crate::rows::from_of;
-use crate::rows::head_number;
-use crate::rows::id_of;
-use crate::rows::is_reserved;
-use crate::rows::kind_of;
-use crate::rows::offset_of;
-use crate::rows::request_of;
-use crate::rows::table_of;
+use crate::ident::head_number;
+use crate::requests::is_reserved;
+use crate::requests::request_of;
+use crate::rows::parts_of;
 ghost use mathlib.Core.Path.{_≡_};
-ghost use Prim.Native.Nat.{_+_, _*_, _≤_, _<_};
+ghost use mathlib.Core.List.{List};
+ghost use Prim.Native.Nat.{ℕ, _+_, _*_, _≤_, _<_};
 ghost use lib.ListN.{length, take, drop};
-ghost use Rattle.bus_rules.specs.Holder.{startOf, sizeOf, rightOf, totalOf, soundTables, directoryNumber, memoryNumber, commandNumber, requestNumber, queryNumber, kindNumber, serveNumber, requestAt, tableOf, noAnswer, replyTo, placeOf, protocol, actOf, memoryAct, serveOf, memoryOf};
+ghost use Rattle.bus_rules.specs.Ident.{partsOf};
+ghost use Rattle.bus_rules.specs.Device.{Device, device, startOf, sizeOf, rightOf, totalOf, soundTables, directoryNumber, memoryNumber};
+ghost use Rattle.bus_rules.specs.Holder.{commandNumber, requestNumber, queryNumber, kindNumber, serveNumber, requestAt, tableOf, sizeAt, rightAt};
+ghost use Rattle.bus_rules.specs.Holder.{noAnswer, replyTo, placeOf, protocol, actOf, actAfter, serveOf, deviceAfter};
 ghost use Rattle.bus_rules.specs.Demand2.{Demand2};
 
 // A table: its start (the sum of the sizes before it), its size and its right.
@@ -176,47 +177,40 @@ fn query_number(len: u8, first: u8, reserved: bool, count: u8) -> u8
     9
 }
 
-// 5, 6, 7, 9 and 8, by the frame's type; t is the table that the frame addresses.
-fn kind_number(t: Table, f: Frame) -> u8
-    ensures { λ r. ⌜ ((d : Directory) → t .size ≡ sizeOf d (tableOf f) → t .right ≡ rightOf d (tableOf f) → r ≡ kindNumber d f) ⌝ }
+// 5, 6, 7, 9 and 8, by the frame's type; t is the table that the frame addresses, p the parts of its identifier.
+fn kind_number(t: Table, p: Parts, f: Frame) -> u8
+    requires { ⌜ p ≡ partsOf (f .id) ⌝ }
+    ensures { λ r. ⌜ ((e : Device) → t .size ≡ sizeAt e f → t .right ≡ rightAt e f → r ≡ kindNumber e f) ⌝ }
 {
-    let id = f.id;
-    let kind = kind_of(id);
-    if kind == XTND {
+    if p.kind == XTND {
         let reserved = is_reserved(f.bytes[1], f.bytes[3]);
         return query_number(f.len, f.bytes[0], reserved, f.bytes[3] % 16);
     }
-    if kind == CMD {
-        return command_number(f.len, t.size, t.right, offset_of(id));
+    if p.kind == CMD {
+        return command_number(f.len, t.size, t.right, p.offset);
     }
-    if kind == REQ {
+    if p.kind == REQ {
         let reserved = is_reserved(f.bytes[0], f.bytes[2]);
-        return request_number(
-            f.len,
-            reserved,
-            t.size,
-            t.right,
-            offset_of(id),
-            f.bytes[2] % 16,
-        );
+        return request_number(f.len, reserved, t.size, t.right, p.offset, f.bytes[2] % 16);
     }
     5
 }
 
-// The number of the answer: the refusals in their order, or 0; t is the addressed table, n the memory's length.
-fn serve_number(d: Directory, t: Table, n: usize, f: Frame) -> u8
-    requires { ⌜ (t .size ≡ sizeOf d (tableOf f)) × (t .right ≡ rightOf d (tableOf f)) ⌝ }
-    ensures { λ r. ⌜ r ≡ serveNumber d n f ⌝ }
+// The number of the answer: the refusals in their order, or 0; t is the addressed table, n the memory's length, p the parts of the
+// frame's identifier.
+fn serve_number(d: Directory, t: Table, n: usize, p: Parts, f: Frame) -> u8
+    requires { ⌜ (t .size ≡ sizeOf d (tableOf f)) × (t .right ≡ rightOf d (tableOf f)) × (p ≡ partsOf (f .id)) ⌝ }
+    ensures { λ r. ⌜ ((m : List ℕ) → n ≡ length m → r ≡ serveNumber (device d m) f) ⌝ }
 {
     let memory = memory_number(d, n);
     if memory != 0 {
         return memory;
     }
-    let head = head_number(d.own, f);
+    let head = head_number(d.own, p.to, f);
     if head != 0 {
         return head;
     }
-    kind_number(t, f)
+    kind_number(t, p, f)
 }
 
 // A number and no frame.
@@ -234,20 +228,22 @@ fn no_answer(number: u8) -> Served
     }
 }
 
-// RSP to the sender of a frame, to the table and offset that the request asks for.
-fn reply(d: Directory, f: Frame, q: Request, bytes: &[u8]) -> Served
-    requires { ⌜ (d .own ≤ 15) × (q .table ≤ 31) × (q .offset ≤ 2047) × (q .count ≡ length (now bytes)) ⌝ }
-    ensures { λ r. ⌜ r ≡ replyTo d f q (now (bytes .entry)) ⌝ }
+// RSP, to the table and offset that the request asks for.
+fn reply(own: u8, to: u8, q: Request, bytes: &[u8]) -> Served
+    requires { ⌜ (own ≤ 15) × (to ≤ 15) × (q .table ≤ 31) × (q .offset ≤ 2047) × (length (now bytes) ≤ 8) ⌝ }
+    ensures { λ r. ⌜ r ≡ replyTo own to q (now (bytes .entry)) ⌝ }
 {
-    let id = id_of(q.offset, RSP, d.own, from_of(f.id), q.table);
+    let parts = Parts {
+        offset: q.offset,
+        kind: RSP,
+        from: own,
+        to,
+        table: q.table,
+    };
     Served {
         number: 0,
         answers: 1,
-        frame: Frame {
-            id: id as u32,
-            len: q.count,
-            bytes: padded(bytes),
-        },
+        frame: build(parts, bytes),
     }
 }
 
@@ -260,52 +256,52 @@ fn protocol_of(d: Directory) -> [u8; 5]
     [2, t[0], t[1], w[0], w[1]]
 }
 
-// The answer to a protocol query that is not refused.
-fn answer_query(d: Directory, f: Frame) -> Served
-    requires { ⌜ (d .own ≤ 15) × (requestAt f 1 .count ≤ 5) ⌝ }
-    ensures { λ r. ⌜ r ≡ replyTo d f (requestAt f 1) (take (requestAt f 1 .count) (protocol d)) ⌝ }
+// The answer to a protocol query that is not refused, to its sender.
+fn answer_query(d: Directory, to: u8, f: Frame) -> Served
+    requires { ⌜ (d .own ≤ 15) × (to ≤ 15) × (requestAt f 1 .count ≤ 5) ⌝ }
+    ensures { λ r. ⌜ r ≡ replyTo (d .own) to (requestAt f 1) (take (requestAt f 1 .count) (protocol d)) ⌝ }
 {
     let q = request_of(f.bytes[1], f.bytes[2], f.bytes[3]);
     let bytes = protocol_of(d);
     let n = q.count as usize;
-    reply(d, f, q, &bytes[..n])
+    reply(d.own, to, q, &bytes[..n])
 }
 
-// The answer to a request that is not refused; its range starts at the place given.
-fn answer_request(d: Directory, at: usize, memory: &[u8], f: Frame) -> Served
-    requires { ⌜ (d .own ≤ 15) × (at + requestAt f 0 .count ≤ length (now memory)) ⌝ }
-    ensures { λ r. ⌜ r ≡ replyTo d f (requestAt f 0) (take (requestAt f 0 .count) (drop at (now (memory .entry)))) ⌝ }
+// The answer to a request that is not refused, to its sender; its range starts at the place given.
+fn answer_request(own: u8, to: u8, at: usize, memory: &[u8], f: Frame) -> Served
+    requires { ⌜ (own ≤ 15) × (to ≤ 15) × (requestAt f 0 .count ≤ 8) × (at + requestAt f 0 .count ≤ length (now memory)) ⌝ }
+    ensures { λ r. ⌜ r ≡ replyTo own to (requestAt f 0) (take (requestAt f 0 .count) (drop at (now (memory .entry)))) ⌝ }
 {
     let q = request_of(f.bytes[0], f.bytes[1], f.bytes[2]);
     let end = at + q.count as usize;
-    reply(d, f, q, &memory[at..end])
+    reply(own, to, q, &memory[at..end])
 }
 
-// What a frame that is not refused does; its offset lies at the place given.
-fn act(d: Directory, at: usize, memory: &mut [u8], f: Frame) -> Served
-    requires { ⌜ (serveNumber d (length (now memory)) f ≡ 0) × (at ≡ placeOf d f) ⌝ }
-    ensures { λ r. ⌜ (r ≡ actOf d (now (memory .entry)) f) × (now (memory .exit) ≡ memoryAct d (now (memory .entry)) f) ⌝ }
+// What a frame that is not refused does; its offset lies at the place given, and p are the parts of its identifier.
+fn act(d: Directory, at: usize, memory: &mut [u8], p: Parts, f: Frame) -> Served
+    requires { ⌜ (serveNumber (device d (now memory)) f ≡ 0) × (at ≡ placeOf (device d (now memory)) f) × (p ≡ partsOf (f .id)) ⌝ }
+    ensures { λ r. ⌜ (r ≡ actOf (device d (now (memory .entry))) f) × (now (memory .exit) ≡ actAfter (device d (now (memory .entry))) f .memory) ⌝ }
 {
-    let kind = kind_of(f.id);
-    if kind == CMD {
+    if p.kind == CMD {
         copy_content(memory, at, f);
         return no_answer(0);
     }
-    if kind == REQ {
-        return answer_request(d, at, &memory[..], f);
+    if p.kind == REQ {
+        return answer_request(d.own, p.from, at, &memory[..], f);
     }
-    answer_query(d, f)
+    answer_query(d, p.from, f)
 }
 
 // What the holder of these tables, which lie back to back in memory, does with a frame.
 pub fn serve(d: Directory, memory: &mut [u8], f: Frame) -> Served
-    ensures { λ r. ⌜ (r ≡ serveOf d (now (memory .entry)) f) × (now (memory .exit) ≡ memoryOf d (now (memory .entry)) f) ⌝ }
-    ensures demand2 { λ r. ⌜ Demand2 d (now (memory .entry)) f r (now (memory .exit)) ⌝ }
+    ensures { λ r. ⌜ (r ≡ serveOf (device d (now (memory .entry))) f) × (now (memory .exit) ≡ deviceAfter (device d (now (memory .entry))) f .memory) ⌝ }
+    ensures demand2 { λ r. ⌜ Demand2 (device d (now (memory .entry))) f r (device d (now (memory .exit))) ⌝ }
 {
-    let t = table_at(d, table_of(f.id) as usize);
-    let number = serve_number(d, t, memory.len(), f);
+    let p = parts_of(f.id);
+    let t = table_at(d, p.table as usize);
+    let number = serve_number(d, t, memory.len(), p, f);
     if number != 0 {
         return no_answer(number);
     }
-    act(d, t.start as usize + offset_of(f.id) as usize, memory, f)
+    act(d, t.start as usize + p.offset as usize, memory, p, f)
 }

@@ -1,16 +1,14 @@
-// The 29-bit identifier, packed and unpacked by sums, quotients and remainders.
+// The 29-bit identifier: packed, unpacked, and judged by a receiver.
 use crate::Frame;
 use crate::Packed;
 use crate::Parts;
 use crate::Unpacked;
-use crate::rows::head_number;
 use crate::rows::id_of;
 use crate::rows::parts_of;
-use crate::rows::unpack_number;
 ghost use mathlib.Core.Path.{_≡_};
 ghost use Rattle.wire.specs.Answer.{result};
-ghost use Rattle.bus_rules.specs.Ident.{idIn, packNumber, packOf, packedAnswer, noParts, partsOf, unpackNumber, unpackOf, unpackedAnswer};
-ghost use Rattle.bus_rules.specs.Frames.{receiveNumber, readHeadOf};
+ghost use Rattle.bus_rules.specs.Ident.{idTo, idIn, packNumber, packOf, packedAnswer, noParts, partsOf, unpackNumber, unpackOf, unpackedAnswer};
+ghost use Rattle.bus_rules.specs.Frames.{headNumber, receiveNumber, readHeadOf};
 ghost use Rattle.bus_rules.specs.Rows.{UnpackAfterPack, PackAfterUnpack, RowLaw};
 
 fn pack_number(p: Parts) -> u8
@@ -43,7 +41,20 @@ pub fn pack(p: Parts) -> Packed
     if number != 0 {
         return Packed::Refused(number);
     }
-    Packed::Is(id_of(p.offset, p.kind, p.from, p.to, p.table) as u32)
+    Packed::Is(id_of(p) as u32)
+}
+
+// 1 or 2 for an identifier that is not lawful, else 0.
+fn unpack_number(id: u32) -> u8
+    ensures { λ r. ⌜ r ≡ unpackNumber id ⌝ }
+{
+    if 536870912 <= id {
+        return 1;
+    }
+    if id % 4 != 0 {
+        return 2;
+    }
+    0
 }
 
 // The parts of a lawful identifier; 1 for 2^29 or more, 2 for spare bits set.
@@ -59,22 +70,42 @@ pub fn unpack(id: u32) -> Unpacked
     Unpacked::Is(parts_of(id))
 }
 
-fn receive_number(own: u8, f: Frame) -> u8
+// 1, 2, 3 and 4, by which every receiver of this own number judges a frame; else 0. `to` is whom the frame is to.
+pub(crate) fn head_number(own: u8, to: u8, f: Frame) -> u8
+    requires { ⌜ to ≡ idTo (f .id) ⌝ }
+    ensures { λ r. ⌜ r ≡ headNumber own f ⌝ }
+{
+    let number = unpack_number(f.id);
+    if number != 0 {
+        return number;
+    }
+    if 8 < f.len {
+        return 3;
+    }
+    if to != own {
+        return 4;
+    }
+    0
+}
+
+fn receive_number(own: u8, to: u8, f: Frame) -> u8
+    requires { ⌜ to ≡ idTo (f .id) ⌝ }
     ensures { λ r. ⌜ r ≡ receiveNumber own f ⌝ }
 {
     if 15 < own {
         return 11;
     }
-    head_number(own, f)
+    head_number(own, to, f)
 }
 
 // The parts of the identifier of a frame that a receiver of this own number does not refuse; else 11 (own number over 15), 1, 2, 3, 4.
 pub fn read_head(own: u8, f: Frame) -> Unpacked
     ensures { λ r. ⌜ (r ≡ readHeadOf own f) × (unpackedAnswer r ≡ result noParts (receiveNumber own f) (partsOf (f .id))) ⌝ }
 {
-    let number = receive_number(own, f);
+    let p = parts_of(f.id);
+    let number = receive_number(own, p.to, f);
     if number != 0 {
         return Unpacked::Refused(number);
     }
-    Unpacked::Is(parts_of(f.id))
+    Unpacked::Is(p)
 }

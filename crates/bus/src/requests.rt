@@ -2,12 +2,29 @@
 use crate::Request;
 use crate::RequestBytes;
 use crate::RequestRead;
-use crate::rows::is_reserved;
-use crate::rows::request_of;
 ghost use mathlib.Core.Path.{_≡_};
+ghost use Prim.Native.Nat.{_≤_};
 ghost use Rattle.wire.specs.Answer.{result};
-ghost use Rattle.bus_rules.specs.Request.{requestOf, noRequest, readNumber, readRequestOf, requestReadAnswer, requestBytesNumber, requestBytesOf};
+ghost use Rattle.bus_rules.specs.Request.{requestOf, reserved, noRequest, readNumber, readRequestOf, requestReadAnswer, requestBytesNumber, requestBytesOf};
 ghost use Rattle.bus_rules.specs.Rows.{ReadAfterWrite, WriteAfterRead};
+
+// Whether a reserved bit is set: one of the first byte's top three, or bit 4 of the third.
+pub(crate) fn is_reserved(a: u8, c: u8) -> bool
+    ensures { λ r. ⌜ r ≡ reserved a c ⌝ }
+{
+    (a / 32 != 0) | (c / 16 % 2 != 0)
+}
+
+// The request in three bytes, whatever their reserved bits are.
+pub(crate) fn request_of(a: u8, b: u8, c: u8) -> Request
+    ensures { λ r. ⌜ (r ≡ requestOf a b c) × (r .table ≤ 31) × (r .offset ≤ 2047) ⌝ }
+{
+    Request {
+        table: a % 32,
+        count: c % 16,
+        offset: b as u16 * 8 + (c / 32) as u16,
+    }
+}
 
 // The request in three bytes; 6 where a reserved bit is set.
 pub fn read_request(a: u8, b: u8, c: u8) -> RequestRead

@@ -1,75 +1,88 @@
 -- The holder's definitions by cases, and what an answer of 0 says.
-use mathlib.Core.Path.{_≡_, refl, sym, _∙_}
-use mathlib.Core.Logic.{_⊎_, inl, inr, _≢_}
-use mathlib.Core.Bool.{Bool, true, false}
+use mathlib.Core.Path.{_≡_, refl, sym, _∙_, ap₂}
 use mathlib.Core.List.{List}
+use mathlib.Core.Logic.{_⊎_, inl, inr, _≢_}
+use mathlib.Core.Bool.{Bool, true, false, cond}
 use Prim.Native.Nat.{ℕ, zero, suc, _+_, _≤_}
 use native.Mathlib.Omega.{arith}
 use lib.Dec.{eqb}
-use lib.ListN.{length, take, drop}
-use lib.Seq.{sets}
+use lib.ListN.{length, take}
 use borrow.Author.Tests.{ltb-false, eqb-true, eqb-false, eq-eqb, ne-eqb}
 use Rattle.wire.specs.Order.{_if_else_}
 use Rattle.wire.proofs.Orders.{if-zero, else-zero}
-use Rattle.bus_rules.specs.Ident.{idKind, idOffset}
-use Rattle.bus_rules.specs.Frames.{Frame, cmd, req, xtnd, content, headNumber}
-use Rattle.bus_rules.specs.Holder.{Directory, totalOf, sizeOf, rightOf, memoryNumber, commandNumber, requestNumber, queryNumber, kindNumber}
-use Rattle.bus_rules.specs.Holder.{serveNumber, byteOf, requestAt, reservedAt, tableOf, byKind, noAnswer, replyTo, placeOf, protocol, actOf, memoryAct, servedBy, memoryBy}
-use Rattle.bus_rules.specs.Holder.{serveOf, memoryOf}
+use Rattle.bus_rules.specs.Ident.{idFrom, idKind, idOffset}
+use Rattle.bus_rules.specs.Frames.{Frame, cmd, req, xtnd, headNumber}
+use Rattle.bus_rules.specs.Device.{Device, device, ownOf, rangeOf, totalOf, memoryNumber}
+use Rattle.bus_rules.specs.Holder.{commandNumber, requestNumber, queryNumber, kindNumber, serveNumber, byteOf, requestAt, reservedAt}
+use Rattle.bus_rules.specs.Holder.{tableOf, sizeAt, rightAt, byKind, noAnswer, replyTo, placeOf, protocol, actOf, storing, actAfter}
+use Rattle.bus_rules.specs.Holder.{servedBy, afterBy, serveOf, deviceAfter}
 use Rattle.bus_rules.specs.Demand2.{SoundDirectory}
 use Rattle.bus_rules.proofs.IdentLaws.{table-small}
 use Rattle.bus_rules.proofs.Directories.{memory-zero, table-within}
 
 -- ── Numbers by type ────────────────────────────────────────────────────────────────────────────────────────────────
 
-module _ (d : Directory) (f : Frame) where
-  pub command-case : idKind (f .id) ≡ cmd → kindNumber d f ≡ commandNumber (f .len) (sizeOf d (tableOf f)) (rightOf d (tableOf f)) (idOffset (f .id))
+module _ (e : Device) (f : Frame) where
+  pub command-case : idKind (f .id) ≡ cmd → kindNumber e f ≡ commandNumber (f .len) (sizeAt e f) (rightAt e f) (idOffset (f .id))
   unfolding kindNumber byKind
   command-case h = rw (eq-eqb _ _ h)
 
   pub request-case : idKind (f .id) ≡ req
-      → kindNumber d f ≡ requestNumber (f .len) (reservedAt f 0) (sizeOf d (tableOf f)) (rightOf d (tableOf f)) (idOffset (f .id)) (requestAt f 0 .count)
+      → kindNumber e f ≡ requestNumber (f .len) (reservedAt f 0) (sizeAt e f) (rightAt e f) (idOffset (f .id)) (requestAt f 0 .count)
   unfolding kindNumber byKind
-  request-case h = rw (ne-eqb (idKind (f .id)) cmd (λ e. omega arith), eq-eqb _ _ h)
+  request-case h = rw (ne-eqb (idKind (f .id)) cmd (λ z. omega arith), eq-eqb _ _ h)
 
-  pub query-case : idKind (f .id) ≡ xtnd → kindNumber d f ≡ queryNumber (f .len) (byteOf f 0) (reservedAt f 1) (requestAt f 1 .count)
+  pub query-case : idKind (f .id) ≡ xtnd → kindNumber e f ≡ queryNumber (f .len) (byteOf f 0) (reservedAt f 1) (requestAt f 1 .count)
   unfolding kindNumber byKind
-  query-case h = rw (ne-eqb (idKind (f .id)) cmd (λ e. omega arith), ne-eqb (idKind (f .id)) req (λ e. omega arith), eq-eqb _ _ h)
+  query-case h = rw (ne-eqb (idKind (f .id)) cmd (λ z. omega arith), ne-eqb (idKind (f .id)) req (λ z. omega arith), eq-eqb _ _ h)
 
-  pub other-case : idKind (f .id) ≢ cmd → idKind (f .id) ≢ req → idKind (f .id) ≢ xtnd → kindNumber d f ≡ 5
+  pub other-case : idKind (f .id) ≢ cmd → idKind (f .id) ≢ req → idKind (f .id) ≢ xtnd → kindNumber e f ≡ 5
   unfolding kindNumber byKind
   other-case c r x = rw (ne-eqb _ _ c, ne-eqb _ _ r, ne-eqb _ _ x)
 
 -- ── Actions by type ────────────────────────────────────────────────────────────────────────────────────────────────
 
-module _ (d : Directory) (m : List ℕ) (f : Frame) where
-  pub act-command : idKind (f .id) ≡ cmd → (actOf d m f ≡ noAnswer 0) × (memoryAct d m f ≡ sets m (placeOf d f) (content f))
-  unfolding actOf memoryAct byKind
+module _ (e : Device) (f : Frame) where
+  pub act-command : idKind (f .id) ≡ cmd → (actOf e f ≡ noAnswer 0) × (actAfter e f ≡ storing e f)
+  unfolding actOf actAfter byKind
   act-command h = (rw (eq-eqb _ _ h), rw (eq-eqb _ _ h))
 
   pub act-request : idKind (f .id) ≡ req
-      → (actOf d m f ≡ replyTo d f (requestAt f 0) (take (requestAt f 0 .count) (drop (placeOf d f) m))) × (memoryAct d m f ≡ m)
-  unfolding actOf memoryAct byKind
+      → (actOf e f ≡ replyTo (ownOf e) (idFrom (f .id)) (requestAt f 0) (rangeOf e (tableOf f) (idOffset (f .id)) (requestAt f 0 .count))) × (actAfter e f ≡ e)
+  unfolding actOf actAfter byKind
   act-request h =
-      let n = ne-eqb (idKind (f .id)) cmd (λ e. omega arith) in
+      let n = ne-eqb (idKind (f .id)) cmd (λ z. omega arith) in
       (rw (n, eq-eqb _ _ h), rw n)
 
   pub act-query : idKind (f .id) ≡ xtnd
-      → (actOf d m f ≡ replyTo d f (requestAt f 1) (take (requestAt f 1 .count) (protocol d))) × (memoryAct d m f ≡ m)
-  unfolding actOf memoryAct byKind
+      → (actOf e f ≡ replyTo (ownOf e) (idFrom (f .id)) (requestAt f 1) (take (requestAt f 1 .count) (protocol (e .directory)))) × (actAfter e f ≡ e)
+  unfolding actOf actAfter byKind
   act-query h =
-      let n = ne-eqb (idKind (f .id)) cmd (λ e. omega arith) in
-      (rw (n, ne-eqb (idKind (f .id)) req (λ e. omega arith), eq-eqb _ _ h), rw n)
+      let n = ne-eqb (idKind (f .id)) cmd (λ z. omega arith) in
+      (rw (n, ne-eqb (idKind (f .id)) req (λ z. omega arith), eq-eqb _ _ h), rw n)
 
-  pub served-case : serveNumber d (length m) f ≡ 0 → (serveOf d m f ≡ actOf d m f) × (memoryOf d m f ≡ memoryAct d m f)
-  unfolding serveOf memoryOf servedBy memoryBy
+  pub served-case : serveNumber e f ≡ 0 → (serveOf e f ≡ actOf e f) × (deviceAfter e f ≡ actAfter e f)
+  unfolding serveOf deviceAfter servedBy afterBy
   served-case h = (rw h, rw h)
 
   -- every refusal is a number and no frame, and changes nothing
-  pub refused-case : (n : ℕ) → serveNumber d (length m) f ≡ n → n ≢ 0 → (serveOf d m f ≡ noAnswer n) × (memoryOf d m f ≡ m)
-  unfolding serveOf memoryOf servedBy memoryBy
+  pub refused-case : (n : ℕ) → serveNumber e f ≡ n → n ≢ 0 → (serveOf e f ≡ noAnswer n) × (deviceAfter e f ≡ e)
+  unfolding serveOf deviceAfter servedBy afterBy
   refused-case zero h ne = absurd (ne refl)
   refused-case (suc n) h ne = (rw h, rw h)
+
+  -- no frame changes the directory
+  pub same-directory : deviceAfter e f .directory ≡ e .directory
+  unfolding deviceAfter afterBy actAfter storing
+  same-directory = go (serveNumber e f) (eqb (idKind (f .id)) cmd)
+    where
+      go : (n : ℕ) (b : Bool) → afterBy n (cond b (storing e f) e) e .directory ≡ e .directory
+      go zero true = refl
+      go zero false = refl
+      go (suc n) b = refl
+
+  pub device-after : (m : List ℕ) → m ≡ deviceAfter e f .memory → device (e .directory) m ≡ deviceAfter e f
+  device-after m h = ap₂ device (sym same-directory) h
 
 -- ── What 0 says ────────────────────────────────────────────────────────────────────────────────────────────────────
 
@@ -110,43 +123,45 @@ query-zero len first r count h =
     one-or-five (eqb count 1) (eqb count 5) count refl refl (h4 .1)
 
 -- a frame that is not refused
-pub record Accepted (d : Directory) (n : ℕ) (f : Frame) : Type 0 where
-  pub directory : SoundDirectory d
-  pub total : n ≡ totalOf d
-  pub head : headNumber (d .own) f ≡ 0
-  pub kind : kindNumber d f ≡ 0
+pub record Accepted (e : Device) (f : Frame) : Type 0 where
+  pub directory : SoundDirectory (e .directory)
+  pub total : length (e .memory) ≡ totalOf (e .directory)
+  pub head : headNumber (ownOf e) f ≡ 0
+  pub kind : kindNumber e f ≡ 0
 
-pub accepted : (d : Directory) (n : ℕ) (f : Frame) → serveNumber d n f ≡ 0 → Accepted d n f
+pub accepted : (e : Device) (f : Frame) → serveNumber e f ≡ 0 → Accepted e f
 unfolding serveNumber
-accepted d n f h =
-    let h1 = else-zero (memoryNumber d n) _ h in
-    let h2 = else-zero (headNumber (d .own) f) (kindNumber d f) (h1 .1) in
-    let h3 = memory-zero d n (h1 .0) in
+accepted e f h =
+    let h1 = else-zero (memoryNumber (e .directory) (length (e .memory))) _ h in
+    let h2 = else-zero (headNumber (ownOf e) f) (kindNumber e f) (h1 .1) in
+    let h3 = memory-zero (e .directory) (length (e .memory)) (h1 .0) in
     record { directory = h3 .0; total = h3 .1; head = h2 .0; kind = h2 .1 }
 
-module _ (d : Directory) (n : ℕ) (f : Frame) (a : Accepted d n f) where
+module _ (e : Device) (f : Frame) (a : Accepted e f) where
   -- a range of the addressed table lies within the memory
-  in-memory : (k : ℕ) → idOffset (f .id) + k ≤ sizeOf d (tableOf f) → placeOf d f + k ≤ n
+  in-memory : (k : ℕ) → idOffset (f .id) + k ≤ sizeAt e f → placeOf e f + k ≤ length (e .memory)
   unfolding placeOf
-  in-memory k h = omega (arith, table-within d (tableOf f) (omega (arith, table-small (f .id))), a .total)
+  in-memory k h = omega (arith, table-within (e .directory) (tableOf f) (omega (arith, table-small (f .id))), a .total)
 
-  pub command-fits : idKind (f .id) ≡ cmd → (idOffset (f .id) + f .len ≤ sizeOf d (tableOf f)) × (placeOf d f + f .len ≤ n)
+  pub command-fits : idKind (f .id) ≡ cmd
+      → (idOffset (f .id) + f .len ≤ sizeAt e f) × (placeOf e f + f .len ≤ length (e .memory))
   command-fits k =
-      let r = command-zero _ _ _ _ (sym (command-case d f k) ∙ a .kind) in
+      let r = command-zero _ _ _ _ (sym (command-case e f k) ∙ a .kind) in
       (r, in-memory (f .len) r)
 
   pub request-fits : idKind (f .id) ≡ req
-      → (requestAt f 0 .count ≤ 8) × (idOffset (f .id) + requestAt f 0 .count ≤ sizeOf d (tableOf f)) × (placeOf d f + requestAt f 0 .count ≤ n)
+      → (requestAt f 0 .count ≤ 8) × (idOffset (f .id) + requestAt f 0 .count ≤ sizeAt e f)
+      × (placeOf e f + requestAt f 0 .count ≤ length (e .memory))
   request-fits k =
-      let r = request-zero _ _ _ _ _ _ (sym (request-case d f k) ∙ a .kind) in
+      let r = request-zero _ _ _ _ _ _ (sym (request-case e f k) ∙ a .kind) in
       (r .0, r .1, in-memory (requestAt f 0 .count) (r .1))
 
   pub query-fits : idKind (f .id) ≡ xtnd → (requestAt f 1 .count ≡ 1) ⊎ (requestAt f 1 .count ≡ 5)
-  query-fits k = query-zero _ _ _ _ (sym (query-case d f k) ∙ a .kind)
+  query-fits k = query-zero _ _ _ _ (sym (query-case e f k) ∙ a .kind)
 
   pub is-query : idKind (f .id) ≢ cmd → idKind (f .id) ≢ req → idKind (f .id) ≡ xtnd
   is-query c r = go (eqb (idKind (f .id)) xtnd) refl
     where
       go : (b : Bool) → eqb (idKind (f .id)) xtnd ≡ b → idKind (f .id) ≡ xtnd
-      go true e = eqb-true _ _ e
-      go false e = absurd (omega (arith, sym (other-case d f c r (eqb-false (idKind (f .id)) xtnd e)) ∙ a .kind))
+      go true h = eqb-true _ _ h
+      go false h = absurd (omega (arith, sym (other-case e f c r (eqb-false (idKind (f .id)) xtnd h)) ∙ a .kind))

@@ -10,7 +10,8 @@ use native.Mathlib.Decide.{decLt}
 use lib.Dec.{leb}
 use borrow.Author.Tests.{leb-true, le-leb, lt-leb, not-false, eqb-true}
 use Rattle.wire.proofs.Orders.{order, if-zero, else-zero}
-use Rattle.bus_rules.specs.Holder.{Directory, startOf, totalOf, sizeOf, rightOf, soundTables, soundDirectory, directoryNumber, lengthNumber, memoryNumber}
+use Rattle.bus_rules.specs.Device.{Directory, startOf, totalOf, sizeOf, rightOf, soundTables, soundDirectory}
+use Rattle.bus_rules.specs.Device.{directoryNumber, lengthNumber, memoryNumber}
 use Rattle.bus_rules.specs.Demand2.{SoundDirectory}
 
 -- ── Starts ───────────────────────────────────────────────────────────────────────────────────────────────────────────
@@ -96,19 +97,21 @@ sound-says d h =
     let b = both (leb (d .own) 15) (soundTables d 32) (a .0) in
     record {
       own = leb-true _ _ (b .0);
-      tables = λ k l. let t = tables-all d 32 (b .1) k l in record { size = t .0; right = t .1 };
+      tables = λ k l. let t = tables-all d 32 (b .1) k l in record { size = omega (arith, t .0); right = omega (arith, t .1) };
       total = leb-true _ _ (a .1);
     }
 
 pub says-sound : (d : Directory) → SoundDirectory d → soundDirectory d ≡ true
 unfolding soundDirectory
 says-sound d s =
-    rw (le-leb _ _ (s .own), all-tables d 32 (λ k l. (s .tables k l .size, s .tables k l .right)), le-leb _ _ (s .total))
+    rw (le-leb _ _ (s .own), all-tables d 32 (λ k l. (omega (arith, s .tables k l .size), omega (arith, s .tables k l .right))), le-leb _ _ (s .total))
 
 pub unsound : (d : Directory) → (15 < d .own) ⊎ ((soundTables d 32 ≡ false) ⊎ (32768 < totalOf d)) → soundDirectory d ≡ false
 unfolding soundDirectory
-unsound d (inl h) = left-false (leb (d .own) 15 && soundTables d 32) (leb (totalOf d) 32768) (left-false (leb (d .own) 15) (soundTables d 32) (lt-leb _ _ h))
-unsound d (inr (inl h)) = left-false (leb (d .own) 15 && soundTables d 32) (leb (totalOf d) 32768) (right-false (leb (d .own) 15) (soundTables d 32) h)
+unsound d (inl h) =
+    left-false (leb (d .own) 15 && soundTables d 32) (leb (totalOf d) 32768) (left-false (leb (d .own) 15) (soundTables d 32) (lt-leb _ _ h))
+unsound d (inr (inl h)) =
+    left-false (leb (d .own) 15 && soundTables d 32) (leb (totalOf d) 32768) (right-false (leb (d .own) 15) (soundTables d 32) h)
 unsound d (inr (inr h)) = right-false (leb (d .own) 15 && soundTables d 32) (leb (totalOf d) 32768) (lt-leb _ _ h)
 
 pub is-sound : (d : Directory) → d .own ≤ 15 → soundTables d 32 ≡ true → totalOf d ≤ 32768 → soundDirectory d ≡ true
@@ -117,13 +120,13 @@ is-sound d o t s = rw (le-leb _ _ o, t, le-leb _ _ s)
 
 -- ── 11 and 10 ──────────────────────────────────────────────────────────────────────────────────────────────────────
 
-pub eleven : (d : Directory) → soundDirectory d ≡ false → 11 ≡ directoryNumber d
+pub unsound-number : (d : Directory) → soundDirectory d ≡ false → 11 ≡ directoryNumber d
 unfolding directoryNumber
-eleven d h = search order depth 6
+unsound-number d h = search order depth 6
 
-pub not-eleven : (d : Directory) → soundDirectory d ≡ true → 0 ≡ directoryNumber d
+pub sound-number : (d : Directory) → soundDirectory d ≡ true → 0 ≡ directoryNumber d
 unfolding directoryNumber
-not-eleven d h = search order depth 6
+sound-number d h = search order depth 6
 
 pub sound-directory : (d : Directory) → directoryNumber d ≡ 0 → SoundDirectory d
 unfolding directoryNumber

@@ -13,7 +13,7 @@ use Rattle.wire.specs.Put.{putAt, putOf}
 use Rattle.wire.proofs.Orders.{if-zero}
 use Rattle.wire.proofs.Parts.{take-length-le}
 use Rattle.wire.proofs.Puts.{put-fits, put-sets}
-use Rattle.bus_rules.specs.Frames.{Frame, padded, content, headNumber}
+use Rattle.bus_rules.specs.Frames.{Frame, padded, content, frameWith, headNumber}
 
 drop-same : (n m a : ℕ) → drop n (replicate m a) ≡ replicate (m - n) a
 drop-same zero m a = let e : m - 0 ≡ m = omega arith in rw e
@@ -35,7 +35,8 @@ pub padded-is : (bs : List ℕ) → length bs ≤ 8 → padded bs ≡ bs ++ repl
 unfolding padded
 padded-is bs h =
     let e : length bs + (8 - length bs) ≡ 8 = omega arith in
-    (rw e at (take-append-add bs (replicate 8 0) (8 - length bs))) ∙ ap (λ (l : List ℕ). bs ++ l) (take-same (8 - length bs) 8 0 (omega arith))
+    (rw e at (take-append-add bs (replicate 8 0) (8 - length bs)))
+    ∙ ap (λ (l : List ℕ). bs ++ l) (take-same (8 - length bs) 8 0 (omega arith))
 
 -- a copy into eight zeros
 padded-put : (bs : List ℕ) → length bs ≤ 8 → putOf (replicate 8 0) 0 bs ≡ padded bs
@@ -46,7 +47,7 @@ padded-put bs h =
     ∙ sym (padded-is bs h)
 
 -- only the first eight count
-padded-take : (bs : List ℕ) → padded (take 8 bs) ≡ padded bs
+pub padded-take : (bs : List ℕ) → padded (take 8 bs) ≡ padded bs
 unfolding padded
 padded-take bs = go (decLt (length bs) 8)
   where
@@ -54,7 +55,8 @@ padded-take bs = go (decLt (length bs) 8)
     go (yes p) = rw (take-all 8 bs (omega arith))
     go (no p) =
         let l : length (take 8 bs) ≡ 8 = length-take-le 8 bs (omega arith) in
-        take-append-le 8 (take 8 bs) (replicate 8 0) (omega arith) ∙ take-take 8 8 bs (omega arith) ∙ sym (take-append-le 8 bs (replicate 8 0) (omega arith))
+        take-append-le 8 (take 8 bs) (replicate 8 0) (omega arith) ∙ take-take 8 8 bs (omega arith)
+        ∙ sym (take-append-le 8 bs (replicate 8 0) (omega arith))
 
 -- set one after the other in eight zeros
 pub padded-sets : (bs : List ℕ) → sets (replicate 8 0) 0 (take 8 bs) ≡ padded bs
@@ -71,7 +73,8 @@ padded-in bs h i l = rw (padded-is bs h) (List·getD-append bs (replicate (8 - l
 pub padded-after : (bs : List ℕ) → length bs ≤ 8 → (i : ℕ) → length bs ≤ i → getD (padded bs) i 0 ≡ 0
 padded-after bs h i l =
     let e : length bs + (i - length bs) ≡ i = omega arith in
-    rw (padded-is bs h) ((rw e at (getD-append-add bs (replicate (8 - length bs) 0) (i - length bs) 0)) ∙ zeros-at (8 - length bs) (i - length bs))
+    rw (padded-is bs h)
+    ((rw e at (getD-append-add bs (replicate (8 - length bs) 0) (i - length bs) 0)) ∙ zeros-at (8 - length bs) (i - length bs))
 
 -- the bytes of a frame that count
 pub content-min : (f : Frame) → length (f .bytes) ≡ 8 → length (content f) ≡ min (f .len) 8
@@ -84,6 +87,14 @@ content-length f h l = omega (arith, content-min f h)
 pub content-at : (f : Frame) (i : ℕ) → i < f .len → getD (content f) i 0 ≡ getD (f .bytes) i 0
 unfolding content
 content-at f i h = getD-take (f .len) (f .bytes) i 0 h
+
+-- of at most eight bytes
+pub content-of-frame : (id : ℕ) (bs : List ℕ) → length bs ≤ 8 → content (frameWith id bs) ≡ bs
+unfolding content frameWith
+content-of-frame id bs h =
+    rw (padded-is bs h) (take-append-le (length bs) bs (replicate (8 - length bs) 0) (omega arith) ∙ take-all (length bs) bs (omega arith))
+
+-- ── Heads and lists ────────────────────────────────────────────────────────────────────────────────────────────────
 
 -- the length of a frame that no receiver refuses
 pub head-short : (own : ℕ) (f : Frame) → headNumber own f ≡ 0 → f .len ≤ 8
@@ -104,7 +115,9 @@ part-length m at n h = length-take-le n (drop at m) (simp length-drop (omega ari
 -- bytes set one after the other from a place on: the last of them
 sets-last : (bs m : List ℕ) (at b : ℕ) → sets m at (bs ++ (b ∷ [])) ≡ set (sets m at bs) (at + length bs) b
 sets-last [] m at b = rw add-zero
-sets-last (a ∷ bs) m at b = let e : at + suc (length bs) ≡ suc at + length bs = omega arith in rw e (sets-last bs (set m at a) (suc at) b)
+sets-last (a ∷ bs) m at b =
+    let e : at + suc (length bs) ≡ suc at + length bs = omega arith in
+    rw e (sets-last bs (set m at a) (suc at) b)
 
 module _ (m : List ℕ) (at : ℕ) (bs : List ℕ) (i : ℕ) where
   -- byte i, after the i before it

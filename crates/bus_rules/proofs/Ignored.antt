@@ -6,24 +6,25 @@ use mathlib.Core.List.{List}
 use Prim.Native.Nat.{ℕ, zero, suc, _+_, _<_}
 use native.Mathlib.Omega.{arith}
 use lib.Dec.{eqb, ltb}
-use lib.ListN.{length, getD, take, drop}
-use lib.Seq.{sets}
+use lib.ListN.{getD, take}
 use borrow.Author.Tests.{eqb-true, eqb-false, not-false}
 use Rattle.wire.specs.Order.{_if_else_}
 use Rattle.wire.proofs.Orders.{if-zero}
-use Rattle.bus_rules.specs.Ident.{idTable, idKind, idOffset}
+use Rattle.bus_rules.specs.Ident.{idTable, idFrom, idKind, idOffset}
 use Rattle.bus_rules.specs.Frames.{Frame, cmd, req, xtnd, content, headNumber}
 use Rattle.bus_rules.specs.Request.{Request}
-use Rattle.bus_rules.specs.Holder.{Directory, sizeOf, rightOf, requestNumber, queryNumber, commandNumber, kindNumber, serveNumber, byteOf, requestAt, reservedAt, tableOf}
-use Rattle.bus_rules.specs.Holder.{replyTo, placeOf, protocol, actOf, memoryAct, serveOf, memoryOf}
+use Rattle.bus_rules.specs.Device.{Device, ownOf, rangeOf, sizeOf, rightOf}
+use Rattle.bus_rules.specs.Holder.{requestNumber, queryNumber, commandNumber, kindNumber, serveNumber, byteOf, requestAt, reservedAt, sizeAt, rightAt}
+use Rattle.bus_rules.specs.Holder.{replyTo, placeOf, protocol, actOf, storing, actAfter, serveOf, deviceAfter}
 use Rattle.bus_rules.proofs.FrameLaws.{content-at}
-use Rattle.bus_rules.proofs.Cases.{Accepted, accepted, command-case, request-case, query-case, other-case, is-query, act-command, act-request, act-query, served-case, refused-case}
+use Rattle.bus_rules.proofs.Cases.{Accepted, accepted, command-case, request-case, query-case, other-case, is-query}
+use Rattle.bus_rules.proofs.Cases.{act-command, act-request, act-query, served-case, refused-case}
 
--- ── A length that is not the one asked for hides what follows ──────────────────────────────────────────────────────
+-- ── Where the length is not the one asked for, the bytes do not count ─────────────────────────────────────────────
 
-request-hides : (len : ℕ) (u v : Bool) (s r o a b : ℕ) → (len ≡ 3 → (u ≡ v) × (a ≡ b)) → requestNumber len u s r o a ≡ requestNumber len v s r o b
+request-by-length : (len : ℕ) (u v : Bool) (s r o a b : ℕ) → (len ≡ 3 → (u ≡ v) × (a ≡ b)) → requestNumber len u s r o a ≡ requestNumber len v s r o b
 unfolding requestNumber _if_else_
-request-hides len u v s r o a b h = go (eqb len 3) refl
+request-by-length len u v s r o a b h = go (eqb len 3) refl
   where
     go : (t : Bool) → eqb len 3 ≡ t
         → (6 if not (eqb len 3) else 6 if u else 7 if eqb s 0 else 7 if eqb r 0 else 9 if eqb a 0 else 9 if ltb 8 a else 8 if ltb s (o + a) else 0)
@@ -31,9 +32,9 @@ request-hides len u v s r o a b h = go (eqb len 3) refl
     go true e = let k = h (eqb-true len 3 e) in rw (k .0, k .1)
     go false e = rw e
 
-query-hides : (len x y : ℕ) (u v : Bool) (a b : ℕ) → (len ≢ 0 → x ≡ y) → (len ≡ 4 → (u ≡ v) × (a ≡ b)) → queryNumber len x u a ≡ queryNumber len y v b
+query-by-length : (len x y : ℕ) (u v : Bool) (a b : ℕ) → (len ≢ 0 → x ≡ y) → (len ≡ 4 → (u ≡ v) × (a ≡ b)) → queryNumber len x u a ≡ queryNumber len y v b
 unfolding queryNumber _if_else_
-query-hides len x y u v a b f h = go (eqb len 0) (eqb len 4) refl refl
+query-by-length len x y u v a b f h = go (eqb len 0) (eqb len 4) refl refl
   where
     go : (s t : Bool) → eqb len 0 ≡ s → eqb len 4 ≡ t
         → (6 if eqb len 0 else 5 if not (eqb x 0x80) else 6 if not (eqb len 4) else 6 if u else 0 if eqb a 1 else 0 if eqb a 5 else 9)
@@ -56,7 +57,7 @@ query-length len x u a h =
 
 -- ── Two frames that agree up to their length ───────────────────────────────────────────────────────────────────────
 
-module _ (d : Directory) (m : List ℕ) (f g : Frame) (same-id : g .id ≡ f .id) (same-len : g .len ≡ f .len) (same : content g ≡ content f) where
+module _ (d : Device) (f g : Frame) (same-id : g .id ≡ f .id) (same-len : g .len ≡ f .len) (same : content g ≡ content f) where
   byte-same : (i : ℕ) → i < f .len → byteOf g i ≡ byteOf f i
   unfolding byteOf
   byte-same i l = sym (content-at g i (omega arith)) ∙ ap (λ (x : List ℕ). getD x i 0) same ∙ content-at f i l
@@ -73,23 +74,27 @@ module _ (d : Directory) (m : List ℕ) (f g : Frame) (same-id : g .id ≡ f .id
   some-length zero k = absurd (k refl)
   some-length (suc n) k = omega arith
 
-  request-number-same : requestNumber (g .len) (reservedAt g 0) (sizeOf d (tableOf g)) (rightOf d (tableOf g)) (idOffset (g .id)) (requestAt g 0 .count)
-      ≡ requestNumber (f .len) (reservedAt f 0) (sizeOf d (tableOf f)) (rightOf d (tableOf f)) (idOffset (f .id)) (requestAt f 0 .count)
+  request-number-same : requestNumber (g .len) (reservedAt g 0) (sizeAt d g) (rightAt d g) (idOffset (g .id)) (requestAt g 0 .count)
+      ≡ requestNumber (f .len) (reservedAt f 0) (sizeAt d f) (rightAt d f) (idOffset (f .id)) (requestAt f 0 .count)
   request-number-same =
-      ap₂ (λ (i l : ℕ). requestNumber l (reservedAt g 0) (sizeOf d (idTable i)) (rightOf d (idTable i)) (idOffset i) (requestAt g 0 .count)) same-id same-len
-      ∙ (request-hides (f .len) (reservedAt g 0) (reservedAt f 0) (sizeOf d (tableOf f)) (rightOf d (tableOf f)) (idOffset (f .id)) (requestAt g 0 .count) (requestAt f 0 .count)
-      (λ e. (reserved-same 0 (omega arith), ap (λ (q : Request). q .count) (request-same 0 (omega arith)))))
+      ap₂ (λ (i l : ℕ). requestNumber l (reservedAt g 0) (sizeOf (d .directory) (idTable i)) (rightOf (d .directory) (idTable i)) (idOffset i)
+      (requestAt g 0 .count)) same-id same-len
+      ∙ request-by-length (f .len) (reservedAt g 0) (reservedAt f 0) (sizeAt d f) (rightAt d f) (idOffset (f .id))
+      (requestAt g 0 .count) (requestAt f 0 .count)
+      (λ e. (reserved-same 0 (omega arith), ap (λ (q : Request). q .count) (request-same 0 (omega arith))))
 
-  query-same : queryNumber (g .len) (byteOf g 0) (reservedAt g 1) (requestAt g 1 .count) ≡ queryNumber (f .len) (byteOf f 0) (reservedAt f 1) (requestAt f 1 .count)
+  query-same : queryNumber (g .len) (byteOf g 0) (reservedAt g 1) (requestAt g 1 .count)
+      ≡ queryNumber (f .len) (byteOf f 0) (reservedAt f 1) (requestAt f 1 .count)
   query-same =
       ap (λ (l : ℕ). queryNumber l (byteOf g 0) (reservedAt g 1) (requestAt g 1 .count)) same-len
-      ∙ (query-hides (f .len) (byteOf g 0) (byteOf f 0) (reservedAt g 1) (reservedAt f 1) (requestAt g 1 .count) (requestAt f 1 .count)
+      ∙ query-by-length (f .len) (byteOf g 0) (byteOf f 0) (reservedAt g 1) (reservedAt f 1) (requestAt g 1 .count) (requestAt f 1 .count)
       (λ n. byte-same 0 (some-length (f .len) n))
-      (λ e. (reserved-same 1 (omega arith), ap (λ (q : Request). q .count) (request-same 1 (omega arith)))))
+      (λ e. (reserved-same 1 (omega arith), ap (λ (q : Request). q .count) (request-same 1 (omega arith))))
 
-  command-same : commandNumber (g .len) (sizeOf d (tableOf g)) (rightOf d (tableOf g)) (idOffset (g .id))
-      ≡ commandNumber (f .len) (sizeOf d (tableOf f)) (rightOf d (tableOf f)) (idOffset (f .id))
-  command-same = ap₂ (λ (i l : ℕ). commandNumber l (sizeOf d (idTable i)) (rightOf d (idTable i)) (idOffset i)) same-id same-len
+  command-same : commandNumber (g .len) (sizeAt d g) (rightAt d g) (idOffset (g .id))
+      ≡ commandNumber (f .len) (sizeAt d f) (rightAt d f) (idOffset (f .id))
+  command-same =
+      ap₂ (λ (i l : ℕ). commandNumber l (sizeOf (d .directory) (idTable i)) (rightOf (d .directory) (idTable i)) (idOffset i)) same-id same-len
 
   kind-same : kindNumber d g ≡ kindNumber d f
   kind-same = go (eqb (idKind (f .id)) cmd) (eqb (idKind (f .id)) req) (eqb (idKind (f .id)) xtnd) refl refl refl
@@ -105,11 +110,11 @@ module _ (d : Directory) (m : List ℕ) (f g : Frame) (same-id : g .id ≡ f .id
           other-case d g (λ z. eqb-false _ _ e (sym k ∙ z)) (λ z. eqb-false _ _ h (sym k ∙ z)) (λ z. eqb-false _ _ x (sym k ∙ z))
           ∙ sym (other-case d f (eqb-false _ _ e) (eqb-false _ _ h) (eqb-false _ _ x))
 
-  head-same : headNumber (d .own) g ≡ headNumber (d .own) f
+  head-same : headNumber (ownOf d) g ≡ headNumber (ownOf d) f
   unfolding headNumber
   head-same = rw (same-id, same-len)
 
-  number-same : serveNumber d (length m) g ≡ serveNumber d (length m) f
+  number-same : serveNumber d g ≡ serveNumber d f
   unfolding serveNumber
   number-same = rw (head-same, kind-same)
 
@@ -117,48 +122,53 @@ module _ (d : Directory) (m : List ℕ) (f g : Frame) (same-id : g .id ≡ f .id
   unfolding placeOf
   place-same = rw same-id
 
-  reply-same : (i : ℕ) (bs cs : List ℕ) → requestAt g i ≡ requestAt f i → bs ≡ cs → replyTo d g (requestAt g i) bs ≡ replyTo d f (requestAt f i) cs
+  store-same : storing d g ≡ storing d f
+  unfolding storing
+  store-same = rw (place-same, same)
+
+  reply-same : (i : ℕ) (bs cs : List ℕ) → requestAt g i ≡ requestAt f i → bs ≡ cs
+      → replyTo (ownOf d) (idFrom (g .id)) (requestAt g i) bs ≡ replyTo (ownOf d) (idFrom (f .id)) (requestAt f i) cs
   unfolding replyTo
   reply-same i bs cs e h = cc
 
   -- frames that are not refused do the same
-  act-same : serveNumber d (length m) f ≡ 0 → (actOf d m g ≡ actOf d m f) × (memoryAct d m g ≡ memoryAct d m f)
+  act-same : serveNumber d f ≡ 0 → (actOf d g ≡ actOf d f) × (actAfter d g ≡ actAfter d f)
   act-same z = go (eqb (idKind (f .id)) cmd) (eqb (idKind (f .id)) req) refl refl
     where
-      ok : Accepted d (length m) f
-      ok = accepted d (length m) f z
+      ok : Accepted d f
+      ok = accepted d f z
 
-      go : (a b : Bool) → eqb (idKind (f .id)) cmd ≡ a → eqb (idKind (f .id)) req ≡ b → (actOf d m g ≡ actOf d m f) × (memoryAct d m g ≡ memoryAct d m f)
+      go : (a b : Bool) → eqb (idKind (f .id)) cmd ≡ a → eqb (idKind (f .id)) req ≡ b → (actOf d g ≡ actOf d f) × (actAfter d g ≡ actAfter d f)
       go true b e h =
           let k = eqb-true (idKind (f .id)) cmd e in
-          let x = act-command d m g (ap idKind same-id ∙ k) in
-          let y = act-command d m f k in
-          (x .0 ∙ sym (y .0), x .1 ∙ ap₂ (λ (p : ℕ) (c : List ℕ). sets m p c) place-same same ∙ sym (y .1))
+          let x = act-command d g (ap idKind same-id ∙ k) in
+          let y = act-command d f k in
+          (x .0 ∙ sym (y .0), x .1 ∙ store-same ∙ sym (y .1))
       go false true e h =
           let k = eqb-true (idKind (f .id)) req h in
           let l = request-length _ _ _ _ _ _ (sym (request-case d f k) ∙ ok .kind) in
           let q = request-same 0 (omega arith) in
-          let x = act-request d m g (ap idKind same-id ∙ k) in
-          let y = act-request d m f k in
-          (x .0 ∙ reply-same 0 _ _ q (ap₂ (λ (r : Request) (p : ℕ). take (r .count) (drop p m)) q place-same) ∙ sym (y .0), x .1 ∙ sym (y .1))
+          let x = act-request d g (ap idKind same-id ∙ k) in
+          let y = act-request d f k in
+          (x .0 ∙ reply-same 0 _ _ q (ap₂ (λ (r : Request) (i : ℕ). rangeOf d (idTable i) (idOffset i) (r .count)) q same-id) ∙ sym (y .0), x .1 ∙ sym (y .1))
       go false false e h =
-          let k = is-query d (length m) f ok (eqb-false _ _ e) (eqb-false _ _ h) in
+          let k = is-query d f ok (eqb-false _ _ e) (eqb-false _ _ h) in
           let l = query-length _ _ _ _ (sym (query-case d f k) ∙ ok .kind) in
           let q = request-same 1 (omega arith) in
-          let x = act-query d m g (ap idKind same-id ∙ k) in
-          let y = act-query d m f k in
-          (x .0 ∙ reply-same 1 _ _ q (ap (λ (r : Request). take (r .count) (protocol d)) q) ∙ sym (y .0), x .1 ∙ sym (y .1))
+          let x = act-query d g (ap idKind same-id ∙ k) in
+          let y = act-query d f k in
+          (x .0 ∙ reply-same 1 _ _ q (ap (λ (r : Request). take (r .count) (protocol (d .directory))) q) ∙ sym (y .0), x .1 ∙ sym (y .1))
 
-  pub ignored : (serveOf d m g ≡ serveOf d m f) × (memoryOf d m g ≡ memoryOf d m f)
-  ignored = go (serveNumber d (length m) f) refl
+  pub ignored : (serveOf d g ≡ serveOf d f) × (deviceAfter d g ≡ deviceAfter d f)
+  ignored = go (serveNumber d f) refl
     where
-      go : (n : ℕ) → serveNumber d (length m) f ≡ n → (serveOf d m g ≡ serveOf d m f) × (memoryOf d m g ≡ memoryOf d m f)
+      go : (n : ℕ) → serveNumber d f ≡ n → (serveOf d g ≡ serveOf d f) × (deviceAfter d g ≡ deviceAfter d f)
       go zero e =
-          let x = served-case d m g (number-same ∙ e) in
-          let y = served-case d m f e in
+          let x = served-case d g (number-same ∙ e) in
+          let y = served-case d f e in
           let a = act-same e in
           (x .0 ∙ a .0 ∙ sym (y .0), x .1 ∙ a .1 ∙ sym (y .1))
       go (suc n) e =
-          let x = refused-case d m g (suc n) (number-same ∙ e) (λ z. omega arith) in
-          let y = refused-case d m f (suc n) e (λ z. omega arith) in
+          let x = refused-case d g (suc n) (number-same ∙ e) (λ z. omega arith) in
+          let y = refused-case d f (suc n) e (λ z. omega arith) in
           (x .0 ∙ sym (y .0), x .1 ∙ sym (y .1))

@@ -1,9 +1,12 @@
 pub mod IdentLaws
 pub mod RequestLaws
-pub mod Directories
 pub mod FrameLaws
+pub mod RowTheorems
+pub mod Directories
+pub mod Ranges
 pub mod Cases
-pub mod Numbers
+pub mod ServeNumber
 pub mod Ignored
-pub mod Demands
+pub mod Demand2
 pub mod Replies
+pub mod Computing

@@ -9,8 +9,8 @@ use borrow.Author.Tests.{ltb-false, eqb-true, not-false}
 use Rattle.wire.specs.Answer.{answer, result}
 use Rattle.wire.proofs.Answers.{answered, means, stands}
 use Rattle.wire.proofs.Orders.{order, if-zero}
-use Rattle.bus_rules.specs.Request.{Request, requestOf, reserved, readNumber, readRequestOf, noRequest, requestReadAnswer, request, requestBytesNumber, wroteRequest, requestBytesOf}
-use Rattle.bus_rules.specs.Rows.{ReadAfterWrite}
+use Rattle.bus_rules.specs.Request.{Request, requestOf, reserved, readNumber, readRequestOf, noRequest, requestReadAnswer, request}
+use Rattle.bus_rules.specs.Request.{requestBytesNumber, wroteRequest, requestBytesOf}
 use Rattle.bus_rules.specs.declared.RequestRead.{RequestRead}
 use Rattle.bus_rules.specs.declared.RequestRead.the-variants as A
 use Rattle.bus_rules.specs.declared.RequestBytes.{RequestBytes}
@@ -21,17 +21,17 @@ pub record Holds (q : Request) : Type 0 where
   pub count : q .count ≤ 15
   pub offset : q .offset ≤ 2047
 
-pub holds : (q : Request) → requestBytesNumber q ≡ 0 → Holds q
+pub zero-holds : (q : Request) → requestBytesNumber q ≡ 0 → Holds q
 unfolding requestBytesNumber
-holds q e =
+zero-holds q e =
     let h1 = if-zero 6 _ _ e in
     let h2 = if-zero 8 _ _ (h1 .1) in
     let h3 = if-zero 7 _ _ (h2 .1) in
     record { table = ltb-false 31 (q .table) (h1 .0); count = ltb-false 15 (q .count) (h2 .0); offset = ltb-false 2047 (q .offset) (h3 .0) }
 
-pub held : (q : Request) → Holds q → requestBytesNumber q ≡ 0
+pub holds-zero : (q : Request) → Holds q → requestBytesNumber q ≡ 0
 unfolding requestBytesNumber
-held q h = let z : 0 ≡ requestBytesNumber q = search order depth 12 in sym z
+holds-zero q h = let z : 0 ≡ requestBytesNumber q = search order depth 12 in sym z
 
 -- clear reserved bits
 or-false : (x y : Bool) → (x || y) ≡ false → (x ≡ false) × (y ≡ false)
@@ -49,7 +49,8 @@ is-clear a c h k = rw (h, k)
 pub request-read-is : (n : ℕ) (x q : Request) → answer A.Is A.Refused n x ≡ A.Is q → (n ≡ 0) × (x ≡ q)
 request-read-is = answered A.Is A.Refused (λ n y e. let z : _≡_ {A = ℕ} 0 1 = cc in omega arith) (λ x y e. cc)
 
-pub request-read-means : (r : RequestRead) (n : ℕ) (x : Request) → r ≡ answer A.Is A.Refused n x → (r ≡ answer A.Is A.Refused n x) × (requestReadAnswer r ≡ result noRequest n x)
+pub request-read-means : (r : RequestRead) (n : ℕ) (x : Request) → r ≡ answer A.Is A.Refused n x
+    → (r ≡ answer A.Is A.Refused n x) × (requestReadAnswer r ≡ result noRequest n x)
 request-read-means = means A.Is A.Refused noRequest requestReadAnswer (λ x. refl) (λ n. refl)
 
 -- the bytes of a request, read
@@ -77,7 +78,7 @@ module _ (a b c : ℕ) (ha : a < 256) (hb : b < 256) (hc : c < 256) (clean : res
   pub bytes-back : requestBytesOf (requestOf a b c) ≡ record { number = 0; bytes = a ∷ b ∷ c ∷ [] }
   unfolding requestBytesOf wroteRequest request requestOf
   bytes-back =
-      let n = held (requestOf a b c) read-holds in
+      let n = holds-zero (requestOf a b c) read-holds in
       let e = clear a c clean in
       rw (n, same-table e, same-high, same-low e)
     where
@@ -108,7 +109,7 @@ read-after-write q e a b c k = go (requestBytesNumber q) refl e k
         let ea : q .table ≡ a = cc in
         let eb : q .offset / 8 ≡ b = cc in
         let ec : q .offset % 8 * 32 + q .count ≡ c = cc in
-        rw (← ea, ← eb, ← ec) (reads-back q (holds q n))
+        rw (← ea, ← eb, ← ec) (reads-back q (zero-holds q n))
     go (suc m) n z l = absurd (omega arith)
 
 -- the number of request bytes, by their reserved bits
@@ -120,7 +121,8 @@ pub read-yes : (a c : ℕ) → reserved a c ≡ false → 0 ≡ readNumber a c
 unfolding readNumber
 read-yes a c e = search order depth 6
 
-pub wrote-no : (k n : ℕ) (bs : List ℕ) → k ≡ n → (k ≡ 0 → ⊥) → _≡_ {A = RequestBytes} (record { number = k; bytes = replicate 3 0 }) (wroteRequest n bs)
+pub wrote-no : (k n : ℕ) (bs : List ℕ) → k ≡ n → (k ≡ 0 → ⊥)
+    → _≡_ {A = RequestBytes} (record { number = k; bytes = replicate 3 0 }) (wroteRequest n bs)
 unfolding wroteRequest
 wrote-no k zero bs e h = absurd (h e)
 wrote-no k (suc n) bs e h = rw e
@@ -129,7 +131,3 @@ pub wrote-yes : (k n : ℕ) (bs : List ℕ) → k ≡ n → k ≡ 0 → _≡_ {A
 unfolding wroteRequest
 wrote-yes k zero bs e h = refl
 wrote-yes k (suc n) bs e h = absurd (omega arith)
-
-pub answer-back : (q : Request) (r : RequestBytes) → r ≡ requestBytesOf q → ReadAfterWrite q r
-answer-back q r e z a b c k =
-    read-after-write q (sym (ap (λ (x : RequestBytes). x .number) e) ∙ z) a b c (sym (ap (λ (x : RequestBytes). x .bytes) e) ∙ k)

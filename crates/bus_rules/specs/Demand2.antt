@@ -1,6 +1,5 @@
 -- DEMAND 2 of the table holder: a served write sets exactly the addressed bytes; a served request answers exactly the asked
--- bytes. And which number is given exactly when. Of a call on the directory d, the memory m and the frame f that answers s and
--- leaves the memory after.
+-- bytes. And which number is given exactly when. Of a call on the device e and the frame f that answers s and leaves the device after.
 use Prim.Native.Nat.{ℕ, _+_, _≤_, _<_, _^_, _/_, _%_}
 use mathlib.Core.Path.{_≡_}
 use mathlib.Core.Logic.{_⊎_, _≢_}
@@ -11,46 +10,49 @@ use Rattle.wire.specs.First.{First, Unless, Zero}
 use Rattle.bus_rules.specs.Ident.{idSpare, idTable, idTo, idFrom, idKind, idOffset, unpackOf}
 use Rattle.bus_rules.specs.Frames.{Frame, cmd, req, rsp, xtnd, content}
 use Rattle.bus_rules.specs.Request.{Request}
-use Rattle.bus_rules.specs.Holder.{Directory, Served, sizeOf, rightOf, startOf, totalOf, byteOf, requestAt, reservedAt, tableOf, placeOf}
-use Rattle.bus_rules.specs.Holder.{noAnswer, serveOf, memoryOf}
+use Rattle.bus_rules.specs.Device.{Directory, Device, SameTables, ownOf, sizeOf, rightOf, startOf, totalOf}
+use Rattle.bus_rules.specs.Holder.{Served, byteOf, requestAt, reservedAt, tableOf, sizeAt, rightAt, placeOf, noAnswer, serveOf, deviceAfter}
 use Rattle.bus_rules.specs.declared.Unpacked.the-variants as U
 
 -- ── What a served frame does ───────────────────────────────────────────────────────────────────────────────────────
 
 -- CMD: exactly the addressed bytes are set, all of them bytes of the addressed table, and no other byte of any table
-pub record CommandServed (d : Directory) (m : List ℕ) (f : Frame) (s : Served) (after : List ℕ) : Type 0 where
+pub record CommandServed (e : Device) (f : Frame) (s : Served) (after : Device) : Type 0 where
   pub answer : s ≡ noAnswer 0
-  pub inTable : idOffset (f .id) + f .len ≤ sizeOf d (tableOf f)
-  pub inMemory : placeOf d f + f .len ≤ length m
-  pub sameLength : length after ≡ length m
-  pub addressed : (i : ℕ) → i < f .len → getD after (placeOf d f + i) 0 ≡ byteOf f i
-  pub others : (j : ℕ) → (j < placeOf d f) ⊎ (placeOf d f + f .len ≤ j) → getD after j 0 ≡ getD m j 0
-  pub otherTables : (k i : ℕ) → k < 32 → i < sizeOf d k → k ≢ tableOf f → getD after (startOf d k + i) 0 ≡ getD m (startOf d k + i) 0
+  pub inTable : idOffset (f .id) + f .len ≤ sizeAt e f
+  pub inMemory : placeOf e f + f .len ≤ length (e .memory)
+  pub sameTables : SameTables e after
+  pub sameLength : length (after .memory) ≡ length (e .memory)
+  pub addressed : (i : ℕ) → i < f .len → getD (after .memory) (placeOf e f + i) 0 ≡ byteOf f i
+  pub others : (j : ℕ) → (j < placeOf e f) ⊎ (placeOf e f + f .len ≤ j) → getD (after .memory) j 0 ≡ getD (e .memory) j 0
+  pub otherTables : (k i : ℕ) → k < 32 → i < sizeOf (e .directory) k → k ≢ tableOf f
+      → getD (after .memory) (startOf (e .directory) k + i) 0 ≡ getD (e .memory) (startOf (e .directory) k + i) 0
 
 -- an answer frame: RSP to the sender, under the identifier asked for, with the count asked for, and zeros past it
-pub record Replied (d : Directory) (f : Frame) (q : Request) (s : Served) : Type 0 where
+pub record Replied (e : Device) (f : Frame) (q : Request) (s : Served) : Type 0 where
   pub done : s .number ≡ 0
   pub one : s .answers ≡ 1
-  pub ident : unpackOf (s .frame .id) ≡ U.Is (record { offset = q .offset; kind = rsp; from = d .own; to = idFrom (f .id); table = q .table })
+  pub ident : unpackOf (s .frame .id) ≡ U.Is (record { offset = q .offset; kind = rsp; from = ownOf e; to = idFrom (f .id); table = q .table })
   pub len : s .frame .len ≡ q .count
   pub eight : length (s .frame .bytes) ≡ 8
   pub zeros : (i : ℕ) → q .count ≤ i → getD (s .frame .bytes) i 0 ≡ 0
 
 -- REQ: exactly the asked bytes, all of them bytes of the addressed table, and nothing changes
-pub record RequestServed (d : Directory) (m : List ℕ) (f : Frame) (s : Served) (after : List ℕ) : Type 0 where
-  pub unchanged : after ≡ m
-  pub reply : Replied d f (requestAt f 0) s
-  pub inTable : idOffset (f .id) + requestAt f 0 .count ≤ sizeOf d (tableOf f)
-  pub inMemory : placeOf d f + requestAt f 0 .count ≤ length m
-  pub asked : (i : ℕ) → i < requestAt f 0 .count → getD (s .frame .bytes) i 0 ≡ getD m (placeOf d f + i) 0
+pub record RequestServed (e : Device) (f : Frame) (s : Served) (after : Device) : Type 0 where
+  pub unchanged : after ≡ e
+  pub reply : Replied e f (requestAt f 0) s
+  pub inTable : idOffset (f .id) + requestAt f 0 .count ≤ sizeAt e f
+  pub inMemory : placeOf e f + requestAt f 0 .count ≤ length (e .memory)
+  pub asked : (i : ℕ) → i < requestAt f 0 .count → getD (s .frame .bytes) i 0 ≡ getD (e .memory) (placeOf e f + i) 0
 
 -- the protocol query: 2, or 2 and the blocking factors, and nothing changes
-pub record QueryServed (d : Directory) (m : List ℕ) (f : Frame) (s : Served) (after : List ℕ) : Type 0 where
-  pub unchanged : after ≡ m
-  pub reply : Replied d f (requestAt f 1) s
+pub record QueryServed (e : Device) (f : Frame) (s : Served) (after : Device) : Type 0 where
+  pub unchanged : after ≡ e
+  pub reply : Replied e f (requestAt f 1) s
   pub short : requestAt f 1 .count ≡ 1 → s .frame .bytes ≡ 2 ∷ 0 ∷ 0 ∷ 0 ∷ 0 ∷ 0 ∷ 0 ∷ 0 ∷ []
   pub long : requestAt f 1 .count ≡ 5 → s .frame .bytes
-      ≡ 2 ∷ d .«table_blocking» / 256 ∷ d .«table_blocking» % 256 ∷ d .«write_blocking» / 256 ∷ d .«write_blocking» % 256 ∷ 0 ∷ 0 ∷ 0 ∷ []
+      ≡ 2 ∷ e .directory .«table_blocking» / 256 ∷ e .directory .«table_blocking» % 256
+      ∷ e .directory .«write_blocking» / 256 ∷ e .directory .«write_blocking» % 256 ∷ 0 ∷ 0 ∷ 0 ∷ []
   pub noOther : (requestAt f 1 .count ≡ 1) ⊎ (requestAt f 1 .count ≡ 5)
 
 -- ── Which number ───────────────────────────────────────────────────────────────────────────────────────────────────
@@ -65,19 +67,19 @@ pub record SoundDirectory (d : Directory) : Type 0 where
   pub tables : (k : ℕ) → k < 32 → SoundTable d k
   pub total : totalOf d ≤ 32768
 
-abbrev pub CommandNumber : Directory → Frame → ℕ → Type 0
-CommandNumber d f =
+abbrev pub CommandNumber : Device → Frame → ℕ → Type 0
+CommandNumber e f =
     First (f .len ≡ 0) 6
-    (First ((sizeOf d (tableOf f) ≡ 0) ⊎ (rightOf d (tableOf f) ≢ 2)) 7
-    (First (sizeOf d (tableOf f) < idOffset (f .id) + f .len) 8
+    (First ((sizeAt e f ≡ 0) ⊎ (rightAt e f ≢ 2)) 7
+    (First (sizeAt e f < idOffset (f .id) + f .len) 8
     Zero))
 
-abbrev pub RequestNumber : Directory → Frame → ℕ → Type 0
-RequestNumber d f =
+abbrev pub RequestNumber : Device → Frame → ℕ → Type 0
+RequestNumber e f =
     Unless ((f .len ≡ 3) × (reservedAt f 0 ≡ false)) 6
-    (First ((sizeOf d (tableOf f) ≡ 0) ⊎ (rightOf d (tableOf f) ≡ 0)) 7
+    (First ((sizeAt e f ≡ 0) ⊎ (rightAt e f ≡ 0)) 7
     (Unless ((1 ≤ requestAt f 0 .count) × (requestAt f 0 .count ≤ 8)) 9
-    (First (sizeOf d (tableOf f) < idOffset (f .id) + requestAt f 0 .count) 8
+    (First (sizeAt e f < idOffset (f .id) + requestAt f 0 .count) 8
     Zero)))
 
 abbrev pub QueryNumber : Frame → ℕ → Type 0
@@ -89,30 +91,30 @@ QueryNumber f =
     Zero)))
 
 -- by type; a type other than CMD, REQ and XTND is 5
-pub record KindNumber (d : Directory) (f : Frame) (n : ℕ) : Type 0 where
-  pub command : idKind (f .id) ≡ cmd → CommandNumber d f n
-  pub request : idKind (f .id) ≡ req → RequestNumber d f n
+pub record KindNumber (e : Device) (f : Frame) (n : ℕ) : Type 0 where
+  pub command : idKind (f .id) ≡ cmd → CommandNumber e f n
+  pub request : idKind (f .id) ≡ req → RequestNumber e f n
   pub query : idKind (f .id) ≡ xtnd → QueryNumber f n
   pub other : idKind (f .id) ≢ cmd → idKind (f .id) ≢ req → idKind (f .id) ≢ xtnd → n ≡ 5
 
 -- 11, 10, 1, 2, 3, 4, then by type
-abbrev pub ServeNumber : Directory → List ℕ → Frame → ℕ → Type 0
-ServeNumber d m f =
-    Unless (SoundDirectory d) 11
-    (Unless (length m ≡ totalOf d) 10
+abbrev pub ServeNumber : Device → Frame → ℕ → Type 0
+ServeNumber e f =
+    Unless (SoundDirectory (e .directory)) 11
+    (Unless (length (e .memory) ≡ totalOf (e .directory)) 10
     (First (2 ^ 29 ≤ f .id) 1
     (Unless (idSpare (f .id) ≡ 0) 2
     (First (8 < f .len) 3
-    (Unless (idTo (f .id) ≡ d .own) 4
-    (KindNumber d f))))))
+    (Unless (idTo (f .id) ≡ ownOf e) 4
+    (KindNumber e f))))))
 
 -- ── All of it ──────────────────────────────────────────────────────────────────────────────────────────────────────
 
-pub record Demand2 (d : Directory) (m : List ℕ) (f : Frame) (s : Served) (after : List ℕ) : Type 0 where
-  pub number : ServeNumber d m f (s .number)
-  pub refused : s .number ≢ 0 → (s ≡ noAnswer (s .number)) × (after ≡ m)
-  pub command : s .number ≡ 0 → idKind (f .id) ≡ cmd → CommandServed d m f s after
-  pub request : s .number ≡ 0 → idKind (f .id) ≡ req → RequestServed d m f s after
-  pub query : s .number ≡ 0 → idKind (f .id) ≡ xtnd → QueryServed d m f s after
+pub record Demand2 (e : Device) (f : Frame) (s : Served) (after : Device) : Type 0 where
+  pub number : ServeNumber e f (s .number)
+  pub refused : s .number ≢ 0 → (s ≡ noAnswer (s .number)) × (after ≡ e)
+  pub command : s .number ≡ 0 → idKind (f .id) ≡ cmd → CommandServed e f s after
+  pub request : s .number ≡ 0 → idKind (f .id) ≡ req → RequestServed e f s after
+  pub query : s .number ≡ 0 → idKind (f .id) ≡ xtnd → QueryServed e f s after
   -- input bytes past the length are ignored
-  pub ignored : (g : Frame) → g .id ≡ f .id → g .len ≡ f .len → content g ≡ content f → (serveOf d m g ≡ s) × (memoryOf d m g ≡ after)
+  pub ignored : (g : Frame) → g .id ≡ f .id → g .len ≡ f .len → content g ≡ content f → (serveOf e g ≡ s) × (deviceAfter e g ≡ after)

@@ -6,7 +6,7 @@ use lib.Dec.{leb, ltb, eqb}
 use lib.ListN.{length, take, replicate}
 use Rattle.wire.specs.Order.{_if_else_}
 use Rattle.wire.specs.Answer.{answer}
-use Rattle.bus_rules.specs.Ident.{idSpare, idTo, partsOf}
+use Rattle.bus_rules.specs.Ident.{Parts, idSpare, idTo, partsOf, idIn, inRows}
 use Rattle.bus_rules.specs.declared.Unpacked.{Unpacked}
 use Rattle.bus_rules.specs.declared.Unpacked.the-variants as U
 pub use Rattle.bus_rules.specs.declared.Frame.{Frame}
@@ -35,6 +35,10 @@ padded bs = take 8 (bs ++ replicate 8 0)
 -- the frame of these bytes, at most eight
 unfoldable pub frameWith : ℕ → List ℕ → Frame
 frameWith id bs = record { id = id; len = length bs; bytes = padded bs }
+
+-- the frame of these parts, as the rows hold them, and of the first eight bytes: a frame for any parts and bytes
+unfoldable pub buildOf : Parts → List ℕ → Frame
+buildOf p bs = frameWith (idIn (inRows p)) (take 8 bs)
 
 -- no frame: all numbers are 0
 unfoldable pub noFrame : Frame

@@ -64,6 +64,16 @@ idIn p = idOf (p .offset) (p .kind) (p .from) (p .to) (p .table)
 unfoldable pub packOf : Parts → Packed
 packOf p = answer P.Is P.Refused (packNumber p) (idIn p)
 
+-- parts as the rows hold them: each modulo 2 to its row's width
+unfoldable pub inRows : Parts → Parts
+inRows p = record {
+  offset = p .offset % 2 ^ 11;
+  kind = p .kind % 2 ^ 3;
+  from = p .from % 2 ^ 4;
+  to = p .to % 2 ^ 4;
+  table = p .table % 2 ^ 5;
+}
+
 -- 1: identifier 2^29 or more; 2: spare bits set
 unfoldable pub unpackNumber : ℕ → ℕ
 unpackNumber id = 1 if leb (2 ^ 29) id else 2 if not (eqb (idSpare id) 0) else 0

@@ -2,5 +2,6 @@ pub mod Ident
 pub mod Frames
 pub mod Request
 pub mod Rows
+pub mod Device
 pub mod Holder
 pub mod Demand2

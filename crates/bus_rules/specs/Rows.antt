@@ -1,8 +1,10 @@
--- Theorems about identifiers and request bytes: reading and writing undo each other, and the law of the rows.
-use Prim.Native.Nat.{ℕ, _+_, _*_, _/_, _%_, _^_}
+-- Theorems about identifiers, request bytes and built frames: reading and writing undo each other, and the law of the rows.
+use Prim.Native.Nat.{ℕ, _+_, _*_, _/_, _%_, _^_, _≤_, _<_}
 use mathlib.Core.Path.{_≡_}
 use mathlib.Core.List.{List, [], _∷_}
-use Rattle.bus_rules.specs.Ident.{Parts, row, packOf, unpackOf}
+use lib.ListN.{length, getD, take}
+use Rattle.bus_rules.specs.Ident.{Parts, row, inRows, packOf, unpackOf}
+use Rattle.bus_rules.specs.Frames.{Frame, content, frameWith, buildOf}
 use Rattle.bus_rules.specs.Request.{Request, readRequestOf, requestBytesOf, request}
 use Rattle.bus_rules.specs.declared.Packed.{Packed}
 use Rattle.bus_rules.specs.declared.Packed.the-variants as P
@@ -43,3 +45,21 @@ ReadAfterWrite q r = r .number ≡ 0 → (a b c : ℕ) → r .bytes ≡ a ∷ b 
 -- what is read from request bytes writes them
 abbrev pub WriteAfterRead : (a b c : ℕ) → RequestRead → Type 0
 WriteAfterRead a b c r = (q : Request) → r ≡ A.Is q → requestBytesOf q ≡ record { number = 0; bytes = a ∷ b ∷ c ∷ [] }
+
+-- the frame that is built of parts and bytes: its identifier unpacks to the parts as the rows hold them; of parts that pack it is the
+-- frame of their identifier; its bytes are the first eight, then zeros
+pub record Built (p : Parts) (bs : List ℕ) (f : Frame) : Type 0 where
+  pub unpacks : unpackOf (f .id) ≡ U.Is (inRows p)
+  pub packed : (id : ℕ) → packOf p ≡ P.Is id → f ≡ frameWith id (take 8 bs)
+  pub content : content f ≡ take 8 bs
+  pub eight : length (f .bytes) ≡ 8
+  pub zeros : (i : ℕ) → f .len ≤ i → getD (f .bytes) i 0 ≡ 0
+
+-- all of it, of what the definitions answer; a byte is below 256
+pub record RowTheorems : Type 0 where
+  pub unpackAfterPack : (p : Parts) → UnpackAfterPack p (packOf p)
+  pub packAfterUnpack : (id : ℕ) → PackAfterUnpack id (unpackOf id)
+  pub rowLaw : (id : ℕ) → RowLaw id (unpackOf id)
+  pub readAfterWrite : (q : Request) → ReadAfterWrite q (requestBytesOf q)
+  pub writeAfterRead : (a b c : ℕ) → a < 256 → b < 256 → c < 256 → WriteAfterRead a b c (readRequestOf a b c)
+  pub built : (p : Parts) (bs : List ℕ) → Built p bs (buildOf p bs)

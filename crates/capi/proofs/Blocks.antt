@@ -6,12 +6,12 @@ use mathlib.Core.Logic.{⊎-elim}
 use native.Mathlib.Omega.{arith}
 use types.Run.{OneOf}
 use denote.Enum.Declared.{tagOf}
-use Rattle.mlgfile.specs.declared.Block.{Block as MlgEnum}
-use Rattle.mlgfile.specs.declared.Block.the-variants as MB
-use Rattle.mlgfile.proofs.Block as mlg-block
-use Rattle.frd.specs.declared.Block.{Block as FrdEnum}
-use Rattle.frd.specs.declared.Block.the-variants as FB
-use Rattle.frd.proofs.Block as frd-block
+use Rattle.mlg_rules.specs.declared.Block.{Block as MlgEnum}
+use Rattle.mlg_rules.specs.declared.Block.the-variants as MB
+use Rattle.mlg_rules.proofs.Block as mlg-block
+use Rattle.frd_rules.specs.declared.Block.{Block as FrdEnum}
+use Rattle.frd_rules.specs.declared.Block.the-variants as FB
+use Rattle.frd_rules.proofs.Block as frd-block
 
 abbrev EndTag : ℕ → Type 0
 EndTag n = OneOf (1 ∷ 2 ∷ 3 ∷ []) n → OneOf (0 ∷ 2 ∷ 3 ∷ []) n → OneOf (0 ∷ 1 ∷ 2 ∷ []) n → n ≡ 2

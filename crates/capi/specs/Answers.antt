@@ -10,20 +10,20 @@ use Rattle.bus_rules.specs.declared.RequestRead.{RequestRead as AskedEnum}
 use Rattle.bus_rules.specs.declared.RequestRead.the-variants as A
 use Rattle.bus_rules.specs.Ident.{noParts}
 use Rattle.bus_rules.specs.Request.{noRequest}
-use Rattle.mlgfile.specs.Block.{dataKind, markKind, endKind, refusedKind}
-use Rattle.mlgfile.specs.declared.Head.{Head as MlgHead}
-use Rattle.mlgfile.specs.declared.Head.the-variants as MH
-use Rattle.mlgfile.specs.declared.Block.{Block as MlgEnum}
-use Rattle.mlgfile.specs.declared.Block.the-variants as MB
-use Rattle.frd.specs.declared.Head.{Head as FrdHead}
-use Rattle.frd.specs.declared.Head.the-variants as FH
-use Rattle.frd.specs.declared.Block.{Block as FrdEnum}
-use Rattle.frd.specs.declared.Block.the-variants as FB
-use Rattle.field.specs.Shown.{zeroFloat}
-use Rattle.field.specs.declared.RawValue.{RawValue}
-use Rattle.field.specs.declared.RawValue.the-variants as R
-use Rattle.field.specs.declared.ShownValue.{ShownValue}
-use Rattle.field.specs.declared.ShownValue.the-variants as S
+use Rattle.mlg_rules.specs.Block.{dataKind, markKind, endKind, refusedKind}
+use Rattle.mlg_rules.specs.declared.Head.{Head as MlgHead}
+use Rattle.mlg_rules.specs.declared.Head.the-variants as MH
+use Rattle.mlg_rules.specs.declared.Block.{Block as MlgEnum}
+use Rattle.mlg_rules.specs.declared.Block.the-variants as MB
+use Rattle.frd_rules.specs.declared.Head.{Head as FrdHead}
+use Rattle.frd_rules.specs.declared.Head.the-variants as FH
+use Rattle.frd_rules.specs.declared.Block.{Block as FrdEnum}
+use Rattle.frd_rules.specs.declared.Block.the-variants as FB
+use Rattle.mlg_rules.specs.Shown.{zeroFloat}
+use Rattle.mlg_rules.specs.declared.RawValue.{RawValue}
+use Rattle.mlg_rules.specs.declared.RawValue.the-variants as R
+use Rattle.mlg_rules.specs.declared.ShownValue.{ShownValue}
+use Rattle.mlg_rules.specs.declared.ShownValue.the-variants as S
 use Rattle.capi.specs.declared.Packed.{Packed}
 use Rattle.capi.specs.declared.Unpacked.{Unpacked}
 use Rattle.capi.specs.declared.RequestRead.{RequestRead}

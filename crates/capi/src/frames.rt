@@ -5,7 +5,8 @@ use crate::Unpacked;
 ghost use mathlib.Core.Path.{_≡_};
 ghost use Rattle.bus_rules.specs.Ident.{packOf, unpackOf};
 ghost use Rattle.bus_rules.specs.Request.{readRequestOf, requestBytesOf};
-ghost use Rattle.bus_rules.specs.Holder.{serveOf, memoryOf};
+ghost use Rattle.bus_rules.specs.Device.{device};
+ghost use Rattle.bus_rules.specs.Holder.{serveOf, deviceAfter};
 ghost use Rattle.capi.specs.Answers.{packedOut, unpackedOut, askedOut};
 
 #[no_mangle]
@@ -70,7 +71,7 @@ pub extern "C" fn hg_serve(
     memory: &mut [u8],
     frame: bus::Frame,
 ) -> bus::Served
-    ensures { λ r. ⌜ (r ≡ serveOf directory (now (memory .entry)) frame) × (now (memory .exit) ≡ memoryOf directory (now (memory .entry)) frame) ⌝ }
+    ensures { λ r. ⌜ (r ≡ serveOf (device directory (now (memory .entry))) frame) × (now (memory .exit) ≡ deviceAfter (device directory (now (memory .entry))) frame .memory) ⌝ }
 {
     bus::holder::serve(directory, memory, frame)
 }

@@ -11,16 +11,15 @@ use frd::Head;
 ghost use mathlib.Core.Path.{_≡_};
 ghost use lib.ListN.{length, take, drop};
 ghost use Rattle.wire.specs.Writer.{wrote, leaves};
-ghost use Rattle.frd.specs.Counter.{counterOf};
-ghost use Rattle.frd.specs.Header.{headNumber, headerOf, signatureIn, signaturePart};
-ghost use Rattle.frd.specs.Blocks.{blockAt};
-ghost use Rattle.frd.specs.Log.{fileLog, tallyOf};
-ghost use Rattle.frd.specs.Writers.{headerBytes, headerNumber, dataBytes, dataNumber, timeBytes, roomNumber};
+ghost use Rattle.frd_rules.specs.Header.{readHeaderOf, signatureIn, readSignatureOf};
+ghost use Rattle.frd_rules.specs.Block.{counterAfter, readBlockOf};
+ghost use Rattle.frd_rules.specs.Log.{countBlocksOf};
+ghost use Rattle.frd_rules.specs.Writing.{headerBytes, writeHeaderNumber, dataBytes, writeDataNumber, timeBytes, writeTimeNumber};
 ghost use Rattle.capi.specs.Answers.{frdHeader, noFrdBlock, foundFrdBlock, frdBlock};
 
 #[no_mangle]
 pub extern "C" fn hg_frd_read_header(file: &[u8]) -> FrdHeader
-    ensures { λ r. ⌜ r ≡ frdHeader (headerOf (now (file .entry))) ⌝ }
+    ensures { λ r. ⌜ r ≡ frdHeader (readHeaderOf (now (file .entry))) ⌝ }
 {
     let head = frd::read_header(file);
     match head {
@@ -76,13 +75,13 @@ fn block_out(b: Block, size: u16) -> FrdBlock
     let Block::Data {
         counter,
         start,
-        right,
+        as_expected,
     } = b
     else {
         let Block::Time {
             counter,
             time,
-            right,
+            as_expected,
         } = b
         else {
             let Block::Refused { number, place } = b else {
@@ -90,14 +89,14 @@ fn block_out(b: Block, size: u16) -> FrdBlock
             };
             return no_block(REFUSED, number, place);
         };
-        return found(TIME, counter, time, 0, 0, right);
+        return found(TIME, counter, time, 0, 0, as_expected);
     };
-    found(DATA, counter, 0, start, size as usize, right)
+    found(DATA, counter, 0, start, size as usize, as_expected)
 }
 
 #[no_mangle]
 pub extern "C" fn hg_frd_read_block(file: &[u8], size: u16, earlier: u64, place: usize) -> FrdBlock
-    ensures { λ r. ⌜ r ≡ frdBlock size (blockAt size earlier (now (file .entry)) place) ⌝ }
+    ensures { λ r. ⌜ r ≡ frdBlock size (readBlockOf size earlier (now (file .entry)) place) ⌝ }
 {
     let b = frd::read_block(file, size, earlier, place);
     block_out(b, size)
@@ -105,14 +104,14 @@ pub extern "C" fn hg_frd_read_block(file: &[u8], size: u16, earlier: u64, place:
 
 #[no_mangle]
 pub extern "C" fn hg_frd_count_blocks(file: &[u8]) -> frd::Tally
-    ensures { λ r. ⌜ r ≡ tallyOf (fileLog (now (file .entry))) ⌝ }
+    ensures { λ r. ⌜ r ≡ countBlocksOf (now (file .entry)) ⌝ }
 {
     frd::count_blocks(file)
 }
 
 #[no_mangle]
-pub extern "C" fn hg_frd_signature_span(file: &[u8]) -> frd::Part
-    ensures { λ r. ⌜ r ≡ signaturePart (headNumber (now (file .entry))) ⌝ }
+pub extern "C" fn hg_frd_signature_span(file: &[u8]) -> frd::Span
+    ensures { λ r. ⌜ r ≡ readSignatureOf (now (file .entry)) ⌝ }
     ensures part { λ r. ⌜ (r .number ≡ 0 → take (r .len) (drop (r .start) (now (file .entry))) ≡ signatureIn (now (file .entry))) ⌝ }
 {
     frd::read_signature(file)
@@ -125,8 +124,8 @@ pub extern "C" fn hg_frd_write_header(
     signature: &[u8],
     size: u16,
 ) -> wire::Written
-    ensures { λ r. ⌜ (r ≡ wrote (headerNumber time (now (signature .entry)) size (length (now (out .entry)))) (headerBytes time (now (signature .entry)) size))
-        × (now (out .exit) ≡ leaves (headerNumber time (now (signature .entry)) size (length (now (out .entry)))) (headerBytes time (now (signature .entry)) size) (now (out .entry))) ⌝ }
+    ensures { λ r. ⌜ (r ≡ wrote (writeHeaderNumber time (now (signature .entry)) size (length (now (out .entry)))) (headerBytes time (now (signature .entry)) size))
+        × (now (out .exit) ≡ leaves (writeHeaderNumber time (now (signature .entry)) size (length (now (out .entry)))) (headerBytes time (now (signature .entry)) size) (now (out .entry))) ⌝ }
 {
     frd::write_header(out, time, signature, size)
 }
@@ -138,16 +137,16 @@ pub extern "C" fn hg_frd_write_data(
     earlier: u64,
     bytes: &[u8],
 ) -> wire::Written
-    ensures { λ r. ⌜ (r ≡ wrote (dataNumber size (counterOf earlier) (now (bytes .entry)) (length (now (out .entry)))) (dataBytes (counterOf earlier) (now (bytes .entry))))
-        × (now (out .exit) ≡ leaves (dataNumber size (counterOf earlier) (now (bytes .entry)) (length (now (out .entry)))) (dataBytes (counterOf earlier) (now (bytes .entry))) (now (out .entry))) ⌝ }
+    ensures { λ r. ⌜ (r ≡ wrote (writeDataNumber size (counterAfter earlier) (now (bytes .entry)) (length (now (out .entry)))) (dataBytes (counterAfter earlier) (now (bytes .entry))))
+        × (now (out .exit) ≡ leaves (writeDataNumber size (counterAfter earlier) (now (bytes .entry)) (length (now (out .entry)))) (dataBytes (counterAfter earlier) (now (bytes .entry))) (now (out .entry))) ⌝ }
 {
     frd::write_data(out, size, earlier, bytes)
 }
 
 #[no_mangle]
 pub extern "C" fn hg_frd_write_time(out: &mut [u8], earlier: u64, time: u32) -> wire::Written
-    ensures { λ r. ⌜ (r ≡ wrote (roomNumber (timeBytes (counterOf earlier) time) (length (now (out .entry)))) (timeBytes (counterOf earlier) time))
-        × (now (out .exit) ≡ leaves (roomNumber (timeBytes (counterOf earlier) time) (length (now (out .entry)))) (timeBytes (counterOf earlier) time) (now (out .entry))) ⌝ }
+    ensures { λ r. ⌜ (r ≡ wrote (writeTimeNumber (counterAfter earlier) time (length (now (out .entry)))) (timeBytes (counterAfter earlier) time))
+        × (now (out .exit) ≡ leaves (writeTimeNumber (counterAfter earlier) time (length (now (out .entry)))) (timeBytes (counterAfter earlier) time) (now (out .entry))) ⌝ }
 {
     frd::write_time(out, earlier, time)
 }

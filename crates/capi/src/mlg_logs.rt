@@ -12,18 +12,18 @@ ghost use mathlib.Core.Path.{_≡_};
 ghost use Prim.Native.Nat.{_+_, _≤_};
 ghost use lib.ListN.{length};
 ghost use Rattle.wire.specs.Writer.{wrote, leaves};
-ghost use Rattle.mlgfile.specs.Header.{headerOf};
-ghost use Rattle.mlgfile.specs.Block.{counterOf, blockAt};
-ghost use Rattle.mlgfile.specs.Log.{tallyIn};
-ghost use Rattle.mlgfile.specs.Parts.{fieldSpan, namesSpan, infoSpan};
-ghost use Rattle.mlgfile.specs.Writing.{headerBytes, headerNumber, dataBytes, markBytes, dataNumber, markNumber};
+ghost use Rattle.mlg_rules.specs.Header.{readHeaderOf};
+ghost use Rattle.mlg_rules.specs.Block.{counterAfter, readBlockOf};
+ghost use Rattle.mlg_rules.specs.Log.{countBlocksOf};
+ghost use Rattle.mlg_rules.specs.Parts.{fieldSpanOf, namesSpanOf, infoSpanOf};
+ghost use Rattle.mlg_rules.specs.Writing.{headerBytes, writeHeaderNumber, dataBytes, markBytes, writeDataNumber, writeMarkNumber};
 ghost use Rattle.listing.specs.Listing.{listingOf, listingNumber};
 ghost use Rattle.listing.specs.Most.{longest};
 ghost use Rattle.capi.specs.Answers.{mlgHeader, noMlgBlock, foundMlgBlock, mlgBlock};
 
 #[no_mangle]
 pub extern "C" fn hg_mlg_read_header(file: &[u8]) -> MlgHeader
-    ensures { λ r. ⌜ r ≡ mlgHeader (headerOf (now (file .entry))) ⌝ }
+    ensures { λ r. ⌜ r ≡ mlgHeader (readHeaderOf (now (file .entry))) ⌝ }
 {
     let head = mlg::read_header(file);
     match head {
@@ -88,7 +88,7 @@ fn block_out(b: Block, size: u16) -> MlgBlock
         counter,
         time,
         start,
-        right,
+        as_expected,
     } = b
     else {
         let Block::Mark {
@@ -96,7 +96,7 @@ fn block_out(b: Block, size: u16) -> MlgBlock
             time,
             start,
             len,
-            right,
+            as_expected,
         } = b
         else {
             let Block::Refused { number, place } = b else {
@@ -104,14 +104,14 @@ fn block_out(b: Block, size: u16) -> MlgBlock
             };
             return no_block(REFUSED, number, place);
         };
-        return found(MARK, counter, time, start, len, right);
+        return found(MARK, counter, time, start, len, as_expected);
     };
-    found(DATA, counter, time, start, size as usize, right)
+    found(DATA, counter, time, start, size as usize, as_expected)
 }
 
 #[no_mangle]
 pub extern "C" fn hg_mlg_read_block(file: &[u8], size: u16, earlier: u64, place: usize) -> MlgBlock
-    ensures { λ r. ⌜ r ≡ mlgBlock size (blockAt size earlier (now (file .entry)) place) ⌝ }
+    ensures { λ r. ⌜ r ≡ mlgBlock size (readBlockOf size earlier (now (file .entry)) place) ⌝ }
 {
     let b = mlg::read_block(file, size, earlier, place);
     block_out(b, size)
@@ -119,28 +119,28 @@ pub extern "C" fn hg_mlg_read_block(file: &[u8], size: u16, earlier: u64, place:
 
 #[no_mangle]
 pub extern "C" fn hg_mlg_count_blocks(file: &[u8]) -> mlg::Tally
-    ensures { λ r. ⌜ r ≡ tallyIn (now (file .entry)) ⌝ }
+    ensures { λ r. ⌜ r ≡ countBlocksOf (now (file .entry)) ⌝ }
 {
     mlg::count_blocks(file)
 }
 
 #[no_mangle]
 pub extern "C" fn hg_mlg_field_span(file: &[u8], index: u16) -> mlg::Span
-    ensures { λ r. ⌜ (r ≡ fieldSpan (now (file .entry)) index) × (r .start + r .len ≤ length (now (file .entry))) ⌝ }
+    ensures { λ r. ⌜ (r ≡ fieldSpanOf (now (file .entry)) index) × (r .start + r .len ≤ length (now (file .entry))) ⌝ }
 {
     mlg::field_span(file, index)
 }
 
 #[no_mangle]
 pub extern "C" fn hg_mlg_names_span(file: &[u8]) -> mlg::Span
-    ensures { λ r. ⌜ (r ≡ namesSpan (now (file .entry))) × (r .start + r .len ≤ length (now (file .entry))) ⌝ }
+    ensures { λ r. ⌜ (r ≡ namesSpanOf (now (file .entry))) × (r .start + r .len ≤ length (now (file .entry))) ⌝ }
 {
     mlg::names_span(file)
 }
 
 #[no_mangle]
 pub extern "C" fn hg_mlg_info_span(file: &[u8]) -> mlg::Span
-    ensures { λ r. ⌜ (r ≡ infoSpan (now (file .entry))) × (r .start + r .len ≤ length (now (file .entry))) ⌝ }
+    ensures { λ r. ⌜ (r ≡ infoSpanOf (now (file .entry))) × (r .start + r .len ≤ length (now (file .entry))) ⌝ }
 {
     mlg::info_span(file)
 }
@@ -153,8 +153,8 @@ pub extern "C" fn hg_mlg_write_header(
     names: &[u8],
     info: &[u8],
 ) -> wire::Written
-    ensures { λ r. ⌜ (r ≡ wrote (headerNumber 2 time (now (fields .entry)) (now (names .entry)) (now (info .entry)) (length (now (out .entry)))) (headerBytes 2 time (now (fields .entry)) (now (names .entry)) (now (info .entry))))
-        × (now (out .exit) ≡ leaves (headerNumber 2 time (now (fields .entry)) (now (names .entry)) (now (info .entry)) (length (now (out .entry)))) (headerBytes 2 time (now (fields .entry)) (now (names .entry)) (now (info .entry))) (now (out .entry))) ⌝ }
+    ensures { λ r. ⌜ (r ≡ wrote (writeHeaderNumber 2 time (now (fields .entry)) (now (names .entry)) (now (info .entry)) (length (now (out .entry)))) (headerBytes 2 time (now (fields .entry)) (now (names .entry)) (now (info .entry))))
+        × (now (out .exit) ≡ leaves (writeHeaderNumber 2 time (now (fields .entry)) (now (names .entry)) (now (info .entry)) (length (now (out .entry)))) (headerBytes 2 time (now (fields .entry)) (now (names .entry)) (now (info .entry))) (now (out .entry))) ⌝ }
 {
     mlg::write_header(out, time, fields, names, info)
 }
@@ -167,8 +167,8 @@ pub extern "C" fn hg_mlg_write_data(
     time: u16,
     bytes: &[u8],
 ) -> wire::Written
-    ensures { λ r. ⌜ (r ≡ wrote (dataNumber size (now (bytes .entry)) (length (now (out .entry)))) (dataBytes (counterOf earlier) time (now (bytes .entry))))
-        × (now (out .exit) ≡ leaves (dataNumber size (now (bytes .entry)) (length (now (out .entry)))) (dataBytes (counterOf earlier) time (now (bytes .entry))) (now (out .entry))) ⌝ }
+    ensures { λ r. ⌜ (r ≡ wrote (writeDataNumber size (now (bytes .entry)) (length (now (out .entry)))) (dataBytes (counterAfter earlier) time (now (bytes .entry))))
+        × (now (out .exit) ≡ leaves (writeDataNumber size (now (bytes .entry)) (length (now (out .entry)))) (dataBytes (counterAfter earlier) time (now (bytes .entry))) (now (out .entry))) ⌝ }
 {
     mlg::write_data(out, size, earlier, time, bytes)
 }
@@ -180,8 +180,8 @@ pub extern "C" fn hg_mlg_write_mark(
     time: u16,
     text: &[u8],
 ) -> wire::Written
-    ensures { λ r. ⌜ (r ≡ wrote (markNumber (now (text .entry)) (length (now (out .entry)))) (markBytes (counterOf earlier) time (now (text .entry))))
-        × (now (out .exit) ≡ leaves (markNumber (now (text .entry)) (length (now (out .entry)))) (markBytes (counterOf earlier) time (now (text .entry))) (now (out .entry))) ⌝ }
+    ensures { λ r. ⌜ (r ≡ wrote (writeMarkNumber (now (text .entry)) (length (now (out .entry)))) (markBytes (counterAfter earlier) time (now (text .entry))))
+        × (now (out .exit) ≡ leaves (writeMarkNumber (now (text .entry)) (length (now (out .entry)))) (markBytes (counterAfter earlier) time (now (text .entry))) (now (out .entry))) ⌝ }
 {
     mlg::write_mark(out, earlier, time, text)
 }

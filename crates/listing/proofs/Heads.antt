@@ -11,38 +11,38 @@ use lib.ListN.{length, take, drop, length-take, length-drop}
 use lib.Seq.{length-take-le}
 use Rattle.wire.proofs.Answers.{answered}
 use Rattle.wire.proofs.Orders.{order, if-zero, else-zero}
-use Rattle.field.specs.Layout.{layoutOf, headerLen, fieldLen}
-use Rattle.field.specs.Field.{fieldSize, typeOf, bitsOf, typeNumber}
-use Rattle.field.specs.Raw.{valueFieldNumber, valueNumber}
-use Rattle.mlgfile.specs.Fields.{fieldNumber, fieldsNumber, sizes}
-use Rattle.mlgfile.specs.Header.{numbersOf, fieldsEnd, lastNumber, bodyNumber, fieldsFrom, areaIn, headNumber, headerOf}
-use Rattle.mlgfile.specs.declared.Header.{Header}
-use Rattle.mlgfile.specs.declared.Head.the-variants.{Is, Refused}
-use Rattle.mlgfile.proofs.Places.{Placed}
-use Rattle.mlgfile.proofs.Spans.{placed-in}
+use Rattle.mlg_rules.specs.Layout.{layoutOf, headerLen, fieldLen}
+use Rattle.mlg_rules.specs.Field.{fieldSize, typeOf, bitsOf, typeNumber}
+use Rattle.mlg_rules.specs.Raw.{valueFieldNumber, valueNumber}
+use Rattle.mlg_rules.specs.Fields.{fieldNumber, fieldsNumber, sizes}
+use Rattle.mlg_rules.specs.Header.{numbersOf, fieldsEnd, lastNumber, bodyNumber, fieldsFrom, areaIn, readHeaderNumber, readHeaderOf}
+use Rattle.mlg_rules.specs.declared.Header.{Header}
+use Rattle.mlg_rules.specs.declared.Head.the-variants.{Is, Refused}
+use Rattle.mlg_rules.proofs.Places.{Placed}
+use Rattle.mlg_rules.proofs.Spans.{placed-in}
 use Rattle.listing.specs.Stands.{Valued}
 
-pub header-stands : (f : List ℕ) (h : Header) → headerOf f ≡ Is h → (headNumber f ≡ 0) × (numbersOf f ≡ h)
-unfolding headerOf
-header-stands f h e = answered Is Refused (λ n y q. let v : _≡_ {A = ℕ} 0 1 = cc in omega arith) (λ x y q. cc) (headNumber f) (numbersOf f) h e
+pub header-stands : (f : List ℕ) (h : Header) → readHeaderOf f ≡ Is h → (readHeaderNumber f ≡ 0) × (numbersOf f ≡ h)
+unfolding readHeaderOf
+header-stands f h e = answered Is Refused (λ n y q. let v : _≡_ {A = ℕ} 0 1 = cc in omega arith) (λ x y q. cc) (readHeaderNumber f) (numbersOf f) h e
 
-pub header-placed : (f : List ℕ) (h : Header) → headerOf f ≡ Is h → Placed (length f) h
+pub header-placed : (f : List ℕ) (h : Header) → readHeaderOf f ≡ Is h → Placed (length f) h
 header-placed f h e = let s = header-stands f h e in rw (s .1) at (placed-in f (s .0))
 
 -- the header and the fields lie in the file
-pub fields-in : (f : List ℕ) (h : Header) → headerOf f ≡ Is h → headerLen (h .version) + fieldLen (h .version) * h .count ≤ length f
+pub fields-in : (f : List ℕ) (h : Header) → readHeaderOf f ≡ Is h → headerLen (h .version) + fieldLen (h .version) * h .count ≤ length f
 unfolding fieldsEnd
 fields-in f h e = header-placed f h e .fields
 
 -- the blocks begin in the file, after the fields
-pub begin-in : (f : List ℕ) (h : Header) → headerOf f ≡ Is h → h .begin ≤ length f
+pub begin-in : (f : List ℕ) (h : Header) → readHeaderOf f ≡ Is h → h .begin ≤ length f
 begin-in f h e = header-placed f h e .data-begins
 
-pub begin-after : (f : List ℕ) (h : Header) → headerOf f ≡ Is h → 24 + 89 * h .count ≤ h .begin
+pub begin-after : (f : List ℕ) (h : Header) → readHeaderOf f ≡ Is h → 24 + 89 * h .count ≤ h .begin
 unfolding fieldsEnd layoutOf
 begin-after f h e = header-placed f h e .after-fields
 
-pub fields-after : (f : List ℕ) (h : Header) (at : ℕ) → headerOf f ≡ Is h → at ≡ headerLen (h .version) → fieldLen (h .version) * h .count ≤ length (take (length f - at) (drop at f))
+pub fields-after : (f : List ℕ) (h : Header) (at : ℕ) → readHeaderOf f ≡ Is h → at ≡ headerLen (h .version) → fieldLen (h .version) * h .count ≤ length (take (length f - at) (drop at f))
 fields-after f h at e k = simp (length-take, length-drop) (omega (arith, fields-in f h e))
 
 -- one field's value
@@ -65,8 +65,8 @@ valued v base area (suc n) t b h k s =
 equal : (a b : ℕ) → not (eqb a b) ≡ false → a ≡ b
 equal a b e = eqb-true a b (not-false (eqb a b) e)
 
-pub record-valued : (f : List ℕ) (h : Header) (b : List ℕ) → headerOf f ≡ Is h → length b ≡ h .size → Valued (h .version) (h .count) (fieldsFrom f h) b
-unfolding headNumber bodyNumber lastNumber
+pub record-valued : (f : List ℕ) (h : Header) (b : List ℕ) → readHeaderOf f ≡ Is h → length b ≡ h .size → Valued (h .version) (h .count) (fieldsFrom f h) b
+unfolding readHeaderNumber bodyNumber lastNumber
 record-valued f h b e l =
     let s = header-stands f h e in
     let y = else-zero _ _ (else-zero _ _ (rw (s .1) at (s .0)) .1) .1 in

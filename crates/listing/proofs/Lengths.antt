@@ -15,16 +15,16 @@ use lib.Pow.{pow-add}
 use lib.Signed.{mag}
 use Rattle.wire.proofs.Numbers.{Bytes}
 use Rattle.wire.proofs.Orders.{if-zero, else-zero}
-use Rattle.field.specs.Types.{sizeOf}
-use Rattle.field.specs.Field.{typeOf, fieldSize, typeNumber}
-use Rattle.field.specs.Raw.{valueFieldNumber, valueNumber, rawOf}
-use Rattle.field.proofs.Raws.{sized, raw-below}
-use Rattle.mlgfile.specs.Block.{blockLen}
-use Rattle.mlgfile.specs.Log.{lengthOf}
-use Rattle.mlgfile.specs.declared.Block.{Block}
-use Rattle.mlgfile.specs.declared.Block.the-variants.{Data, Mark, End, Refused}
-use Rattle.mlgfile.proofs.Block.{the-type}
-use Rattle.mlgfile.proofs.Logs.{Goes}
+use Rattle.mlg_rules.specs.Types.{sizeOf}
+use Rattle.mlg_rules.specs.Field.{typeOf, fieldSize, typeNumber}
+use Rattle.mlg_rules.specs.Raw.{valueFieldNumber, valueNumber, rawOf}
+use Rattle.mlg_rules.proofs.Raws.{sized, raw-below}
+use Rattle.mlg_rules.specs.Block.{blockLen}
+use Rattle.mlg_rules.specs.Log.{lengthOf}
+use Rattle.mlg_rules.specs.declared.Block.{Block}
+use Rattle.mlg_rules.specs.declared.Block.the-variants.{Data, Mark, End, Refused}
+use Rattle.mlg_rules.proofs.Block.{the-type}
+use Rattle.mlg_rules.proofs.Logs.{Goes}
 use Rattle.listing.specs.Text.{digit, digits, decimal, integer}
 use Rattle.listing.specs.Lines.{valueText}
 use Rattle.listing.specs.Most.{mostOf}

@@ -13,12 +13,12 @@ use Rattle.wire.specs.Writer.{wrote, leaves}
 use Rattle.wire.specs.declared.Written.{Written}
 use Rattle.wire.proofs.Orders.{if-yes, if-no}
 use Rattle.wire.proofs.Writes.{over, refuses, writes}
-use Rattle.field.specs.Layout.{headerLen, fieldLen}
-use Rattle.mlgfile.specs.Header.{noHeader, headerOf, fieldsFrom}
-use Rattle.mlgfile.specs.declared.Header.{Header}
-use Rattle.mlgfile.specs.declared.Head.{Head}
-use Rattle.mlgfile.specs.declared.Head.the-variants.{Is, Refused}
-use Rattle.mlgfile.specs.declared.Block.the-variants as block
+use Rattle.mlg_rules.specs.Layout.{headerLen, fieldLen}
+use Rattle.mlg_rules.specs.Header.{noHeader, readHeaderOf, fieldsFrom}
+use Rattle.mlg_rules.specs.declared.Header.{Header}
+use Rattle.mlg_rules.specs.declared.Head.{Head}
+use Rattle.mlg_rules.specs.declared.Head.the-variants.{Is, Refused}
+use Rattle.mlg_rules.specs.declared.Block.the-variants as block
 use Rattle.listing.specs.Lines.{tooLong, blockLine, fieldLines}
 use Rattle.listing.specs.Listing.{headLines, headedLines, listingOf, listingNumber}
 use Rattle.listing.specs.Puts.{Puts}
@@ -28,15 +28,15 @@ pub too-long : (f : List ℕ) → 65536 < length f → tooLong ≡ listingOf f
 unfolding listingOf
 too-long f h = rw (lt-ltb 65536 (length f) h)
 
-pub listed : (f : List ℕ) → length f ≤ 65536 → headLines f (headerOf f) ≡ listingOf f
+pub listed : (f : List ℕ) → length f ≤ 65536 → headLines f (readHeaderOf f) ≡ listingOf f
 unfolding listingOf
 listed f h = rw (le-ltb 65536 (length f) h)
 
-pub listed-header : (f : List ℕ) (h : Header) → length f ≤ 65536 → headerOf f ≡ Is h → headedLines h f ≡ listingOf f
+pub listed-header : (f : List ℕ) (h : Header) → length f ≤ 65536 → readHeaderOf f ≡ Is h → headedLines h f ≡ listingOf f
 unfolding headLines
 listed-header f h i e = sym (ap (headLines f) e) ∙ listed f i
 
-pub listed-refusal : (f : List ℕ) (x : ℕ) → length f ≤ 65536 → headerOf f ≡ Refused x → blockLine noHeader f 0 (block.Refused x 0) ≡ listingOf f
+pub listed-refusal : (f : List ℕ) (x : ℕ) → length f ≤ 65536 → readHeaderOf f ≡ Refused x → blockLine noHeader f 0 (block.Refused x 0) ≡ listingOf f
 unfolding headLines
 listed-refusal f x i e = sym (ap (headLines f) e) ∙ listed f i
 

@@ -14,16 +14,16 @@ use lib.Seq.{take-take, length-take-le}
 use Rattle.wire.specs.Text.{textLen}
 use Rattle.wire.proofs.Texts.{text-most}
 use Rattle.wire.proofs.Parts.{take-length-le}
-use Rattle.field.specs.Field.{typeOf, nameAt, nameLen}
-use Rattle.field.specs.Raw.{valueNumber, rawOf, rawAt}
+use Rattle.mlg_rules.specs.Field.{typeOf, nameAt, nameLen}
+use Rattle.mlg_rules.specs.Raw.{valueNumber, rawOf, rawValueOf}
 use Rattle.wire.specs.Answer.{answer}
-use Rattle.field.specs.declared.RawValue.{RawValue}
-use Rattle.field.specs.declared.RawValue.the-variants as R
-use Rattle.field.proofs.RawValue.{the-type}
+use Rattle.mlg_rules.specs.declared.RawValue.{RawValue}
+use Rattle.mlg_rules.specs.declared.RawValue.the-variants as R
+use Rattle.mlg_rules.proofs.RawValue.{the-type}
 use Rattle.wire.proofs.Answers.{stands}
-use Rattle.mlgfile.specs.declared.Block.{Block}
-use Rattle.mlgfile.specs.declared.Block.the-variants.{Data, Mark, End, Refused}
-use Rattle.mlgfile.proofs.Block as block
+use Rattle.mlg_rules.specs.declared.Block.{Block}
+use Rattle.mlg_rules.specs.declared.Block.the-variants.{Data, Mark, End, Refused}
+use Rattle.mlg_rules.proofs.Block as block
 use Rattle.listing.specs.Text.{toZero}
 use Rattle.listing.specs.Lines.{nameOf, rightText}
 
@@ -41,14 +41,14 @@ pub name-fits : (d : List ℕ) (n : ℕ) → n ≡ textLen (take 34 (drop 1 d)) 
 name-fits d n e = omega (arith, take-length-le (1 + n - 1) (drop 1 d), name-short d)
 
 -- a raw value that is not refused
-raw-stands : (v : ℕ) (d b : List ℕ) → valueNumber v d b ≡ 0 → R.Is (rawOf (typeOf d) b) ≡ rawAt v d b
-unfolding rawAt
+raw-stands : (v : ℕ) (d b : List ℕ) → valueNumber v d b ≡ 0 → R.Is (rawOf (typeOf d) b) ≡ rawValueOf v d b
+unfolding rawValueOf
 raw-stands v d b e = stands R.Is R.Refused (valueNumber v d b) _ _ e refl
 
-pub raw-is : (v : ℕ) (d b : List ℕ) (r : RawValue) (z : ℤ) → valueNumber v d b ≡ 0 → r ≡ rawAt v d b → r ≡ R.Is z → z ≡ rawOf (typeOf d) b
+pub raw-is : (v : ℕ) (d b : List ℕ) (r : RawValue) (z : ℤ) → valueNumber v d b ≡ 0 → r ≡ rawValueOf v d b → r ≡ R.Is z → z ≡ rawOf (typeOf d) b
 raw-is v d b r z e p q = let s = raw-stands v d b e in cc
 
-pub raw-never : (v : ℕ) (d b : List ℕ) (r : RawValue) → valueNumber v d b ≡ 0 → r ≡ rawAt v d b → OneOf (1 ∷ []) (tagOf the-type r) → ⊥
+pub raw-never : (v : ℕ) (d b : List ℕ) (r : RawValue) → valueNumber v d b ≡ 0 → r ≡ rawValueOf v d b → OneOf (1 ∷ []) (tagOf the-type r) → ⊥
 raw-never v d b (R.Is z) e p k = omega arith
 raw-never v d b (R.Refused n) e p k = let s = raw-stands v d b e in let w : _≡_ {A = ℕ} 0 1 = cc in omega arith
 

@@ -10,9 +10,9 @@ use lib.ListN.{length, getD, take, drop, length-take, length-drop}
 use lib.Seq.{drop-drop}
 use Rattle.wire.proofs.Orders.{if-zero, else-zero}
 use Rattle.wire.proofs.Parts.{part-is, tail-part}
-use Rattle.field.specs.Layout.{layoutOf, headerLen, fieldLen}
-use Rattle.field.specs.Field.{fieldSize}
-use Rattle.field.specs.Raw.{valueFieldNumber, valueNumber}
+use Rattle.mlg_rules.specs.Layout.{layoutOf, headerLen, fieldLen}
+use Rattle.mlg_rules.specs.Field.{fieldSize}
+use Rattle.mlg_rules.specs.Raw.{valueFieldNumber, valueNumber}
 use Rattle.listing.specs.Lines.{fieldLine, fieldLines, valueText, valuesText}
 use Rattle.listing.specs.Stands.{Valued}
 

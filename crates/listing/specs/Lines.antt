@@ -3,13 +3,13 @@ use Prim.Native.Nat.{ℕ, zero, suc, _+_}
 use mathlib.Core.Bool.{Bool, true, false}
 use mathlib.Core.List.{List, [], _∷_, _++_}
 use lib.ListN.{take, drop}
-use Rattle.field.specs.Layout.{fieldLen}
-use Rattle.field.specs.Field.{typeOf, nameAt, nameLen, fieldSize}
-use Rattle.field.specs.Raw.{rawOf}
-use Rattle.mlgfile.specs.Header.{fieldsFrom}
-use Rattle.mlgfile.specs.declared.Header.{Header}
-use Rattle.mlgfile.specs.declared.Block.{Block}
-use Rattle.mlgfile.specs.declared.Block.the-variants.{Data, Mark, End, Refused}
+use Rattle.mlg_rules.specs.Layout.{fieldLen}
+use Rattle.mlg_rules.specs.Field.{typeOf, nameAt, nameLen, fieldSize}
+use Rattle.mlg_rules.specs.Raw.{rawOf}
+use Rattle.mlg_rules.specs.Header.{fieldsFrom}
+use Rattle.mlg_rules.specs.declared.Header.{Header}
+use Rattle.mlg_rules.specs.declared.Block.{Block}
+use Rattle.mlg_rules.specs.declared.Block.the-variants.{Data, Mark, End, Refused}
 use Rattle.listing.specs.Text.{decimal, integer, shown, toZero}
 
 abbrev pub space : List ℕ

@@ -5,12 +5,12 @@ use mathlib.Core.List.{List, _++_}
 use lib.Dec.{ltb}
 use lib.ListN.{length}
 use Rattle.wire.specs.Order.{_if_else_}
-use Rattle.mlgfile.specs.Header.{headerOf, fieldsFrom, noHeader}
-use Rattle.mlgfile.specs.Log.{Log, logOf}
-use Rattle.mlgfile.specs.declared.Header.{Header}
-use Rattle.mlgfile.specs.declared.Head.{Head}
-use Rattle.mlgfile.specs.declared.Head.the-variants.{Is, Refused}
-use Rattle.mlgfile.specs.declared.Block.the-variants as block
+use Rattle.mlg_rules.specs.Header.{readHeaderOf, fieldsFrom, noHeader}
+use Rattle.mlg_rules.specs.Log.{Log, logOf}
+use Rattle.mlg_rules.specs.declared.Header.{Header}
+use Rattle.mlg_rules.specs.declared.Head.{Head}
+use Rattle.mlg_rules.specs.declared.Head.the-variants.{Is, Refused}
+use Rattle.mlg_rules.specs.declared.Block.the-variants as block
 use Rattle.listing.specs.Lines.{headerLine, fieldLines, blockLine, blockLines, tooLong}
 
 -- the blocks of a log after n earlier ones, one by one, then what ends it: the end or a refusal
@@ -30,7 +30,7 @@ headLines f (Is h) = headedLines h f
 headLines f (Refused x) = blockLine noHeader f 0 (block.Refused x 0)
 
 unfoldable pub listingOf : List ℕ → List ℕ
-listingOf f = cond (ltb 65536 (length f)) tooLong (headLines f (headerOf f))
+listingOf f = cond (ltb 65536 (length f)) tooLong (headLines f (readHeaderOf f))
 
 -- a listing that does not fit its output is 27
 unfoldable pub listingNumber : List ℕ → ℕ → ℕ

@@ -1,7 +1,7 @@
 -- How long a listing gets: at most five bytes for each byte of a file.
 use Prim.Native.Nat.{ℕ, _+_, _*_}
-use Rattle.mlgfile.specs.declared.Block.{Block}
-use Rattle.mlgfile.specs.declared.Block.the-variants.{Data, Mark, End, Refused}
+use Rattle.mlg_rules.specs.declared.Block.{Block}
+use Rattle.mlg_rules.specs.declared.Block.the-variants.{Data, Mark, End, Refused}
 
 -- the longest listing's bound, by the longest file
 abbrev pub longest : ℕ

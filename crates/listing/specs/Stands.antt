@@ -4,13 +4,13 @@ use Prim.Native.Nat.{ℕ, zero, suc, _+_, _≤_}
 use mathlib.Core.Path.{_≡_}
 use mathlib.Core.List.{List}
 use lib.ListN.{length, take, drop}
-use Rattle.field.specs.Layout.{headerLen, fieldLen}
-use Rattle.field.specs.Field.{fieldSize}
-use Rattle.field.specs.Raw.{valueNumber}
-use Rattle.mlgfile.specs.Header.{fieldsFrom}
-use Rattle.mlgfile.specs.declared.Header.{Header}
-use Rattle.mlgfile.specs.declared.Block.{Block}
-use Rattle.mlgfile.specs.declared.Block.the-variants.{Data, Mark, End, Refused}
+use Rattle.mlg_rules.specs.Layout.{headerLen, fieldLen}
+use Rattle.mlg_rules.specs.Field.{fieldSize}
+use Rattle.mlg_rules.specs.Raw.{valueNumber}
+use Rattle.mlg_rules.specs.Header.{fieldsFrom}
+use Rattle.mlg_rules.specs.declared.Header.{Header}
+use Rattle.mlg_rules.specs.declared.Block.{Block}
+use Rattle.mlg_rules.specs.declared.Block.the-variants.{Data, Mark, End, Refused}
 
 -- n fields, whose bytes begin t and whose raw bytes begin b
 abbrev pub Valued : ℕ → ℕ → List ℕ → List ℕ → Type 0

@@ -3,18 +3,18 @@ use crate::text::put_bytes;
 use crate::text::put_decimal;
 use crate::text::put_integer;
 use crate::text::put_shown;
-use field::RawValue;
 use mlg::Block;
 use mlg::Header;
+use mlg_values::RawValue;
 ghost use mathlib.Core.Path.{_≡_};
 ghost use mathlib.Core.List.{List, _++_};
 ghost use Prim.Native.Nat.{ℕ, _+_, _*_, _≤_, _<_, _^_};
 ghost use lib.ListN.{length, take, drop};
-ghost use Rattle.field.specs.Layout.{fieldLen};
-ghost use Rattle.field.specs.Raw.{valueNumber};
-ghost use Rattle.mlgfile.specs.Header.{fieldsFrom};
-ghost use Rattle.mlgfile.specs.declared.Header.{Header};
-ghost use Rattle.mlgfile.specs.declared.Block.the-variants.{Data, Mark, End, Refused};
+ghost use Rattle.mlg_rules.specs.Layout.{fieldLen};
+ghost use Rattle.mlg_rules.specs.Raw.{valueNumber};
+ghost use Rattle.mlg_rules.specs.Header.{fieldsFrom};
+ghost use Rattle.mlg_rules.specs.declared.Header.{Header};
+ghost use Rattle.mlg_rules.specs.declared.Block.the-variants.{Data, Mark, End, Refused};
 ghost use Rattle.listing.specs.Text.{decimal, shown};
 ghost use Rattle.listing.specs.Lines.{space, headerLine, nameOf, fieldLine, fieldLines, valueText, valuesText, rightText, blockLine};
 ghost use Rattle.listing.specs.Puts.{Puts};
@@ -68,7 +68,7 @@ pub(crate) fn put_field_lines(
     requires { ⌜ (at ≤ 2 ^ 50) × (fieldLen version * count ≤ length (now fields)) ⌝ }
     ensures { λ r. ⌜ Puts (now (out .entry)) at (fieldLines version 0 count (now (fields .entry))) (now (out .exit)) r × (r ≤ at + 100 * count) ⌝ }
 {
-    let layout = field::layout_of(version);
+    let layout = mlg_values::layout_of(version);
     let len = layout.field;
     let mut place: usize = 0;
     let mut index: u16 = 0;
@@ -86,7 +86,7 @@ fn put_value(out: &mut [u8], at: usize, field: &[u8], raw: &[u8]) -> usize
     requires { ⌜ (at ≤ 2 ^ 60) × (valueNumber 2 (now field) (now raw) ≡ 0) ⌝ }
     ensures { λ r. ⌜ Puts (now (out .entry)) at (valueText (now (field .entry)) (now (raw .entry))) (now (out .exit)) r × (r ≤ at + 22) × (r ≤ at + 5 * length (now (raw .entry))) ⌝ }
 {
-    let value = field::raw_value(field, raw);
+    let value = mlg_values::raw_value(field, raw);
     let RawValue::Is(z) = value else {
         return at;
     };
@@ -106,7 +106,7 @@ fn put_values(
     requires { ⌜ (at ≤ 2 ^ 50) × Valued version count (now fields) (now bytes) ⌝ }
     ensures { λ r. ⌜ Puts (now (out .entry)) at (valuesText version count (now (fields .entry)) (now (bytes .entry))) (now (out .exit)) r × (r ≤ at + 1441770) × (r ≤ at + 5 * length (now (bytes .entry))) ⌝ }
 {
-    let layout = field::layout_of(version);
+    let layout = mlg_values::layout_of(version);
     let len = layout.field;
     let mut place: usize = 0;
     let mut start: usize = 0;
@@ -114,7 +114,7 @@ fn put_values(
     let mut next = at;
     while left != 0 {
         let d = &fields[place..place + len];
-        let size = field::size_of(d[0]) as usize;
+        let size = mlg_values::size_of(d[0]) as usize;
         next = put_value(out, next, d, &bytes[start..start + size]);
         place += len;
         start += size;
@@ -161,7 +161,7 @@ fn put_data_line(
     requires { ⌜ (at ≤ 2 ^ 49) × Stands h (now file) (Data counter time start right) × (n < 10 ^ 5) ⌝ }
     ensures { λ r. ⌜ Puts (now (out .entry)) at (blockLine h (now (file .entry)) n (Data counter time start right)) (now (out .exit)) r × (r ≤ at + 5 * (h .size + 5)) ⌝ }
 {
-    let layout = field::layout_of(h.version);
+    let layout = mlg_values::layout_of(h.version);
     let fields = layout.header;
     let size = h.size as usize;
     let a = put_start(out, at, n, b" data ", counter, time);
@@ -239,15 +239,15 @@ pub(crate) fn put_block_line(
             counter,
             time,
             start,
-            right,
-        } => put_data_line(out, at, file, h, n, counter, time, start, right),
+            as_expected,
+        } => put_data_line(out, at, file, h, n, counter, time, start, as_expected),
         Block::Mark {
             counter,
             time,
             start,
             len,
-            right,
-        } => put_mark_line(out, at, file, h, n, counter, time, start, len, right),
+            as_expected,
+        } => put_mark_line(out, at, file, h, n, counter, time, start, len, as_expected),
         Block::End => put_end_line(out, at, n),
         Block::Refused { number, place } => put_refused_line(out, at, number, place),
     }

@@ -10,16 +10,16 @@ use mlg::Header;
 ghost use mathlib.Core.Path.{_≡_};
 ghost use Prim.Native.Nat.{_+_, _*_, _≤_, _^_};
 ghost use lib.ListN.{length};
-ghost use Rattle.mlgfile.specs.Header.{headerOf};
-ghost use Rattle.mlgfile.specs.Log.{logOf};
-ghost use Rattle.mlgfile.specs.declared.Head.the-variants.{Is};
+ghost use Rattle.mlg_rules.specs.Header.{readHeaderOf};
+ghost use Rattle.mlg_rules.specs.Log.{logOf};
+ghost use Rattle.mlg_rules.specs.declared.Head.the-variants.{Is};
 ghost use Rattle.listing.specs.Listing.{logLines, headedLines, listingOf};
 ghost use Rattle.listing.specs.Puts.{Puts};
 ghost use Rattle.listing.specs.Most.{longest};
 
 // The lines of a log's blocks, and of what ends it.
 fn put_log_lines(out: &mut [u8], at: usize, file: &[u8], h: Header) -> usize
-    requires { ⌜ (at ≤ 2 ^ 40) × (length (now file) ≤ 65536) × (headerOf (now file) ≡ Is h) ⌝ }
+    requires { ⌜ (at ≤ 2 ^ 40) × (length (now file) ≤ 65536) × (readHeaderOf (now file) ≡ Is h) ⌝ }
     ensures { λ r. ⌜ Puts (now (out .entry)) at (logLines h (now (file .entry)) 0 (logOf (h .size) (now (file .entry)) (h .begin))) (now (out .exit)) r × (r + 5 * h .begin ≤ at + 5 * length (now (file .entry)) + 53) ⌝ }
 {
     let size = h.size;
@@ -33,14 +33,14 @@ fn put_log_lines(out: &mut [u8], at: usize, file: &[u8], h: Header) -> usize
             counter: _,
             time: _,
             start: _,
-            right: _,
+            as_expected: _,
         }
         | Block::Mark {
             counter: _,
             time: _,
             start: _,
             len: _,
-            right: _,
+            as_expected: _,
         }) = b
         else {
             return put_block_line(out, next, file, h, n, b);
@@ -55,10 +55,10 @@ fn put_log_lines(out: &mut [u8], at: usize, file: &[u8], h: Header) -> usize
 
 // The lines of a file whose header stands.
 fn put_headed_lines(out: &mut [u8], file: &[u8], h: Header) -> usize
-    requires { ⌜ (length (now file) ≤ 65536) × (headerOf (now file) ≡ Is h) ⌝ }
+    requires { ⌜ (length (now file) ≤ 65536) × (readHeaderOf (now file) ≡ Is h) ⌝ }
     ensures { λ r. ⌜ Puts (now (out .entry)) 0 (headedLines h (now (file .entry))) (now (out .exit)) r × (r ≤ 5 * length (now (file .entry))) ⌝ }
 {
-    let layout = field::layout_of(h.version);
+    let layout = mlg_values::layout_of(h.version);
     let fields = layout.header;
     let a = put_header_line(out, 0, h);
     let b = put_field_lines(out, a, h.version, h.count, &file[fields..]);

@@ -50,24 +50,24 @@ pub(crate) fn reads(file: &[u8], size: u16, earlier: u64, at: usize) {
             counter,
             time,
             start,
-            right,
+            as_expected,
         } => {
             started(b"data", counter, time);
             text(b", record");
             record(file, start, size);
-            counter_mark(right);
+            counter_mark(as_expected);
         }
         Block::Mark {
             counter,
             time,
             start,
             len,
-            right,
+            as_expected,
         } => {
             started(b"mark", counter, time);
             text(b", text ");
             part(file, start, len);
-            counter_mark(right);
+            counter_mark(as_expected);
         }
         Block::End => text(b"end\n"),
         Block::Refused { number, place } => refused(number, place),

@@ -63,21 +63,21 @@ fn block_in(file: &[u8], earlier: u64, at: usize) {
         Block::Data {
             counter,
             start,
-            right,
+            as_expected,
         } => {
             labelled(b"data, counter ", counter as u64);
             text(b", output");
             record(file, start, 2);
-            counter_mark(right);
+            counter_mark(as_expected);
         }
         Block::Time {
             counter,
             time,
-            right,
+            as_expected,
         } => {
             labelled(b"time, counter ", counter as u64);
             labelled(b", time ", time as u64);
-            counter_mark(right);
+            counter_mark(as_expected);
         }
         Block::End => text(b"end\n"),
         Block::Refused { number, place } => refused(number, place),

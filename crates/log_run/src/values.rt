@@ -3,8 +3,8 @@ use crate::output::number;
 use crate::output::pattern;
 use crate::output::text;
 use crate::samples::set;
-use field::RawValue;
-use field::ShownValue;
+use mlg_values::RawValue;
+use mlg_values::ShownValue;
 
 fn u32_of(x: usize) -> u32 {
     (x % 4294967296) as u32
@@ -33,7 +33,7 @@ fn eight_bytes(high: usize, low: usize) -> [u8; 8] {
 
 // What the raw value's reader answers: whether it is the given one, or the number.
 fn raw_in(field: &[u8], raw: &[u8], given: i64) {
-    let value = field::raw_value(field, raw);
+    let value = mlg_values::raw_value(field, raw);
     let RawValue::Is(x) = value else {
         refused(value);
         return;
@@ -84,7 +84,7 @@ fn shown_part(field: &[u8], all: &[u8], l: usize) {
     if len < l {
         return;
     }
-    let value = field::shown_value(field, &all[len - l..len]);
+    let value = mlg_values::shown_value(field, &all[len - l..len]);
     match value {
         ShownValue::Is(x) => float(x),
         ShownValue::Refused(n) => number(n),

@@ -4,13 +4,13 @@ ghost use Prim.Native.Nat.{_+_, _*_, _<_, _≤_, _^_};
 ghost use lib.ListN.{length, take, drop};
 ghost use lib.Dec.{leb, ltb};
 ghost use Rattle.wire.specs.Text.{zeros};
-ghost use Rattle.field.specs.Layout.{fieldLen};
-ghost use Rattle.field.specs.Field.{fieldSize};
-ghost use Rattle.mlgfile.specs.Area.{ended, areaOf};
-ghost use Rattle.mlgfile.specs.Fields.{unended, textsNumber, namesNumber, fieldNumber, fieldsNumber, sizes};
+ghost use Rattle.mlg_rules.specs.Layout.{fieldLen};
+ghost use Rattle.mlg_rules.specs.Field.{fieldSize};
+ghost use Rattle.mlg_rules.specs.Area.{ended, areaOf};
+ghost use Rattle.mlg_rules.specs.Fields.{unended, textsNumber, namesNumber, fieldNumber, fieldsNumber, sizes};
 use crate::layout::field_len;
 
-pub(crate) fn open_text(d: &[u8], at: usize, n: usize) -> bool
+pub(crate) fn unended(d: &[u8], at: usize, n: usize) -> bool
     requires { ⌜ (at + n ≤ length (now d)) × (at + n < 2 ^ 64) ⌝ }
     ensures { λ r. ⌜ r ≡ unended (now (d .entry)) at n ⌝ }
 {
@@ -21,13 +21,13 @@ pub(crate) fn texts_number(d: &[u8], version: u16) -> u8
     requires { ⌜ length (now d) ≡ fieldLen version ⌝ }
     ensures { λ r. ⌜ r ≡ textsNumber (now (d .entry)) ⌝ }
 {
-    if open_text(d, 1, 34) {
+    if unended(d, 1, 34) {
         return 28;
     }
-    if open_text(d, 35, 10) {
+    if unended(d, 35, 10) {
         return 28;
     }
-    if open_text(d, 55, 34) {
+    if unended(d, 55, 34) {
         return 28;
     }
     0
@@ -130,7 +130,7 @@ pub(crate) fn field_number(version: u16, base: usize, names: &[u8], info: &[u8],
     requires { ⌜ length (now d) ≡ fieldLen version ⌝ }
     ensures { λ r. ⌜ r ≡ fieldNumber base (areaOf (now (names .entry)) (now (info .entry))) (now (d .entry)) ⌝ }
 {
-    let a = field::type_number(d[0], d[51]);
+    let a = mlg_values::type_number(d[0], d[51]);
     if a != 0 {
         return a;
     }
@@ -163,7 +163,7 @@ pub(crate) fn field_at(
     let len = field_len(version);
     let d = &fields[at..at + len];
     let number = field_number(version, base, names, info, d);
-    let total = field::size_of(d[0]) as usize;
+    let total = mlg_values::size_of(d[0]) as usize;
     Checked { number, total }
 }
 

@@ -1,54 +1,55 @@
 // MLG files: reading and writing headers and blocks.
-mod blocks;
+mod block_counting;
+mod block_reading;
+mod block_writing;
 mod fields;
+mod header_reading;
+mod header_writing;
 mod layout;
-mod marks;
-mod parts;
-mod reading;
-mod whole;
-mod writing;
+mod spans;
 
-use blocks::block_len;
-use blocks::block_of;
-use blocks::counter_of;
+use block_counting::count_from;
+use block_counting::refusal;
+use block_reading::block_len;
+use block_reading::block_of;
+use block_reading::counter_of;
+use block_writing::put_data;
+use block_writing::put_mark;
+use block_writing::write_data_number;
+use block_writing::write_mark_number;
+use header_reading::fields_end;
+use header_reading::numbers;
+use header_reading::read_header_number;
+use header_writing::put_header;
+use header_writing::total_len;
+use header_writing::write_header_number;
 use layout::field_len;
 use layout::header_len;
-use marks::data_number;
-use marks::mark_number;
-use marks::put_data;
-use marks::put_mark;
-use parts::names_end;
-use parts::part;
-use reading::fields_end;
-use reading::head_number;
-use reading::numbers;
-use whole::count_from;
-use whole::refusal;
-use writing::header_number;
-use writing::put_header;
-use writing::total_len;
+use spans::names_end;
+use spans::span_of;
 ghost use mathlib.Core.Path.{_≡_};
 ghost use Prim.Native.Nat.{_+_, _≤_};
 ghost use lib.ListN.{length};
-ghost use Rattle.mlgfile.specs.Header.{numbersOf, headNumber, headerOf, noHeader, headAnswer};
-ghost use Rattle.mlgfile.specs.Block.{counterOf, blockAt, blockAnswer, blockResult};
-ghost use Rattle.mlgfile.specs.Log.{lengthOf, tallyIn};
-ghost use Rattle.mlgfile.specs.Parts.{fieldSpan, namesSpan, infoSpan};
-ghost use Rattle.mlgfile.specs.RoundTrip.{DataBack, MarkBack, BlockAlone, LogPlaced, BlockSame, HeaderBack, LogBack, LogSame};
+ghost use Rattle.mlg_rules.specs.Header.{numbersOf, readHeaderNumber, readHeaderOf, noHeader, headAnswer};
+ghost use Rattle.mlg_rules.specs.Block.{counterAfter, readBlockOf, blockAnswer, blockResult};
+ghost use Rattle.mlg_rules.specs.Log.{lengthOf, countBlocksOf};
+ghost use Rattle.mlg_rules.specs.Parts.{fieldSpanOf, namesSpanOf, infoSpanOf};
+ghost use Rattle.mlg_rules.specs.RoundTrip.{DataBack, MarkBack, BlockAlone, LogPlaced, BlockSame, HeaderBack, LogBack, LogSame};
 ghost use Rattle.wire.specs.Answer.{result};
 ghost use Rattle.wire.specs.Writer.{wrote, leaves};
-ghost use Rattle.mlgfile.specs.Writing.{headerBytes, headerNumber, dataBytes, markBytes, dataNumber, markNumber};
-pub use mlgfile::Block;
-pub use mlgfile::Head;
-pub use mlgfile::Header;
-pub use mlgfile::Span;
-pub use mlgfile::Tally;
+ghost use Rattle.mlg_rules.specs.Writing.{headerBytes, writeHeaderNumber, dataBytes, markBytes, writeDataNumber, writeMarkNumber};
+pub use mlg_rules::Block;
+pub use mlg_rules::Head;
+pub use mlg_rules::Header;
+pub use wire::Span;
+pub use wire::Tally;
 
 // What a file's header says, or the number that refuses it.
 pub fn read_header(file: &[u8]) -> Head
-    ensures { λ r. ⌜ (r ≡ headerOf (now (file .entry))) × (headAnswer r ≡ result noHeader (headNumber (now (file .entry))) (numbersOf (now (file .entry)))) ⌝ }
+    ensures { λ r. ⌜ (r ≡ readHeaderOf (now (file .entry)))
+        × (headAnswer r ≡ result noHeader (readHeaderNumber (now (file .entry))) (numbersOf (now (file .entry)))) ⌝ }
 {
-    let number = head_number(file);
+    let number = read_header_number(file);
     if number != 0 {
         return Head::Refused(number);
     }
@@ -57,7 +58,7 @@ pub fn read_header(file: &[u8]) -> Head
 
 // The block at a place of a log whose records have the given length, after the given number of earlier blocks.
 pub fn read_block(file: &[u8], size: u16, earlier: u64, at: usize) -> Block
-    ensures { λ r. ⌜ (r ≡ blockAt size earlier (now (file .entry)) at) × (blockAnswer size r ≡ blockResult size earlier (now (file .entry)) at) ⌝ }
+    ensures { λ r. ⌜ (r ≡ readBlockOf size earlier (now (file .entry)) at) × (blockAnswer size r ≡ blockResult size earlier (now (file .entry)) at) ⌝ }
     ensures alone { λ _. ⌜ BlockAlone ⌝ }
 {
     if file.len() < at {
@@ -78,14 +79,14 @@ pub fn length_of(b: Block, size: u16) -> usize
             counter: _,
             time: _,
             start: _,
-            right: _,
+            as_expected: _,
         } => block_len(0, size),
         Block::Mark {
             counter: _,
             time: _,
             start: _,
             len: _,
-            right: _,
+            as_expected: _,
         } => block_len(1, size),
         Block::End => 0,
         Block::Refused {
@@ -97,7 +98,7 @@ pub fn length_of(b: Block, size: u16) -> usize
 
 // How many blocks a file has, and how they ended; a refused header gives no blocks, its number, and place 0.
 pub fn count_blocks(file: &[u8]) -> Tally
-    ensures { λ r. ⌜ r ≡ tallyIn (now (file .entry)) ⌝ }
+    ensures { λ r. ⌜ r ≡ countBlocksOf (now (file .entry)) ⌝ }
     ensures placed { λ _. ⌜ LogPlaced ⌝ }
 {
     let head = read_header(file);
@@ -113,57 +114,61 @@ pub fn count_blocks(file: &[u8]) -> Tally
 
 // Where field i stands.
 pub fn field_span(file: &[u8], index: u16) -> Span
-    ensures { λ r. ⌜ (r ≡ fieldSpan (now (file .entry)) index) × (r .start + r .len ≤ length (now (file .entry))) ⌝ }
+    ensures { λ r. ⌜ (r ≡ fieldSpanOf (now (file .entry)) index) × (r .start + r .len ≤ length (now (file .entry))) ⌝ }
 {
-    let number = head_number(file);
+    let number = read_header_number(file);
     if number != 0 {
-        return part(number, 0, 0);
+        return span_of(number, 0, 0);
     }
     let h = numbers(file);
     if h.count <= index {
-        return part(23, 0, 0);
+        return span_of(23, 0, 0);
     }
     let len = field_len(h.version);
-    part(0, header_len(h.version) + len * (index as usize), len)
+    span_of(0, header_len(h.version) + len * (index as usize), len)
 }
 
 // Where the names area stands: from the fields' end to info start, or to data begin where there is no info. In a file that is not in the
 // writer's layout, names may also stand after it.
 pub fn names_span(file: &[u8]) -> Span
-    ensures { λ r. ⌜ (r ≡ namesSpan (now (file .entry))) × (r .start + r .len ≤ length (now (file .entry))) ⌝ }
+    ensures { λ r. ⌜ (r ≡ namesSpanOf (now (file .entry))) × (r .start + r .len ≤ length (now (file .entry))) ⌝ }
 {
-    let number = head_number(file);
+    let number = read_header_number(file);
     if number != 0 {
-        return part(number, 0, 0);
+        return span_of(number, 0, 0);
     }
     let h = numbers(file);
     let end = fields_end(h);
-    part(0, end, names_end(h) - end)
+    span_of(0, end, names_end(h) - end)
 }
 
 // Where the info text stands, without its zero.
 pub fn info_span(file: &[u8]) -> Span
-    ensures { λ r. ⌜ (r ≡ infoSpan (now (file .entry))) × (r .start + r .len ≤ length (now (file .entry))) ⌝ }
+    ensures { λ r. ⌜ (r ≡ infoSpanOf (now (file .entry))) × (r .start + r .len ≤ length (now (file .entry))) ⌝ }
 {
-    let number = head_number(file);
+    let number = read_header_number(file);
     if number != 0 {
-        return part(number, 0, 0);
+        return span_of(number, 0, 0);
     }
     let h = numbers(file);
     let info = h.info as usize;
     if info == 0 {
-        return part(0, 0, 0);
+        return span_of(0, 0, 0);
     }
-    part(0, info, wire::text_len(&file[info..]))
+    span_of(0, info, wire::text_len(&file[info..]))
 }
 
 // Writes a data block of the given record length after the given number of earlier blocks.
 pub fn write_data(out: &mut [u8], size: u16, earlier: u64, time: u16, bytes: &[u8]) -> wire::Written
-    ensures { λ r. ⌜ (r ≡ wrote (dataNumber size (now (bytes .entry)) (length (now (out .entry)))) (dataBytes (counterOf earlier) time (now (bytes .entry))))
-        × (now (out .exit) ≡ leaves (dataNumber size (now (bytes .entry)) (length (now (out .entry)))) (dataBytes (counterOf earlier) time (now (bytes .entry))) (now (out .entry))) ⌝ }
+    ensures { λ r. ⌜ (r ≡ wrote
+        (writeDataNumber size (now (bytes .entry)) (length (now (out .entry))))
+        (dataBytes (counterAfter earlier) time (now (bytes .entry))))
+        × (now (out .exit) ≡ leaves
+        (writeDataNumber size (now (bytes .entry)) (length (now (out .entry))))
+        (dataBytes (counterAfter earlier) time (now (bytes .entry))) (now (out .entry))) ⌝ }
     ensures back { λ _. ⌜ DataBack ⌝ }
 {
-    let number = data_number(size, bytes, out.len());
+    let number = write_data_number(size, bytes, out.len());
     if number != 0 {
         return wire::Written { number, len: 0 };
     }
@@ -176,12 +181,16 @@ pub fn write_data(out: &mut [u8], size: u16, earlier: u64, time: u16, bytes: &[u
 
 // Writes a mark after the given number of earlier blocks.
 pub fn write_mark(out: &mut [u8], earlier: u64, time: u16, text: &[u8]) -> wire::Written
-    ensures { λ r. ⌜ (r ≡ wrote (markNumber (now (text .entry)) (length (now (out .entry)))) (markBytes (counterOf earlier) time (now (text .entry))))
-        × (now (out .exit) ≡ leaves (markNumber (now (text .entry)) (length (now (out .entry)))) (markBytes (counterOf earlier) time (now (text .entry))) (now (out .entry))) ⌝ }
+    ensures { λ r. ⌜ (r ≡ wrote
+        (writeMarkNumber (now (text .entry)) (length (now (out .entry))))
+        (markBytes (counterAfter earlier) time (now (text .entry))))
+        × (now (out .exit) ≡ leaves
+        (writeMarkNumber (now (text .entry)) (length (now (out .entry))))
+        (markBytes (counterAfter earlier) time (now (text .entry))) (now (out .entry))) ⌝ }
     ensures back { λ _. ⌜ MarkBack ⌝ }
     ensures same { λ _. ⌜ BlockSame ⌝ }
 {
-    let number = mark_number(text, out.len());
+    let number = write_mark_number(text, out.len());
     if number != 0 {
         return wire::Written { number, len: 0 };
     }
@@ -197,13 +206,17 @@ pub fn write_header(
     names: &[u8],
     info: &[u8],
 ) -> wire::Written
-    ensures { λ r. ⌜ (r ≡ wrote (headerNumber 2 time (now (fields .entry)) (now (names .entry)) (now (info .entry)) (length (now (out .entry)))) (headerBytes 2 time (now (fields .entry)) (now (names .entry)) (now (info .entry))))
-        × (now (out .exit) ≡ leaves (headerNumber 2 time (now (fields .entry)) (now (names .entry)) (now (info .entry)) (length (now (out .entry)))) (headerBytes 2 time (now (fields .entry)) (now (names .entry)) (now (info .entry))) (now (out .entry))) ⌝ }
+    ensures { λ r. ⌜ (r ≡ wrote
+        (writeHeaderNumber 2 time (now (fields .entry)) (now (names .entry)) (now (info .entry)) (length (now (out .entry))))
+        (headerBytes 2 time (now (fields .entry)) (now (names .entry)) (now (info .entry))))
+        × (now (out .exit) ≡ leaves
+        (writeHeaderNumber 2 time (now (fields .entry)) (now (names .entry)) (now (info .entry)) (length (now (out .entry))))
+        (headerBytes 2 time (now (fields .entry)) (now (names .entry)) (now (info .entry))) (now (out .entry))) ⌝ }
     ensures back { λ _. ⌜ HeaderBack ⌝ }
     ensures log { λ _. ⌜ LogBack ⌝ }
     ensures same { λ _. ⌜ LogSame ⌝ }
 {
-    let number = header_number(2, time, fields, names, info, out.len());
+    let number = write_header_number(2, time, fields, names, info, out.len());
     if number != 0 {
         return wire::Written { number, len: 0 };
     }

@@ -5,13 +5,13 @@ use Rattle.wire.specs.Answer.{answer}
 use Rattle.wire.specs.Sign.{twos}
 use Rattle.bus_rules.specs.Ident.{packNumber, packOf, unpackNumber, unpackOf, partsOf}
 use Rattle.bus_rules.specs.Request.{readNumber, readRequestOf}
-use Rattle.bridge_rules.proofs.Openers.{everything}
-use Rattle.mlgfile.specs.Writing.{startBytes, dataBytes}
-use Rattle.field.specs.Layout.{layoutOf}
-use Rattle.field.specs.Types.{sizeOf}
-use Rattle.field.specs.Field.{typeNumber}
-use Rattle.field.specs.Raw.{valueFieldNumber, valueNumber, signedType, rawOf, rawAt}
-use Rattle.field.specs.Shown.{shows, finite, scalingIn, rawFloat, scaledNumber, shownNumber, shownAt}
+use Rattle.bridge_rules.proofs.Computing.{everything}
+use Rattle.mlg_rules.specs.Writing.{startBytes, dataBytes}
+use Rattle.mlg_rules.specs.Layout.{layoutOf}
+use Rattle.mlg_rules.specs.Types.{sizeOf}
+use Rattle.mlg_rules.specs.Field.{typeNumber}
+use Rattle.mlg_rules.specs.Raw.{valueFieldNumber, valueNumber, signedType, rawOf, rawValueOf}
+use Rattle.mlg_rules.specs.Shown.{shows, finite, scalingIn, rawFloat, scaledNumber, shownNumber, shownValueOf}
 use Rattle.reckonings.specs.Reckonings.{Reckonings, table, compute, directory, scalar, f32}
 
 unfoldable floats : Unit {0}
@@ -19,7 +19,7 @@ unfolding add mul div ofInt ofBits toBits ofFields round units odd climb span si
 floats = tt
 
 unfoldable values : Unit {0}
-unfolding startBytes dataBytes twos layoutOf sizeOf typeNumber valueFieldNumber valueNumber signedType rawOf rawAt shows finite scalingIn rawFloat scaledNumber shownNumber shownAt scalar
+unfolding startBytes dataBytes twos layoutOf sizeOf typeNumber valueFieldNumber valueNumber signedType rawOf rawValueOf shows finite scalingIn rawFloat scaledNumber shownNumber shownValueOf scalar
 values = tt
 
 unfoldable identifiers : Unit {0}

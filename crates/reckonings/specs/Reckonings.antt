@@ -10,6 +10,7 @@ use lib.Ieee.{binary32, ofInt, div, toBits}
 use Rattle.bus_rules.specs.Ident.{packOf, unpackOf}
 use Rattle.bus_rules.specs.Frames.{cmd, req, xtnd, frameWith}
 use Rattle.bus_rules.specs.Request.{readRequestOf}
+use Rattle.bus_rules.specs.Device.{device}
 use Rattle.bus_rules.specs.Holder.{serveOf, answerWith}
 use Rattle.bus_rules.specs.declared.Frame.{Frame}
 use Rattle.bus_rules.specs.declared.Directory.{Directory}
@@ -20,19 +21,21 @@ use Rattle.bus_rules.specs.declared.Unpacked.{Unpacked}
 use Rattle.bus_rules.specs.declared.Unpacked.the-variants as U
 use Rattle.bus_rules.specs.declared.RequestRead.{RequestRead}
 use Rattle.bus_rules.specs.declared.RequestRead.the-variants as A
-use Rattle.bridge_rules.specs.Model as B
+use Rattle.bridge_rules.specs.Answers as N
+use Rattle.bridge_rules.specs.Opening as O
+use Rattle.bridge_rules.specs.Call as B
 use Rattle.bridge_rules.specs.Run.{answerTo}
 use Rattle.bridge_rules.specs.Demand3.{runOf}
-use Rattle.mlgfile.specs.Block.{sumIn}
-use Rattle.mlgfile.specs.Writing.{dataBytes}
+use Rattle.mlg_rules.specs.Block.{sumIn}
+use Rattle.mlg_rules.specs.Writing.{dataBytes}
 use Rattle.wire.specs.BigEndian.{beBytes}
-use Rattle.field.specs.Types.{U08, S08, S16}
-use Rattle.field.specs.Raw.{rawAt}
-use Rattle.field.specs.Shown.{shownAt}
-use Rattle.field.specs.declared.RawValue.{RawValue}
-use Rattle.field.specs.declared.RawValue.the-variants as R
-use Rattle.field.specs.declared.ShownValue.{ShownValue}
-use Rattle.field.specs.declared.ShownValue.the-variants as S
+use Rattle.mlg_rules.specs.Types.{U08, S08, S16}
+use Rattle.mlg_rules.specs.Raw.{rawValueOf}
+use Rattle.mlg_rules.specs.Shown.{shownValueOf}
+use Rattle.mlg_rules.specs.declared.RawValue.{RawValue}
+use Rattle.mlg_rules.specs.declared.RawValue.the-variants as R
+use Rattle.mlg_rules.specs.declared.ShownValue.{ShownValue}
+use Rattle.mlg_rules.specs.declared.ShownValue.the-variants as S
 
 -- ── Questions and answers ──────────────────────────────────────────────────────────────────────────────────────────
 
@@ -59,7 +62,7 @@ pub data Answer : Type 0 where
   unpacked : Unpacked → Answer
   asked : RequestRead → Answer
   served : Served → Answer
-  turned : B.Answer → Answer
+  turned : N.Answer → Answer
   summed : ℕ → Answer
   rawValue : RawValue → Answer
   shownValue : ShownValue → Answer
@@ -84,11 +87,11 @@ unfoldable pub compute : Question → Answer
 compute (identifier o k f t n) = packed (packOf (record { offset = o; kind = k; from = f; to = t; table = n }))
 compute (parts id) = unpacked (unpackOf id)
 compute (request a b c) = asked (readRequestOf a b c)
-compute (reply m f) = served (serveOf (directory (length m)) m f)
+compute (reply m f) = served (serveOf (device (directory (length m)) m) f)
 compute (turn own cs) = turned (answerTo (runOf own (replicate 512 0) cs) (length cs) (B.turn B.itsOwn))
 compute (sum bs) = summed (sumIn (length bs) (dataBytes 7 770 bs))
-compute (raw t bs) = rawValue (rawAt 2 (scalar t 0 0) bs)
-compute (shown t s m bs) = shownValue (shownAt 2 (scalar t s m) bs)
+compute (raw t bs) = rawValue (rawValueOf 2 (scalar t 0 0) bs)
+compute (shown t s m bs) = shownValue (shownValueOf 2 (scalar t s m) bs)
 
 -- ── The table ──────────────────────────────────────────────────────────────────────────────────────────────────────
 
@@ -106,7 +109,7 @@ sends f = turned (record { number = 0; ticket = 0; sent = some f; shown = [] })
 
 -- bridge 0 reads 10 bytes, device 5, table 7, offset 6
 abbrev pub read : B.Call
-read = B.opening B.itsOwn (B.read 5 7 6 10)
+read = B.opening B.itsOwn (O.read 5 7 6 10)
 
 unfoldable pub table : List (Question × Answer)
 table =

@@ -3,8 +3,8 @@ use crate::output::bytes;
 use crate::output::line;
 use crate::output::number;
 use crate::output::text;
-use field::ShownValue;
 use mlg::Block;
+use mlg_values::ShownValue;
 
 // What a block's reader answers to a block after 7 others, with records of two bytes: 0 for data, or the number.
 fn reads(file: &[u8]) {
@@ -71,7 +71,7 @@ fn whole(x: f32) {
 fn shows(label: &[u8], kind: u8, scale: u32, transform: u32, raw: &[u8]) {
     text(label);
     let f = field_of(kind, scale, transform);
-    let value = field::shown_value(&f, raw);
+    let value = mlg_values::shown_value(&f, raw);
     match value {
         ShownValue::Is(x) => whole(x),
         ShownValue::Refused(n) => number(n),

@@ -6,7 +6,8 @@ use Rattle.wire.specs.Answer.{answer, result}
 
 module _ {A R : Type 0} (is : A → R) (refused : ℕ → R) (none : A) (meaning : R → ℕ × A) where
   -- what an answer says is what the call's result is, where the meaning of each case is its number and its value
-  pub means : ((x : A) → meaning (is x) ≡ (0, x)) → ((n : ℕ) → meaning (refused n) ≡ (n, none)) → (r : R) (n : ℕ) (x : A) → r ≡ answer is refused n x → (r ≡ answer is refused n x) × (meaning r ≡ result none n x)
+  pub means : ((x : A) → meaning (is x) ≡ (0, x)) → ((n : ℕ) → meaning (refused n) ≡ (n, none)) → (r : R) (n : ℕ) (x : A)
+      → r ≡ answer is refused n x → (r ≡ answer is refused n x) × (meaning r ≡ result none n x)
   unfolding answer result
   means p q r zero x e = (e, ap meaning e ∙ p x)
   means p q r (suc n) x e = (e, ap meaning e ∙ q (suc n))

@@ -20,7 +20,13 @@ over-length pre out h = omega (arith, length-append pre (drop (length pre) out),
 put-at-more : (out pre bs : List ℕ) → putAt (over pre out) (length pre) bs ≡ over (pre ++ bs) out
 unfolding putAt
 put-at-more out pre bs =
-    rw (take-at pre (drop (length pre) out) (length pre) refl, drop-append-add pre (drop (length pre) out) (length bs), drop-drop (length bs) (length pre) out, length-append pre bs)
+    let rest = drop (length pre) out in
+    rw (
+      take-at pre rest (length pre) refl,
+      drop-append-add pre rest (length bs),
+      drop-drop (length bs) (length pre) out,
+      length-append pre bs,
+    )
 
 -- bytes put after bytes
 pub put-more : {x y : List ℕ} (out pre bs : List ℕ) (at : ℕ) → at ≡ length pre → length pre + length bs ≤ length out

@@ -37,7 +37,10 @@ part-show-start : tie.Need-part-show-start
 part-show-start c = search needs
 
 part-show-end : tie.Need-part-show-end
-part-show-end c = list-in-room 327680 0 (c .before .before .before .before .before .before .before .before .before .before .args .file .now) (c .before .before .list .result) _ (c .before .before .list .ensures .1) (c .before .before .list .ensures .0 .0) (c .before .before .list .ensures .0 .1)
+part-show-end c =
+    let file = c .before .before .before .before .before .before .before .before .before .before .args .file .now in
+    let list = c .before .before .list in
+    list-in-room 327680 0 file (list .result) _ (list .ensures .1) (list .ensures .0 .0) (list .ensures .0 .1)
 
 show-requires : tie.Need-show-requires
 show-requires c κs = search needs

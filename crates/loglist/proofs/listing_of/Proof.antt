@@ -12,7 +12,10 @@ list-requires c κs = search needs
 
 returns : tie.Need-returns
 returns c =
-    list-fits (c .before .before .before .args .file .now) (c .before .before .before .args .out .now) (c .list .result) _ (omega (arith, c .list .ensures .1, c .before .before .before .good)) (c .list .ensures .0 .0) (c .list .ensures .0 .1)
+    let a = c .before .before .before .args in
+    let list = c .list in
+    list-fits (a .file .now) (a .out .now) (list .result) _ (omega (arith, list .ensures .1, c .before .before .before .good))
+    (list .ensures .0 .0) (list .ensures .0 .1)
 
 pub listing-of-spec : {M : Type 1} → statement M
 listing-of-spec = tie.close (tie.spec list-requires returns)

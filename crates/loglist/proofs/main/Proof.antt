@@ -37,7 +37,11 @@ part-listing-of-start : tie.Need-part-listing-of-start
 part-listing-of-start c = search needs
 
 part-listing-of-end : tie.Need-part-listing-of-end
-part-listing-of-end c = omega (arith, bytes-within (c .before .before .before .before .before .before .read-input .result) (c .before .before .before .input .given .0 .0) (c .before .before .before .before .before .before .read-input .last .0) (c .before .before .before .input .given .1) (c .before .before .before .before .before .before .read-input .ensures), c .before .before .before .before .before .file2 .given)
+part-listing-of-end c =
+    let read = c .before .before .before .before .before .before .read-input in
+    let input = c .before .before .before .input .given in
+    let within = bytes-within (read .result) (input .0 .0) (read .last .0) (input .1) (read .ensures) in
+    omega (arith, within, c .before .before .before .before .before .file2 .given)
 
 listing-of-requires : tie.Need-listing-of-requires
 listing-of-requires c κs = search needs

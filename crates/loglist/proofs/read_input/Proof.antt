@@ -50,13 +50,30 @@ returns-2 : tie.Need-returns-2 Inv-loop μ-loop
 returns-2 c = omega (arith, c .before .before .before .before .before .buffer .given .1)
 
 add-len : tie.Need-add-len Inv-loop μ-loop
-add-len c = record { fits = omega (arith, (bytes-within (c .before .before .before .before .before .before .read-some .result) (c .before .before .some .given .0 .0) (c .before .before .before .before .before .before .read-some .last .0) (c .before .before .some .given .1) (c .before .before .before .before .before .before .read-some .ensures)), c .before .before .before .before .before .buffer .given .0, (length-take (length (c .before .before .before .before .before .before .before .before .before .loop .buffer) - c .before .before .before .before .before .before .before .before .before .loop .len) (drop (c .before .before .before .before .before .before .before .before .before .loop .len) (c .before .before .before .before .before .before .before .before .before .loop .buffer))), (length-drop (c .before .before .before .before .before .before .before .before .before .loop .len) (c .before .before .before .before .before .before .before .before .before .loop .buffer))) }
+add-len c =
+    let l = c .before .before .before .before .before .before .before .before .before .loop in
+    let read = c .before .before .before .before .before .before .read-some in
+    let some = c .before .before .some .given in
+    let within = bytes-within (read .result) (some .0 .0) (read .last .0) (some .1) (read .ensures) in
+    let buffer = c .before .before .before .before .before .buffer .given in
+    let rest = drop (l .len) (l .buffer) in
+    record {
+      fits = omega (arith, within, buffer .0, length-take (length (l .buffer) - l .len) rest, length-drop (l .len) (l .buffer));
+    }
 
 loop-less : tie.Need-loop-less Inv-loop μ-loop
 loop-less c = omega (arith, c .if1 .left, c .before .before .before .before .before .buffer .given .1)
 
 loop-again : tie.Need-loop-again Inv-loop μ-loop
-loop-again c = (omega (arith, (bytes-within (c .before .before .before .before .before .before .read-some .result) (c .before .before .some .given .0 .0) (c .before .before .before .before .before .before .read-some .last .0) (c .before .before .some .given .1) (c .before .before .before .before .before .before .read-some .ensures)), c .before .before .before .before .before .buffer .given .0, c .before .before .before .before .before .buffer .given .1, (length-take (length (c .before .before .before .before .before .before .before .before .before .loop .buffer) - c .before .before .before .before .before .before .before .before .before .loop .len) (drop (c .before .before .before .before .before .before .before .before .before .loop .len) (c .before .before .before .before .before .before .before .before .before .loop .buffer))), (length-drop (c .before .before .before .before .before .before .before .before .before .loop .len) (c .before .before .before .before .before .before .before .before .before .loop .buffer))), c .before .before .before .before .before .buffer .given .1 ∙ c .before .before .before .before .before .before .before .before .before .loop .inv .1)
+loop-again c =
+    let l = c .before .before .before .before .before .before .before .before .before .loop in
+    let read = c .before .before .before .before .before .before .read-some in
+    let some = c .before .before .some .given in
+    let within = bytes-within (read .result) (some .0 .0) (read .last .0) (some .1) (read .ensures) in
+    let buffer = c .before .before .before .before .before .buffer .given in
+    let rest = drop (l .len) (l .buffer) in
+    let part = length-take (length (l .buffer) - l .len) rest in
+    (omega (arith, within, buffer .0, buffer .1, part, length-drop (l .len) (l .buffer)), buffer .1 ∙ l .inv .1)
 
 same-length-3 : tie.Need-same-length-3 Inv-loop μ-loop
 same-length-3 c = search needs

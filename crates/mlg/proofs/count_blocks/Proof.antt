@@ -2,8 +2,8 @@ use borrow.Author.Needs.{needs}
 use Rattle.mlg.proofs.count_blocks.Statement.{statement}
 use Rattle.mlg.proofs.count_blocks.Tie as tie
 use mathlib.Core.Path.{sym, _∙_}
-use Rattle.mlgfile.proofs.Logs.{log-placed}
-use Rattle.mlgfile.proofs.Tallies.{head-stop, head-go}
+use Rattle.mlg_rules.proofs.LogPlaced.{log-placed}
+use Rattle.mlg_rules.proofs.Tallies.{head-stop, head-go}
 
 read-header-requires : tie.Need-read-header-requires
 read-header-requires c κs = search needs
@@ -18,7 +18,12 @@ refusal-requires : tie.Need-refusal-requires
 refusal-requires c κs = search needs
 
 returns : tie.Need-returns
-returns c = (rw (c .refusal .ensures) (head-stop (c .before .before .before .before .before .args .file .now) (c .before .before .before .read-header .result) (sym (c .before .before .before .read-header .ensures .0)) (c .before .before .match .keys2)), log-placed)
+returns c =
+    let a = c .before .before .before .before .before .args in
+    let read-header = c .before .before .before .read-header in (
+      rw (c .refusal .ensures) (head-stop (a .file .now) (read-header .result) (sym (read-header .ensures .0)) (c .before .before .match .keys2)),
+      log-placed,
+    )
 
 cast-count-from : tie.Need-cast-count-from
 cast-count-from c = search needs
@@ -27,7 +32,11 @@ count-from-requires : tie.Need-count-from-requires
 count-from-requires c κs = search needs
 
 returns-2 : tie.Need-returns-2
-returns-2 c = (c .count-from .ensures ∙ head-go (c .before .before .before .before .before .before .before .args .file .now) _ (sym (c .before .before .before .before .before .read-header .ensures .0) ∙ c .before .before .before .head .given .1), log-placed)
+returns-2 c =
+    let a = c .before .before .before .before .before .before .before .args in
+    let read-header = c .before .before .before .before .before .read-header in
+    let head = c .before .before .before .head in
+    (c .count-from .ensures ∙ head-go (a .file .now) _ (sym (read-header .ensures .0) ∙ head .given .1), log-placed)
 
 pub count-blocks-spec : {M : Type 1} → statement M
 count-blocks-spec =

@@ -2,7 +2,7 @@ use borrow.Author.Needs.{needs}
 use Rattle.mlg.proofs.length_of.Statement.{statement}
 use Rattle.mlg.proofs.length_of.Tie as tie
 use mathlib.Core.Path.{sym, _∙_, ap}
-use Rattle.mlgfile.specs.Log.{lengthOf}
+use Rattle.mlg_rules.specs.Log.{lengthOf}
 
 enum-told : tie.Need-enum-told
 enum-told c = search needs

@@ -1,21 +1,25 @@
 use borrow.Author.Needs.{needs}
 use Rattle.mlg.proofs.names_span.Statement.{statement}
 use Rattle.mlg.proofs.names_span.Tie as tie
-use mathlib.Core.Path.{sym, _∙_, ap}
+use mathlib.Core.Path.{_≡_, sym, _∙_, ap}
 use native.Mathlib.Omega.{arith}
-use Rattle.mlgfile.specs.Parts.{namesSpan}
-use Rattle.mlgfile.specs.Header.{fieldsEnd}
-use Rattle.mlgfile.proofs.Spans.{refused, given, placed-in, names-fit}
+use lib.ListN.{length}
+use Rattle.mlg_rules.specs.Parts.{namesSpanOf}
+use Rattle.mlg_rules.specs.Header.{fieldsEnd, readHeaderNumber}
+use Rattle.mlg_rules.proofs.Places.{Placed}
+use Rattle.mlg_rules.proofs.Spans.{refused, given, placed-in, names-fit}
 
-head-number-requires : tie.Need-head-number-requires
-head-number-requires c κs = search needs
+read-header-number-requires : tie.Need-read-header-number-requires
+read-header-number-requires c κs = search needs
 
-part-requires : tie.Need-part-requires
-part-requires c κs = search needs
+span-of-requires : tie.Need-span-of-requires
+span-of-requires c κs = search needs
 
 returns : tie.Need-returns
-unfolding namesSpan
-returns c = refused _ _ _ _ _ _ (c .before .before .before .before .args .file .now) (c .part .ensures) (c .before .before .head-number .ensures) (c .before .if1 .taken)
+unfolding namesSpanOf
+returns c =
+    let a = c .before .before .before .before .args in
+    refused _ _ _ _ _ _ (a .file .now) (c .span-of .ensures) (c .before .before .read-header-number .ensures) (c .before .if1 .taken)
 
 numbers-requires : tie.Need-numbers-requires
 numbers-requires c κs = search needs
@@ -26,31 +30,44 @@ fields-end-requires c κs = search needs
 names-end-requires : tie.Need-names-end-requires
 names-end-requires c κs = search needs
 
-sub-part : tie.Need-sub-part
-sub-part c = let p = rw (← c .before .before .numbers .ensures) at (placed-in (c .before .before .before .before .before .before .args .file .now) (sym (c .before .before .before .before .head-number .ensures) ∙ c .before .before .before .if1 .left)) in
-    let f = names-fit _ (c .before .before .numbers .result) p in omega (arith, c .before .fields-end .ensures, c .names-end .ensures, f .0)
+-- the file, where its header's numbers are read; no number refuses it, and its places stand
+abbrev entry : tie.After-numbers → tie.Start
+entry n = n .before .before .before .before
 
-part-requires-2 : tie.Need-part-requires-2
-part-requires-2 c κs = search needs
+stands : (n : tie.After-numbers) → readHeaderNumber (entry n .args .file .now) ≡ 0
+stands n = sym (n .before .before .read-header-number .ensures) ∙ n .before .if1 .left
+
+in-file : (n : tie.After-numbers) → Placed (length (entry n .args .file .now)) (n .numbers .result)
+in-file n = rw (← n .numbers .ensures) at (placed-in (entry n .args .file .now) (stands n))
+
+sub-span-of : tie.Need-sub-span-of
+sub-span-of c =
+    let f = names-fit _ _ (in-file (c .before .before)) in
+    omega (arith, c .before .fields-end .ensures, c .names-end .ensures, f .0)
+
+span-of-requires-2 : tie.Need-span-of-requires-2
+span-of-requires-2 c κs = search needs
 
 returns-2 : tie.Need-returns-2
-unfolding namesSpan
-returns-2 c = let p = rw (← c .before .before .before .numbers .ensures) at (placed-in (c .before .before .before .before .before .before .before .args .file .now) (sym (c .before .before .before .before .before .head-number .ensures) ∙ c .before .before .before .before .if1 .left)) in
-    let f = names-fit _ (c .before .before .before .numbers .result) p in
-    given _ _ _ _ _ (c .before .before .before .before .before .before .before .args .file .now) (c .part2 .ensures) (sym (c .before .before .before .before .before .head-number .ensures) ∙ c .before .before .before .before .if1 .left)
-    (c .before .before .fields-end .ensures ∙ ap fieldsEnd (c .before .before .before .numbers .ensures)) (rw (c .before .before .fields-end .ensures, c .before .names-end .ensures, c .before .before .before .numbers .ensures))
-    (omega (arith, c .before .before .fields-end .ensures, c .before .names-end .ensures, f .0, f .1))
+unfolding namesSpanOf
+returns-2 c =
+    let n = c .before .before .before in
+    let end = c .before .before .fields-end .ensures in
+    let names = c .before .names-end .ensures in
+    let f = names-fit _ _ (in-file n) in
+    given _ _ _ _ _ (entry n .args .file .now) (c .span-of2 .ensures) (stands n) (end ∙ ap fieldsEnd (n .numbers .ensures))
+    (rw (end, names, n .numbers .ensures)) (omega (arith, end, names, f .0, f .1))
 
 pub names-span-spec : {M : Type 1} → statement M
 names-span-spec =
     tie.close
     (tie.spec
-    head-number-requires
-    part-requires
+    read-header-number-requires
+    span-of-requires
     returns
     numbers-requires
     fields-end-requires
     names-end-requires
-    sub-part
-    part-requires-2
+    sub-span-of
+    span-of-requires-2
     returns-2)

@@ -1,16 +1,18 @@
 use borrow.Author.Needs.{needs}
 use Rattle.mlg.proofs.read_block.Statement.{statement}
 use Rattle.mlg.proofs.read_block.Tie as tie
-use Rattle.mlgfile.proofs.Alone.{block-alone}
+use Rattle.mlg_rules.proofs.BlockAlone.{block-alone}
 use Prim.Native.Nat.{ℕ, _-_}
 use lib.ListN.{length, take, drop}
 use mathlib.Core.Path.{sym, _∙_, ap}
 use Rattle.wire.proofs.Parts.{tail-part}
-use Rattle.mlgfile.specs.Block.{blockOf, counterOf}
-use Rattle.mlgfile.proofs.Cases.{at-past, at-within, block-means}
+use Rattle.mlg_rules.specs.Block.{blockOf, counterAfter}
+use Rattle.mlg_rules.proofs.Cases.{at-past, at-within, block-means}
 
 returns : tie.Need-returns
-returns c = (block-means (c .before .before .args .size) (c .before .before .args .earlier) (c .before .before .args .file .now) (c .before .before .args .at) (sym (at-past _ _ _ _ (c .if1 .taken))), block-alone)
+returns c =
+    let a = c .before .before .args in
+    (block-means (a .size) (a .earlier) (a .file .now) (a .at) (sym (at-past _ _ _ _ (c .if1 .taken))), block-alone)
 
 sub-block-of : tie.Need-sub-block-of
 sub-block-of c = search needs
@@ -28,14 +30,16 @@ block-of-requires : tie.Need-block-of-requires
 block-of-requires c κs = search needs
 
 returns-2 : tie.Need-returns-2
-returns-2 c = (
-  block-means (c .before .before .before .before .before .args .size) (c .before .before .before .before .before .args .earlier) (c .before .before .before .before .before .args .file .now) (c .before .before .before .before .before .args .at)
-      (c .block-of .ensures
-      ∙ ap (λ (k : ℕ). blockOf (c .before .before .before .before .before .args .size) k (c .before .before .before .before .before .args .at) (take (length (c .before .before .before .before .before .args .file .now) - c .before .before .before .before .before .args .at) (drop (c .before .before .before .before .before .args .at) (c .before .before .before .before .before .args .file .now)))) (c .before .counter-of .ensures)
-      ∙ ap (blockOf (c .before .before .before .before .before .args .size) (counterOf (c .before .before .before .before .before .args .earlier)) (c .before .before .before .before .before .args .at)) (tail-part (c .before .before .before .before .before .args .file .now) (c .before .before .before .before .before .args .at))
-      ∙ sym (at-within (c .before .before .before .before .before .args .size) (c .before .before .before .before .before .args .earlier) (c .before .before .before .before .before .args .file .now) (c .before .before .before .before .before .args .at) (c .before .before .before .if1 .left))),
-  block-alone,
-)
+returns-2 c =
+    let a = c .before .before .before .before .before .args in
+    let if1 = c .before .before .before .if1 in (
+      block-means (a .size) (a .earlier) (a .file .now) (a .at)
+          (c .block-of .ensures
+          ∙ ap (λ (k : ℕ). blockOf (a .size) k (a .at) (take (length (a .file .now) - a .at) (drop (a .at) (a .file .now)))) (c .before .counter-of .ensures)
+          ∙ ap (blockOf (a .size) (counterAfter (a .earlier)) (a .at)) (tail-part (a .file .now) (a .at))
+          ∙ sym (at-within (a .size) (a .earlier) (a .file .now) (a .at) (if1 .left))),
+      block-alone,
+    )
 
 pub read-block-spec : {M : Type 1} → statement M
 read-block-spec =

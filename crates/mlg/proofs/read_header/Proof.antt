@@ -2,24 +2,24 @@ use borrow.Author.Needs.{needs}
 use Rattle.mlg.proofs.read_header.Statement.{statement}
 use Rattle.mlg.proofs.read_header.Tie as tie
 use mathlib.Core.Path.{sym, _∙_}
-use Rattle.mlgfile.specs.Header.{headerOf}
+use Rattle.mlg_rules.specs.Header.{readHeaderOf}
 use Rattle.wire.proofs.Answers.{refuses, stands}
-use Rattle.mlgfile.specs.declared.Head.the-variants.{Is, Refused}
-use Rattle.mlgfile.proofs.Places.{head-means}
+use Rattle.mlg_rules.specs.declared.Head.the-variants.{Is, Refused}
+use Rattle.mlg_rules.proofs.Places.{head-means}
 
-head-number-requires : tie.Need-head-number-requires
-head-number-requires c κs = search needs
+read-header-number-requires : tie.Need-read-header-number-requires
+read-header-number-requires c κs = search needs
 
 returns : tie.Need-returns
-unfolding headerOf
-returns c = head-means _ _ (refuses Is Refused _ _ _ (c .before .head-number .ensures) (c .if1 .taken))
+unfolding readHeaderOf
+returns c = head-means _ _ (refuses Is Refused _ _ _ (c .before .read-header-number .ensures) (c .if1 .taken))
 
 numbers-requires : tie.Need-numbers-requires
 numbers-requires c κs = search needs
 
 returns-2 : tie.Need-returns-2
-unfolding headerOf
-returns-2 c = head-means _ _ (stands Is Refused _ _ _ (sym (c .before .before .head-number .ensures) ∙ c .before .if1 .left) (c .numbers .ensures))
+unfolding readHeaderOf
+returns-2 c = head-means _ _ (stands Is Refused _ _ _ (sym (c .before .before .read-header-number .ensures) ∙ c .before .if1 .left) (c .numbers .ensures))
 
 pub read-header-spec : {M : Type 1} → statement M
-read-header-spec = tie.close (tie.spec head-number-requires returns numbers-requires returns-2)
+read-header-spec = tie.close (tie.spec read-header-number-requires returns numbers-requires returns-2)

@@ -2,25 +2,28 @@ use borrow.Author.Needs.{needs}
 use Rattle.mlg.proofs.write_data.Statement.{statement}
 use Rattle.mlg.proofs.write_data.Tie as tie
 use mathlib.Core.Path.{refl, sym, _∙_, ap}
-use Rattle.mlgfile.proofs.BlockBack.{data-back}
+use Rattle.mlg_rules.proofs.BlockBack.{data-back}
 use Prim.Native.Nat.{ℕ}
 use lib.ListN.{length}
 use Rattle.wire.proofs.Writes.{refuses, writes, left}
 use Rattle.wire.specs.Writer.{leaves}
-use Rattle.mlgfile.specs.Writing.{dataBytes}
-use Rattle.mlgfile.proofs.BlockBytes.{data-fits, data-length}
+use Rattle.mlg_rules.specs.Writing.{dataBytes}
+use Rattle.mlg_rules.proofs.BlockBytes.{data-fits, data-length}
 
-data-number-requires : tie.Need-data-number-requires
-data-number-requires c κs = search needs
+write-data-number-requires : tie.Need-write-data-number-requires
+write-data-number-requires c κs = search needs
 
 returns : tie.Need-returns
-returns c = (refuses _ _ _ _ (c .before .data-number .ensures) (c .if1 .taken), data-back)
+returns c = (refuses _ _ _ _ (c .before .write-data-number .ensures) (c .if1 .taken), data-back)
 
 counter-of-requires : tie.Need-counter-of-requires
 counter-of-requires c κs = search needs
 
 put-data-requires : tie.Need-put-data-requires
-put-data-requires c κs = data-fits (c .before .before .before .before .before .before .args .size) (c .before .before .before .before .before .before .args .bytes .now) (length (c .before .before .before .before .before .before .args .out .now)) (sym (c .before .before .before .data-number .ensures) ∙ c .before .before .if1 .left) .1
+put-data-requires c κs =
+    let a = c .before .before .before .before .before .before .args in
+    let write-data-number = c .before .before .before .write-data-number in
+    data-fits (a .size) (a .bytes .now) (length (a .out .now)) (sym (write-data-number .ensures) ∙ c .before .before .if1 .left) .1
 
 add-t13 : tie.Need-add-t13
 add-t13 c = search needs
@@ -29,17 +32,22 @@ same-length : tie.Need-same-length
 same-length c = search needs
 
 returns-2 : tie.Need-returns-2
-returns-2 c = (
-  writes _ _ _ _ _ (sym (c .before .before .before .before .before .if1 .left) ∙ c .before .before .before .before .before .before .data-number .ensures) (data-length _ (c .before .before .before .before .before .before .before .before .before .args .time) (c .before .before .before .before .before .before .before .before .before .args .bytes .now))
-      (c .before .before .put-data .ensures ∙ ap (λ (k : ℕ). leaves 0 (dataBytes k (c .before .before .before .before .before .before .before .before .before .args .time) (c .before .before .before .before .before .before .before .before .before .args .bytes .now)) (c .before .before .before .before .before .before .before .before .before .args .out .now)) (c .before .before .before .counter-of .ensures) ∙ left 0 _ _ refl),
-  data-back,
-)
+returns-2 c =
+    let a = c .before .before .before .before .before .before .before .before .before .args in
+    let write-data-number = c .before .before .before .before .before .before .write-data-number in
+    let if1 = c .before .before .before .before .before .if1 in
+    let counter-of = c .before .before .before .counter-of in (
+      writes _ _ _ _ _ (sym (if1 .left) ∙ write-data-number .ensures) (data-length _ (a .time) (a .bytes .now))
+          (c .before .before .put-data .ensures ∙ ap (λ (k : ℕ). leaves 0 (dataBytes k (a .time) (a .bytes .now)) (a .out .now)) (counter-of .ensures)
+          ∙ left 0 _ _ refl),
+      data-back,
+    )
 
 pub write-data-spec : {M : Type 1} → statement M
 write-data-spec =
     tie.close
     (tie.spec
-    data-number-requires
+    write-data-number-requires
     returns
     counter-of-requires
     put-data-requires

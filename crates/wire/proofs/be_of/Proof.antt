@@ -18,7 +18,9 @@ loop-holds : tie.Need-loop-holds Inv-loop μ-loop
 loop-holds c = omega arith
 
 mul-a : tie.Need-mul-a Inv-loop μ-loop
-mul-a c = omega (arith, more-bytes (c .before .loop .a) 0 (c .before .loop .i) (c .before .loop .inv .1) (omega arith), within (c .before .loop .i + 1) (omega arith))
+mul-a c =
+    let l = c .before .loop in
+    omega (arith, more-bytes (l .a) 0 (l .i) (l .inv .1) (omega arith), within (l .i + 1) (omega arith))
 
 shared-slice-read-wide : tie.Need-shared-slice-read-wide Inv-loop μ-loop
 shared-slice-read-wide c = omega arith
@@ -27,7 +29,10 @@ wide-requires : tie.Need-wide-requires Inv-loop μ-loop
 wide-requires c κs = tt
 
 add-a : tie.Need-add-a Inv-loop μ-loop
-add-a c = omega (arith, c .before .shared-slice-known2 .given (c .before .before .before .loop .i), more-bytes (c .before .before .before .loop .a) (c .wide .result) (c .before .before .before .loop .i) (c .before .before .before .loop .inv .1) (omega (arith, c .before .shared-slice-known2 .given (c .before .before .before .loop .i))), within (c .before .before .before .loop .i + 1) (omega arith))
+add-a c =
+    let l = c .before .before .before .loop in
+    let byte = c .before .shared-slice-known2 .given (l .i) in
+    omega (arith, byte, more-bytes (l .a) (c .wide .result) (l .i) (l .inv .1) (omega (arith, byte)), within (l .i + 1) (omega arith))
 
 add-i : tie.Need-add-i Inv-loop μ-loop
 add-i c = omega arith
@@ -37,14 +42,19 @@ loop-less c = omega arith
 
 loop-again : tie.Need-loop-again Inv-loop μ-loop
 loop-again c =
-    let i = c .before .before .before .loop .i in
+    let l = c .before .before .before .loop in
     let s = c .before .before .before .before .before .args .s .now in
-    let a = c .before .before .before .loop .a in
-    let e = rest-of (beFrom a) s i (c .before .before .loop-test .taken) in
-    (omega arith, more-bytes a (c .wide .result) i (c .before .before .before .loop .inv .1) (omega (arith, c .before .shared-slice-known2 .given i)), rw (c .wide .ensures) (sym e ∙ c .before .before .before .loop .inv .2))
+    let e = rest-of (beFrom (l .a)) s (l .i) (c .before .before .loop-test .taken) in
+    let byte = c .before .shared-slice-known2 .given (l .i) in
+    (omega arith, more-bytes (l .a) (c .wide .result) (l .i) (l .inv .1) (omega (arith, byte)), rw (c .wide .ensures) (sym e ∙ l .inv .2))
 
 returns : tie.Need-returns Inv-loop μ-loop
-returns c = let h = rest-none (beFrom (c .before .loop .a)) (c .before .before .before .args .s .now) (c .before .loop .i) (c .loop-test .left) in let e : c .before .loop .i ≡ length (c .before .before .before .args .s .now) = omega arith in ((cc), rw (← e) (c .before .loop .inv .1))
+returns c =
+    let l = c .before .loop in
+    let s = c .before .before .before .args .s .now in
+    let h = rest-none (beFrom (l .a)) s (l .i) (c .loop-test .left) in
+    let e : l .i ≡ length s = omega arith in
+    ((cc), rw (← e) (l .inv .1))
 
 pub be-of-spec : {M : Type 1} → statement M
 be-of-spec =

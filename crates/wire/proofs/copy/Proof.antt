@@ -33,13 +33,20 @@ loop-less : tie.Need-loop-less Inv-loop μ-loop
 loop-less c = omega arith
 
 loop-again : tie.Need-loop-again Inv-loop μ-loop
-loop-again c = (omega arith, simp length-set (c .before .before .loop .inv .1), rw (add-one, c .before .before .loop .inv .2) (paste-suc (c .before .before .before .args .out .now) (c .before .before .before .args .at) (c .before .before .before .args .bytes .now) (c .before .before .loop .i) 0 (omega arith) (c .before .loop-test .taken)))
+loop-again c =
+    let l = c .before .before .loop in
+    let a = c .before .before .before .args in
+    let next = paste-suc (a .out .now) (a .at) (a .bytes .now) (l .i) 0 (omega arith) (c .before .loop-test .taken) in
+    (omega arith, simp length-set (l .inv .1), rw (add-one, l .inv .2) next)
 
 same-length : tie.Need-same-length Inv-loop μ-loop
 same-length c = c .before .loop .inv .1
 
 returns : tie.Need-returns Inv-loop μ-loop
-returns c = c .before .loop .inv .2 ∙ paste-all (c .before .before .args .out .now) (c .before .before .args .at) (c .before .before .args .bytes .now) (c .before .loop .i) (omega arith)
+returns c =
+    let l = c .before .loop in
+    let a = c .before .before .args in
+    l .inv .2 ∙ paste-all (a .out .now) (a .at) (a .bytes .now) (l .i) (omega arith)
 
 pub copy-spec : {M : Type 1} → statement M
 copy-spec =

@@ -29,7 +29,9 @@ loop-less : tie.Need-loop-less Inv-loop μ-loop
 loop-less c = omega arith
 
 loop-again : tie.Need-loop-again Inv-loop μ-loop
-loop-again c = omega (arith, rest-of total (c .before .before .before .before .before .args .s .now) (c .before .before .before .loop .i) (c .before .before .loop-test .taken))
+loop-again c =
+    let s = c .before .before .before .before .before .args .s .now in
+    omega (arith, rest-of total s (c .before .before .before .loop .i) (c .before .before .loop-test .taken))
 
 returns : tie.Need-returns Inv-loop μ-loop
 returns c = omega (arith, rest-none total (c .before .before .before .args .s .now) (c .before .loop .i) (c .loop-test .left))

@@ -4,8 +4,9 @@ use Rattle.bridge.proofs.ending.reset.Statement.{statement}
 use Rattle.bridge.proofs.ending.reset.Tie as tie
 use Rattle.bridge_rules.specs.Ending.{resetOf, resetNumber}
 use borrow.Author.Tests.{lt-ltb, le-ltb}
-use Rattle.bridge_rules.proofs.Theorem.{demand3, calls}
-use Rattle.bridge_rules.proofs.Corollary.{corollaries}
+use Rattle.bridge_rules.proofs.Demand3.{demand3}
+use Rattle.bridge_rules.proofs.Calls.{calls}
+use Rattle.bridge_rules.proofs.Corollaries.{corollaries}
 use Rattle.bridge_examples.proofs.Examples.{examples}
 
 returns : tie.Need-returns

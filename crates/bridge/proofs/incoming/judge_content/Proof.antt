@@ -2,7 +2,7 @@ use borrow.Author.Needs.{needs}
 use Rattle.bridge.proofs.incoming.judge_content.Statement.{statement}
 use Rattle.bridge.proofs.incoming.judge_content.Tie as tie
 use mathlib.Core.Path.{sym, _∙_}
-use Rattle.bridge_rules.proofs.Sound.{true-sound}
+use Rattle.bridge_rules.proofs.SoundTest.{true-sound}
 use Rattle.bridge.proofs.Replies.{head-is, content-parts, content-refused}
 
 read-head-requires : tie.Need-read-head-requires

@@ -4,7 +4,7 @@ use Rattle.bridge.proofs.incoming.judge_reply.Tie as tie
 use mathlib.Core.Path.{sym, _∙_}
 use Rattle.wire.proofs.Orders.{order}
 use Rattle.bridge_rules.specs.Incoming.{replyNumber}
-use Rattle.bridge_rules.proofs.Refusals.{lent-ok}
+use Rattle.bridge_rules.proofs.NumberLaws.{lent-ok}
 
 lent-number-requires : tie.Need-lent-number-requires
 lent-number-requires c κs = search needs

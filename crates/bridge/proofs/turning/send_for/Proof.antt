@@ -4,7 +4,7 @@ use Rattle.bridge.proofs.turning.send_for.Tie as tie
 use Rattle.bridge_rules.specs.State.{slot}
 use Rattle.bridge_rules.specs.Answers.{steppedOf}
 use Rattle.bridge_rules.specs.Turn.{sendFor}
-use Rattle.bridge_rules.proofs.Sound.{true-sound}
+use Rattle.bridge_rules.proofs.SoundTest.{true-sound}
 use Rattle.bridge.proofs.SentFrames.{readies}
 
 mul-x : tie.Need-mul-x
@@ -18,8 +18,8 @@ unfolding slot
 sent-frame-requires c κs =
     let s = c .before .before .before in
     let w = readies (s .args .b) (s .args .k) (s .pre .0) (s .pre .1) (s .pre .2) in
-    let x = w .common in
-    (true-sound (s .args .b) (s .pre .0) .own, s .pre .1, x .device, x .table, w .mid .below, x .few, x .inside, s .pre .3)
+    let x = w .held .args in
+    (true-sound (s .args .b) (s .pre .0) .own, s .pre .1, x .device, x .table, w .partway .below, x .few, x .inside, s .pre .3)
 
 sent-slot-requires : tie.Need-sent-slot-requires
 unfolding slot

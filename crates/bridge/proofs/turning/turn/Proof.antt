@@ -7,7 +7,7 @@ use mathlib.Core.Option.{some}
 use lib.ListN.{length}
 use Rattle.bridge_rules.specs.State.{nextReady}
 use Rattle.bridge_rules.specs.Answers.{lentNumber}
-use Rattle.bridge_rules.proofs.Refusals.{lent-ok}
+use Rattle.bridge_rules.proofs.NumberLaws.{lent-ok}
 use Rattle.bridge.proofs.Searches.{ready-small, is-four, not-four}
 use Rattle.bridge.proofs.Turns.{turn-refused, turn-idles, turn-sends, turn-sound, turn-ready}
 

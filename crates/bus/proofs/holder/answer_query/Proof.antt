@@ -1,12 +1,17 @@
-use Rattle.bus_rules.specs.declared.Request.{Request}
 use borrow.Author.Needs.{needs}
 use Rattle.bus.proofs.holder.answer_query.Statement.{statement}
 use Rattle.bus.proofs.holder.answer_query.Tie as tie
+use Prim.Native.Nat.{_≤_}
 use native.Mathlib.Omega.{arith}
 use mathlib.Core.Path.{sym, ap}
-use Rattle.bus_rules.specs.Holder.{byteOf, requestAt}
 use lib.Seq.{length-take-le}
-use Prim.Native.Nat.{_≤_}
+use Rattle.bus_rules.specs.declared.Request.{Request}
+use Rattle.bus_rules.specs.Holder.{byteOf, requestAt}
+
+-- at most five bytes are asked for
+few : (c : tie.After-request-of) → c .request-of .result .count ≤ 5
+unfolding requestAt byteOf
+few c = omega (arith, c .before .before .before .before .pre .2, ap (λ (q : Request). q .count) (c .request-of .ensures .0))
 
 element-copy-out-request-of : tie.Need-element-copy-out-request-of
 element-copy-out-request-of c = search needs
@@ -27,19 +32,17 @@ cast-n : tie.Need-cast-n
 cast-n c = search needs
 
 array-share-prefix-bytes : tie.Need-array-share-prefix-bytes
-unfolding requestAt byteOf
-array-share-prefix-bytes c = omega (arith, c .before .before .before .before .before .before .pre, ap (λ (q : Request). q .count) (c .before .before .request-of .ensures .0))
+array-share-prefix-bytes c = omega (arith, few (c .before .before))
 
 slice-aggregate-reply : tie.Need-slice-aggregate-reply
-unfolding requestAt byteOf
-slice-aggregate-reply c = sym (length-take-le _ _ (omega (arith, c .before .before .before .before .before .before .before .pre, ap (λ (q : Request). q .count) (c .before .before .before .request-of .ensures .0))))
+slice-aggregate-reply c = sym (length-take-le _ _ (omega (arith, few (c .before .before .before))))
 
 reply-requires : tie.Need-reply-requires
-unfolding requestAt byteOf
-reply-requires c κs = let s = c .before .before .before .request-of .ensures in
-    let n : c .before .before .before .request-of .result .count ≤ 5 = omega (arith, c .before .before .before .before .before .before .before .pre, ap (λ (q : Request). q .count) (s .0)) in
-    let l = length-take-le (c .before .before .before .request-of .result .count) (c .before .before .protocol-of .result) (omega arith) in
-    (c .before .before .before .before .before .before .before .pre .0, s .1, s .2, sym l)
+reply-requires c κs =
+    let q = c .before .before .before in
+    let p = q .before .before .before .before .pre in
+    let l = length-take-le (q .request-of .result .count) (c .before .before .protocol-of .result) (omega (arith, few q)) in
+    (p .0, p .1, q .request-of .ensures .1, q .request-of .ensures .2, omega (arith, l, few q))
 
 returns : tie.Need-returns
 unfolding requestAt byteOf

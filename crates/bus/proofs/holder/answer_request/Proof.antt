@@ -1,11 +1,16 @@
 use borrow.Author.Needs.{needs}
 use Rattle.bus.proofs.holder.answer_request.Statement.{statement}
 use Rattle.bus.proofs.holder.answer_request.Tie as tie
+use native.Mathlib.Omega.{arith}
+use mathlib.Core.Path.{_≡_, ap}
 use Rattle.bus_rules.specs.declared.Request.{Request}
 use Rattle.bus_rules.specs.Holder.{byteOf, requestAt}
-use native.Mathlib.Omega.{arith}
-use mathlib.Core.Path.{sym, ap}
 use Rattle.bus_rules.proofs.FrameLaws.{part-is, part-length}
+
+-- the count that the request asks for
+count : (c : tie.After-request-of) → c .request-of .result .count ≡ requestAt (c .before .before .before .before .before .args .t5) 0 .count
+unfolding requestAt byteOf
+count c = ap (λ (q : Request). q .count) (c .request-of .ensures .0)
 
 element-copy-out-request-of : tie.Need-element-copy-out-request-of
 element-copy-out-request-of c = search needs
@@ -32,15 +37,14 @@ part-reply-start : tie.Need-part-reply-start
 part-reply-start c = search needs
 
 part-reply-end : tie.Need-part-reply-end
-unfolding requestAt byteOf
-part-reply-end c = omega (arith, c .before .before .before .before .before .before .pre, ap (λ (q : Request). q .count) (c .before .request-of .ensures .0))
+part-reply-end c = omega (arith, c .before .before .before .before .before .before .pre .3, count (c .before))
 
 reply-requires : tie.Need-reply-requires
-unfolding requestAt byteOf
-reply-requires c κs = let s = c .before .before .request-of .ensures in
-    let k = ap (λ (q : Request). q .count) (s .0) in
-    let l = part-length (c .before .before .before .before .before .before .before .args .memory .now) (c .before .before .before .before .before .before .before .args .at) (c .before .before .request-of .result .count) (omega (arith, c .before .before .before .before .before .before .before .pre, k)) in
-    (c .before .before .before .before .before .before .before .pre .0, s .1, s .2, rw part-is (sym l))
+reply-requires c κs =
+    let s = c .before .before .before .before .before .before .before in
+    let q = c .before .before in
+    let l = part-length (s .args .memory .now) (s .args .at) (q .request-of .result .count) (omega (arith, s .pre .3, count q)) in
+    (s .pre .0, s .pre .1, q .request-of .ensures .1, q .request-of .ensures .2, rw part-is (omega (arith, l, s .pre .2, count q)))
 
 returns : tie.Need-returns
 unfolding requestAt byteOf

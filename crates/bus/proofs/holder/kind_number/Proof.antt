@@ -1,13 +1,26 @@
 use borrow.Author.Needs.{needs}
 use Rattle.bus.proofs.holder.kind_number.Statement.{statement}
 use Rattle.bus.proofs.holder.kind_number.Tie as tie
-use Rattle.bus_rules.proofs.Cases.{command-case, request-case, query-case, other-case}
-use Rattle.bus_rules.specs.Holder.{byteOf, reservedAt, requestAt}
+use mathlib.Core.Path.{_≡_, sym, _∙_}
+use Rattle.bus_rules.specs.Ident.{idKind}
+use Rattle.bus_rules.specs.Frames.{cmd, req, xtnd}
 use Rattle.bus_rules.specs.Request.{requestOf}
-use mathlib.Core.Path.{sym, _∙_}
+use Rattle.bus_rules.specs.Holder.{byteOf, reservedAt, requestAt}
+use Rattle.bus_rules.proofs.IdentLaws.{AreParts, are-parts}
+use Rattle.bus_rules.proofs.Cases.{command-case, request-case, query-case, other-case}
 
-kind-of-requires : tie.Need-kind-of-requires
-kind-of-requires c κs = search needs
+parts : (s : tie.Start) → AreParts (s .args .t3 .id) (s .args .p)
+parts s = are-parts (s .args .t3 .id) (s .args .p) (s .pre)
+
+-- the frame's type, where the test of it is met
+is-query : (c : tie.Then1) → idKind (c .before .before .args .t3 .id) ≡ xtnd
+is-query c = sym (parts (c .before .before) .kind) ∙ c .if1 .taken
+
+is-command : (c : tie.Then2) → idKind (c .before .before .before .before .args .t3 .id) ≡ cmd
+is-command c = sym (parts (c .before .before .before .before) .kind) ∙ c .if2 .taken
+
+is-request : (c : tie.Then3) → idKind (c .before .before .before .before .before .before .args .t3 .id) ≡ req
+is-request c = sym (parts (c .before .before .before .before .before .before) .kind) ∙ c .if3 .taken
 
 element-copy-out-is-reserved : tie.Need-element-copy-out-is-reserved
 element-copy-out-is-reserved c = search needs
@@ -29,16 +42,17 @@ query-number-requires c κs = search needs
 
 returns : tie.Need-returns
 unfolding byteOf reservedAt requestAt requestOf
-returns c = λ d s r. (rw (c .before .before .before .is-reserved .ensures) at (c .query-number .ensures)) ∙ sym (query-case d _ (sym (c .before .before .before .before .before .before .before .kind-of .ensures) ∙ c .before .before .before .before .before .before .if1 .taken))
-
-offset-of-requires : tie.Need-offset-of-requires
-offset-of-requires c κs = search needs
+returns c = λ e s r.
+    (rw (c .before .before .before .is-reserved .ensures) at (c .query-number .ensures))
+    ∙ sym (query-case e _ (is-query (c .before .before .before .before .before .before)))
 
 command-number-requires : tie.Need-command-number-requires
 command-number-requires c κs = search needs
 
 returns-2 : tie.Need-returns-2
-returns-2 c = λ d s r. (rw (c .before .offset-of .ensures, s, r) at (c .command-number .ensures)) ∙ sym (command-case d _ (sym (c .before .before .before .before .kind-of .ensures) ∙ c .before .before .if2 .taken))
+returns-2 c = λ e s r.
+    let p = parts (c .before .before .before .before .before) in
+    (rw (p .offset, s, r) at (c .command-number .ensures)) ∙ sym (command-case e _ (is-command (c .before)))
 
 element-copy-out-is-reserved-3 : tie.Need-element-copy-out-is-reserved-3
 element-copy-out-is-reserved-3 c = search needs
@@ -49,9 +63,6 @@ element-copy-out-is-reserved-4 c = search needs
 is-reserved-requires-2 : tie.Need-is-reserved-requires-2
 is-reserved-requires-2 c κs = search needs
 
-offset-of-requires-2 : tie.Need-offset-of-requires-2
-offset-of-requires-2 c κs = search needs
-
 element-copy-out-request-number : tie.Need-element-copy-out-request-number
 element-copy-out-request-number c = search needs
 
@@ -60,16 +71,21 @@ request-number-requires c κs = search needs
 
 returns-3 : tie.Need-returns-3
 unfolding byteOf reservedAt requestAt requestOf
-returns-3 c = λ d s r. (rw (c .before .before .before .is-reserved2 .ensures, c .before .before .offset-of2 .ensures, s, r) at (c .request-number .ensures)) ∙ sym (request-case d _ (sym (c .before .before .before .before .before .before .before .before .before .kind-of .ensures) ∙ c .before .before .before .before .before .before .if3 .taken))
+returns-3 c = λ e s r.
+    let at = c .before .before .before .before .before in
+    let p = parts (at .before .before .before .before .before .before) in
+    (rw (c .before .before .is-reserved2 .ensures, p .offset, s, r) at (c .request-number .ensures)) ∙ sym (request-case e _ (is-request at))
 
 returns-4 : tie.Need-returns-4
-returns-4 c = λ d s r. let k = c .before .before .before .kind-of .ensures in sym (other-case d _ (λ e. c .before .if2 .left (k ∙ e)) (λ e. c .if3 .left (k ∙ e)) (λ e. c .before .before .if1 .left (k ∙ e)))
+returns-4 c = λ e s r.
+    let k = parts (c .before .before .before .before .before .before) .kind in
+    sym (other-case e _ (λ z. c .before .before .if2 .left (k ∙ z)) (λ z. c .if3 .left (k ∙ z))
+    (λ z. c .before .before .before .before .if1 .left (k ∙ z)))
 
 pub kind-number-spec : {M : Type 1} → statement M
 kind-number-spec =
     tie.close
     (tie.spec
-    kind-of-requires
     element-copy-out-is-reserved
     element-copy-out-is-reserved-2
     is-reserved-requires
@@ -77,13 +93,11 @@ kind-number-spec =
     element-copy-out-query-number-2
     query-number-requires
     returns
-    offset-of-requires
     command-number-requires
     returns-2
     element-copy-out-is-reserved-3
     element-copy-out-is-reserved-4
     is-reserved-requires-2
-    offset-of-requires-2
     element-copy-out-request-number
     request-number-requires
     returns-3

@@ -2,7 +2,7 @@ use borrow.Author.Needs.{needs}
 use Rattle.bus.proofs.holder.memory_number.Statement.{statement}
 use Rattle.bus.proofs.holder.memory_number.Tie as tie
 use Rattle.wire.proofs.Orders.{order}
-use Rattle.bus_rules.specs.Holder.{lengthNumber, memoryNumber}
+use Rattle.bus_rules.specs.Device.{lengthNumber, memoryNumber}
 
 tables-of-requires : tie.Need-tables-of-requires
 tables-of-requires c κs = search needs

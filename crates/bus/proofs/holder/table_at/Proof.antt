@@ -7,7 +7,7 @@ use Prim.Native.Nat.{_≤_, _-_, _*_}
 use mathlib.Core.Path.{_≡_, refl, _∙_, ap}
 use native.Mathlib.Omega.{arith}
 use borrow.Author.Needs.{needs}
-use Rattle.bus_rules.specs.Holder.{sizeOf, rightOf, startOf}
+use Rattle.bus_rules.specs.Device.{sizeOf, rightOf, startOf}
 use Rattle.bus_rules.proofs.Directories.{start-next}
 
 abbrev Inv-loop : tie.InvT-loop
@@ -44,7 +44,10 @@ loop-less c = omega arith
 
 loop-again : tie.Need-loop-again Inv-loop μ-loop
 unfolding sizeOf
-loop-again c = (omega arith, omega (arith, element (c .before)), rw (start-next (c .before .before .before .args .t1) (c .before .before .loop .i), ← c .before .before .loop .inv .2))
+loop-again c =
+    let d = c .before .before .before .args .t1 in
+    let l = c .before .before .loop in
+    (omega arith, omega (arith, element (c .before)), rw (start-next d (l .i), ← l .inv .2))
 
 mul-t12 : tie.Need-mul-t12 Inv-loop μ-loop
 mul-t12 c = search needs
@@ -57,7 +60,11 @@ element-copy-out-t18 c = search needs
 
 returns : tie.Need-returns Inv-loop μ-loop
 unfolding sizeOf rightOf
-returns c = let e : c .before .before .before .loop .i ≡ c .before .before .before .before .args .k = omega arith in (c .before .before .before .loop .inv .2 ∙ ap (startOf (c .before .before .before .before .args .t1)) e, refl, refl, omega arith)
+returns c =
+    let a = c .before .before .before .before .args in
+    let l = c .before .before .before .loop in
+    let e : l .i ≡ a .k = omega arith in
+    (l .inv .2 ∙ ap (startOf (a .t1)) e, refl, refl, omega arith)
 
 pub table-at-spec : {M : Type 1} → statement M
 table-at-spec =

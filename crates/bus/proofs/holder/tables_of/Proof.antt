@@ -5,7 +5,7 @@ use Prim.Native.Nat.{_≤_, _-_, _*_}
 use mathlib.Core.Path.{_≡_, refl, _∙_, ap}
 use native.Mathlib.Omega.{arith}
 use borrow.Author.Needs.{needs}
-use Rattle.bus_rules.specs.Holder.{sizeOf, rightOf, startOf, totalOf, soundTables}
+use Rattle.bus_rules.specs.Device.{sizeOf, rightOf, startOf, totalOf, soundTables}
 use Rattle.bus_rules.proofs.Directories.{start-next, tables-next}
 use Rattle.bus.proofs.holder.tables_of.Statement.{statement}
 use Rattle.bus.proofs.holder.tables_of.Tie as tie

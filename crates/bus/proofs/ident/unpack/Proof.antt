@@ -1,10 +1,12 @@
 use borrow.Author.Needs.{needs}
 use Rattle.bus.proofs.ident.unpack.Statement.{statement}
 use Rattle.bus.proofs.ident.unpack.Tie as tie
-use mathlib.Core.Path.{sym, _∙_}
+use mathlib.Core.Path.{sym, _∙_, subst}
 use Rattle.bus_rules.specs.Ident.{unpackOf}
 use Rattle.wire.proofs.Answers.{refuses, stands}
-use Rattle.bus_rules.proofs.IdentLaws.{unpacked-means, pack-after-unpack, row-law}
+use Rattle.bus_rules.specs.Rows.{PackAfterUnpack, RowLaw}
+use Rattle.bus_rules.proofs.IdentLaws.{unpacked-means}
+use Rattle.bus_rules.proofs.RowTheorems.{row-theorems}
 use Rattle.bus_rules.specs.declared.Unpacked.the-variants as U
 
 unpack-number-requires : tie.Need-unpack-number-requires
@@ -15,7 +17,7 @@ unfolding unpackOf
 returns c =
     let e = unpacked-means _ _ _ (refuses U.Is U.Refused _ _ _ (c .before .unpack-number .ensures) (c .if1 .taken)) in
     let id = c .before .before .args .id in
-    (e, (λ p q. pack-after-unpack id p (sym (e .0) ∙ q), λ p q. row-law id p (sym (e .0) ∙ q)))
+    (e, (subst (PackAfterUnpack id) (sym (e .0)) (row-theorems .packAfterUnpack id), subst (RowLaw id) (sym (e .0)) (row-theorems .rowLaw id)))
 
 parts-of-requires : tie.Need-parts-of-requires
 parts-of-requires c κs = search needs
@@ -23,9 +25,10 @@ parts-of-requires c κs = search needs
 returns-2 : tie.Need-returns-2
 unfolding unpackOf
 returns-2 c =
-    let e = unpacked-means _ _ _ (stands U.Is U.Refused _ _ _ (sym (c .before .before .unpack-number .ensures) ∙ c .before .if1 .left) (c .parts-of .ensures)) in
+    let z = sym (c .before .before .unpack-number .ensures) ∙ c .before .if1 .left in
+    let e = unpacked-means _ _ _ (stands U.Is U.Refused _ _ _ z (c .parts-of .ensures)) in
     let id = c .before .before .before .args .id in
-    (e, (λ p q. pack-after-unpack id p (sym (e .0) ∙ q), λ p q. row-law id p (sym (e .0) ∙ q)))
+    (e, (subst (PackAfterUnpack id) (sym (e .0)) (row-theorems .packAfterUnpack id), subst (RowLaw id) (sym (e .0)) (row-theorems .rowLaw id)))
 
 pub unpack-spec : {M : Type 1} → statement M
 unpack-spec = tie.close (tie.spec unpack-number-requires returns parts-of-requires returns-2)

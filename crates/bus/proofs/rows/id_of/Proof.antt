@@ -19,11 +19,17 @@ mul-result-2 c = search needs
 add-result : tie.Need-add-result
 add-result c = search needs
 
+cast-result-3 : tie.Need-cast-result-3
+cast-result-3 c = search needs
+
 mul-result-3 : tie.Need-mul-result-3
 mul-result-3 c = search needs
 
 add-result-2 : tie.Need-add-result-2
 add-result-2 c = search needs
+
+cast-result-4 : tie.Need-cast-result-4
+cast-result-4 c = search needs
 
 mul-result-4 : tie.Need-mul-result-4
 mul-result-4 c = search needs
@@ -31,11 +37,17 @@ mul-result-4 c = search needs
 add-result-3 : tie.Need-add-result-3
 add-result-3 c = search needs
 
+cast-result-5 : tie.Need-cast-result-5
+cast-result-5 c = search needs
+
 mul-result-5 : tie.Need-mul-result-5
 mul-result-5 c = search needs
 
 add-result-4 : tie.Need-add-result-4
 add-result-4 c = search needs
+
+cast-result-6 : tie.Need-cast-result-6
+cast-result-6 c = search needs
 
 mul-result-6 : tie.Need-mul-result-6
 mul-result-6 c = search needs
@@ -56,12 +68,16 @@ id-of-spec =
     cast-result-2
     mul-result-2
     add-result
+    cast-result-3
     mul-result-3
     add-result-2
+    cast-result-4
     mul-result-4
     add-result-3
+    cast-result-5
     mul-result-5
     add-result-4
+    cast-result-6
     mul-result-6
     add-result-5
     returns)

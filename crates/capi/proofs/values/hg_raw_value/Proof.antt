@@ -3,7 +3,7 @@ use mathlib.Core.Path.{sym, _∙_, ap}
 use lib.IntN.{ℤ}
 use mir.Syntax.{w64}
 use mir.ValLaws.{toZ-ofZ}
-use Rattle.field.specs.declared.RawValue.the-variants.{Is}
+use Rattle.mlg_rules.specs.declared.RawValue.the-variants.{Is}
 use Rattle.capi.specs.Answers.{rawOut}
 use Rattle.capi.proofs.values.hg_raw_value.Statement.{statement}
 use Rattle.capi.proofs.values.hg_raw_value.Tie as tie

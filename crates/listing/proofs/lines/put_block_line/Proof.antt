@@ -13,7 +13,7 @@ use mathlib.Core.Path.{_≡_, refl, sym, _∙_, ap}
 use Rattle.listing.specs.Stands.{Stands}
 use Rattle.listing.specs.Lines.{blockLine}
 use Rattle.listing.proofs.Putting.{puts-as}
-use Rattle.mlgfile.specs.declared.Block.{Block}
+use Rattle.mlg_rules.specs.declared.Block.{Block}
 use Rattle.listing.proofs.Parts.{is-end}
 
 enum-known-b : tie.Need-enum-known-b

@@ -3,7 +3,7 @@ use Rattle.listing.proofs.lines.put_data_line.Statement.{statement}
 use Rattle.listing.proofs.lines.put_data_line.Tie as tie
 use Rattle.listing.proofs.lines.put_data_line.Reads as reads
 use Rattle.listing.proofs.lines.put_data_line.Lts as lts
-use Rattle.field.proofs.layout_of.Reads as layout-of-reads
+use Rattle.mlg_values.proofs.layout_of.Reads as layout-of-reads
 use Rattle.listing.proofs.lines.put_right.Reads as put-right-reads
 use Rattle.listing.proofs.lines.put_start.Reads as put-start-reads
 use Rattle.listing.proofs.lines.put_values.Reads as put-values-reads
@@ -16,7 +16,7 @@ use mathlib.Core.Path.{_≡_, refl, sym, _∙_, ap}
 use Rattle.listing.specs.Text.{shown}
 use Rattle.listing.specs.Lines.{blockLine}
 use Rattle.listing.proofs.Putting.{puts-as, then}
-use Rattle.field.specs.declared.Layout.{Layout}
+use Rattle.mlg_rules.specs.declared.Layout.{Layout}
 use Rattle.listing.proofs.Rows.{cut-valued, cut-values}
 
 layout-of-requires : tie.Need-layout-of-requires

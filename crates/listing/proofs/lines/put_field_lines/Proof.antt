@@ -2,17 +2,17 @@ use Rattle.listing.proofs.lines.put_field_lines.Statement.{statement}
 use Rattle.listing.proofs.lines.put_field_lines.Tie as tie
 use Rattle.listing.proofs.lines.put_field_lines.Reads as reads
 use Rattle.listing.proofs.lines.put_field_lines.Lts as lts
-use Rattle.field.proofs.layout_of.Reads as layout-of-reads
+use Rattle.mlg_values.proofs.layout_of.Reads as layout-of-reads
 use Rattle.listing.proofs.lines.put_field_line.Reads as put-field-line-reads
 use borrow.Author.Needs.{needs}
 use native.Mathlib.Omega.{arith}
 use mathlib.Core.Path.{_≡_, refl, sym, _∙_, ap}
 use Rattle.listing.specs.Lines.{fieldLine, fieldLines, valueText, valuesText}
 use Rattle.listing.proofs.Putting.{Completes, whole, whole-as, onward, complete}
-use Rattle.field.specs.declared.Layout.{Layout}
+use Rattle.mlg_rules.specs.declared.Layout.{Layout}
 use Prim.Native.Nat.{_≤_, _+_, _*_, _-_}
 use lib.ListN.{length, drop}
-use Rattle.field.specs.Layout.{layoutOf, fieldLen}
+use Rattle.mlg_rules.specs.Layout.{layoutOf, fieldLen}
 use Rattle.listing.proofs.Rows.{field-next-at, field-none, len-89, fields-fit, part-long, fields-all}
 
 abbrev Inv-loop : tie.InvT-loop

@@ -3,7 +3,7 @@ use Rattle.listing.proofs.lines.put_value.Statement.{statement}
 use Rattle.listing.proofs.lines.put_value.Tie as tie
 use Rattle.listing.proofs.lines.put_value.Reads as reads
 use Rattle.listing.proofs.lines.put_value.Lts as lts
-use Rattle.field.proofs.raw_value.Reads as raw-value-reads
+use Rattle.mlg_values.proofs.raw_value.Reads as raw-value-reads
 use Rattle.listing.proofs.text.put_bytes.Reads as put-bytes-reads
 use Rattle.listing.proofs.text.put_integer.Reads as put-integer-reads
 use native.Mathlib.Omega.{arith}
@@ -15,8 +15,8 @@ use Rattle.listing.proofs.Parts.{raw-is, raw-never}
 use mir.Syntax.{w64}
 use mir.ValLaws.{toZ-ofZ}
 use Rattle.listing.specs.Text.{integer}
-use Rattle.field.specs.Raw.{rawOf}
-use Rattle.field.specs.Field.{typeOf}
+use Rattle.mlg_rules.specs.Raw.{rawOf}
+use Rattle.mlg_rules.specs.Field.{typeOf}
 
 raw-value-requires : tie.Need-raw-value-requires
 raw-value-requires c κs = search needs

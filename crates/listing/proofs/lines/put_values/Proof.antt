@@ -2,8 +2,8 @@ use Rattle.listing.proofs.lines.put_values.Statement.{statement}
 use Rattle.listing.proofs.lines.put_values.Tie as tie
 use Rattle.listing.proofs.lines.put_values.Reads as reads
 use Rattle.listing.proofs.lines.put_values.Lts as lts
-use Rattle.field.proofs.layout_of.Reads as layout-of-reads
-use Rattle.field.proofs.size_of.Reads as size-of-reads
+use Rattle.mlg_values.proofs.layout_of.Reads as layout-of-reads
+use Rattle.mlg_values.proofs.size_of.Reads as size-of-reads
 use Rattle.listing.proofs.lines.put_value.Reads as put-value-reads
 use borrow.Author.Needs.{needs}
 use native.Mathlib.Omega.{arith}
@@ -11,10 +11,10 @@ use Rattle.wire.proofs.Parts.{take-length-le}
 use mathlib.Core.Path.{_≡_, refl, sym, _∙_, ap}
 use Rattle.listing.specs.Lines.{fieldLine, fieldLines, valueText, valuesText}
 use Rattle.listing.proofs.Putting.{Completes, whole, whole-as, onward, complete}
-use Rattle.field.specs.declared.Layout.{Layout}
+use Rattle.mlg_rules.specs.declared.Layout.{Layout}
 use Prim.Native.Nat.{_≤_, _+_, _*_, _-_}
 use lib.ListN.{length, drop}
-use Rattle.field.specs.Layout.{layoutOf, fieldLen}
+use Rattle.mlg_rules.specs.Layout.{layoutOf, fieldLen}
 use Rattle.listing.specs.Stands.{Valued}
 use Rattle.listing.proofs.Rows.{value-asked, value-rest, value-then, field-within, raw-within, len-89, part-long, values-none}
 

@@ -3,13 +3,13 @@ use Rattle.listing.proofs.whole.put_headed_lines.Statement.{statement}
 use Rattle.listing.proofs.whole.put_headed_lines.Tie as tie
 use Rattle.listing.proofs.whole.put_headed_lines.Reads as reads
 use Rattle.listing.proofs.whole.put_headed_lines.Lts as lts
-use Rattle.field.proofs.layout_of.Reads as layout-of-reads
+use Rattle.mlg_values.proofs.layout_of.Reads as layout-of-reads
 use Rattle.listing.proofs.lines.put_field_lines.Reads as put-field-lines-reads
 use Rattle.listing.proofs.lines.put_header_line.Reads as put-header-line-reads
 use Rattle.listing.proofs.whole.put_log_lines.Reads as put-log-lines-reads
 use native.Mathlib.Omega.{arith}
 use mathlib.Core.Path.{_≡_, refl, sym, _∙_, ap}
-use Rattle.field.specs.declared.Layout.{Layout}
+use Rattle.mlg_rules.specs.declared.Layout.{Layout}
 use Rattle.listing.specs.Listing.{headedLines}
 use Rattle.listing.proofs.Putting.{puts-as, then}
 use Rattle.listing.proofs.Heads.{fields-in, begin-after, fields-after}

@@ -9,7 +9,7 @@ use Rattle.listing.proofs.whole.put_headed_lines.Reads as put-headed-li
 use Rattle.mlg.proofs.read_header.Reads as read-header-reads
 use native.Mathlib.Omega.{arith}
 use mathlib.Core.Path.{_≡_, refl, sym, _∙_, ap}
-use Rattle.mlgfile.specs.Header.{noHeader}
+use Rattle.mlg_rules.specs.Header.{noHeader}
 use Rattle.listing.proofs.Putting.{puts-as}
 use Rattle.listing.proofs.Listed.{too-long, listed-header, listed-refusal}
 

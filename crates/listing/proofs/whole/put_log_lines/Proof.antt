@@ -11,8 +11,8 @@ use Rattle.listing.proofs.Heads.{begin-in}
 use mathlib.Core.Path.{_≡_, refl, sym, _∙_, ap}
 use Prim.Native.Nat.{_≤_, _<_, _+_, _*_, _^_}
 use lib.ListN.{length}
-use Rattle.mlgfile.specs.Log.{logFrom, logOf}
-use Rattle.mlgfile.proofs.Tallies.{at-fits, goes-by}
+use Rattle.mlg_rules.specs.Log.{logFrom, logOf}
+use Rattle.mlg_rules.proofs.Tallies.{at-fits, goes-by}
 use Rattle.listing.specs.Listing.{logLines}
 use Rattle.listing.proofs.Putting.{puts-as, Completes, whole-as, onward}
 use Rattle.listing.proofs.LogLines.{block-next, block-last, block-none, log-all, block-stands, end-stands}

@@ -5,7 +5,7 @@ use Prim.Native.Nat.{_-_}
 use mathlib.Core.Path.{_∙_, ap}
 use native.Mathlib.Omega.{arith}
 use Rattle.wire.specs.Text.{zeros}
-use Rattle.mlgfile.proofs.Areas.{counted, area-past, area-from}
+use Rattle.mlg_rules.proofs.Areas.{counted, area-past, area-from}
 
 sub-ended-zeros : tie.Need-sub-ended-zeros
 sub-ended-zeros c = search needs
@@ -14,7 +14,9 @@ ended-zeros-requires : tie.Need-ended-zeros-requires
 ended-zeros-requires c κs = search needs
 
 returns : tie.Need-returns
-returns c = c .ended-zeros .ensures .0 ∙ ap zeros (area-past (c .before .before .before .before .args .names .now) (c .before .before .before .before .args .info .now) (c .before .before .before .before .args .at) (c .before .if1 .taken))
+returns c =
+    let a = c .before .before .before .before .args in
+    c .ended-zeros .ensures .0 ∙ ap zeros (area-past (a .names .now) (a .info .now) (a .at) (c .before .if1 .taken))
 
 ended-zeros-requires-2 : tie.Need-ended-zeros-requires-2
 ended-zeros-requires-2 c κs = search needs
@@ -32,10 +34,16 @@ zero-count-requires : tie.Need-zero-count-requires
 zero-count-requires c κs = search needs
 
 add-result : tie.Need-add-result
-add-result c = omega (arith, counted (c .before .before .before .before .before .before .args .names .now) (c .before .before .before .before .before .before .args .at) (c .zero-count .ensures) .1)
+add-result c =
+    let a = c .before .before .before .before .before .before .args in
+    omega (arith, counted (a .names .now) (a .at) (c .zero-count .ensures) .1)
 
 returns-2 : tie.Need-returns-2
-returns-2 c = let p = counted (c .before .before .before .before .before .before .args .names .now) (c .before .before .before .before .before .before .args .at) (c .zero-count .ensures) .0 in let q = c .before .before .ended-zeros2 .ensures .0 in cc (area-from (c .before .before .before .before .before .before .args .names .now) (c .before .before .before .before .before .before .args .info .now) (c .before .before .before .before .before .before .args .at) (omega arith))
+returns-2 c =
+    let a = c .before .before .before .before .before .before .args in
+    let p = counted (a .names .now) (a .at) (c .zero-count .ensures) .0 in
+    let q = c .before .before .ended-zeros2 .ensures .0 in
+    cc (area-from (a .names .now) (a .info .now) (a .at) (omega arith))
 
 pub area-zeros-spec : {M : Type 1} → statement M
 area-zeros-spec =

@@ -1,16 +1,16 @@
 use borrow.Author.Needs.{needs}
 use Rattle.mlg.proofs.fields.field_at.Statement.{statement}
 use Rattle.mlg.proofs.fields.field_at.Tie as tie
-use Rattle.mlgfile.specs.Area.{areaOf}
+use Rattle.mlg_rules.specs.Area.{areaOf}
 use Prim.Native.Nat.{_-_}
 use mathlib.Core.Path.{_∙_, ap}
 use native.Mathlib.Omega.{arith}
 use lib.ListN.{length, drop, length-drop}
 use lib.Seq.{length-take-le}
-use Rattle.field.specs.Layout.{fieldLen}
-use Rattle.mlgfile.specs.Fields.{fieldNumber}
-use Rattle.field.specs.Field.{fieldSize}
-use Rattle.field.proofs.Layouts.{field-least}
+use Rattle.mlg_rules.specs.Layout.{fieldLen}
+use Rattle.mlg_rules.specs.Fields.{fieldNumber}
+use Rattle.mlg_rules.specs.Field.{fieldSize}
+use Rattle.mlg_rules.proofs.Layouts.{field-least}
 use Rattle.wire.proofs.Parts.{part-is}
 
 field-len-requires : tie.Need-field-len-requires
@@ -29,10 +29,19 @@ part-d-end : tie.Need-part-d-end
 part-d-end c = omega (arith, field-least (c .before .before .before .before .args .version), c .field-len .ensures)
 
 field-number-requires : tie.Need-field-number-requires
-field-number-requires c κs = ap length (part-is (c .before .before .before .before .before .args .fields .now) (c .before .before .before .before .before .args .at) (c .before .field-len .result) (fieldLen (c .before .before .before .before .before .args .version)) (c .before .field-len .ensures)) ∙ length-take-le (fieldLen (c .before .before .before .before .before .args .version)) (drop (c .before .before .before .before .before .args .at) (c .before .before .before .before .before .args .fields .now)) (simp length-drop (omega arith))
+field-number-requires c κs =
+    let a = c .before .before .before .before .before .args in
+    let field-len = c .before .field-len in
+    ap length (part-is (a .fields .now) (a .at) (field-len .result) (fieldLen (a .version)) (field-len .ensures)) ∙ length-take-le (fieldLen (a .version))
+    (drop (a .at) (a .fields .now)) (simp length-drop (omega arith))
 
 shared-slice-read-size-of : tie.Need-shared-slice-read-size-of
-shared-slice-read-size-of c = let e = ap length (part-is (c .before .before .before .before .before .before .before .args .fields .now) (c .before .before .before .before .before .before .before .args .at) (c .before .before .before .field-len .result) (fieldLen (c .before .before .before .before .before .before .before .args .version)) (c .before .before .before .field-len .ensures)) ∙ length-take-le (fieldLen (c .before .before .before .before .before .before .before .args .version)) (drop (c .before .before .before .before .before .before .before .args .at) (c .before .before .before .before .before .before .before .args .fields .now)) (simp length-drop (omega arith)) in omega (arith, field-least (c .before .before .before .before .before .before .before .args .version))
+shared-slice-read-size-of c =
+    let a = c .before .before .before .before .before .before .before .args in
+    let field-len = c .before .before .before .field-len in
+    let e = ap length (part-is (a .fields .now) (a .at) (field-len .result) (fieldLen (a .version)) (field-len .ensures)) ∙ length-take-le
+    (fieldLen (a .version)) (drop (a .at) (a .fields .now)) (simp length-drop (omega arith)) in
+    omega (arith, field-least (a .version))
 
 size-of-requires : tie.Need-size-of-requires
 size-of-requires c κs = search needs
@@ -41,8 +50,14 @@ cast-total : tie.Need-cast-total
 cast-total c = search needs
 
 returns : tie.Need-returns
-returns c = let e = part-is (c .before .before .before .before .before .before .before .before .args .fields .now) (c .before .before .before .before .before .before .before .before .args .at) (c .before .before .before .before .field-len .result) (fieldLen (c .before .before .before .before .before .before .before .before .args .version)) (c .before .before .before .before .field-len .ensures) in
-    (c .before .before .field-number .ensures ∙ ap (fieldNumber (c .before .before .before .before .before .before .before .before .args .base) (areaOf (c .before .before .before .before .before .before .before .before .args .names .now) (c .before .before .before .before .before .before .before .before .args .info .now))) e, c .size-of .ensures ∙ ap fieldSize e)
+returns c =
+    let a = c .before .before .before .before .before .before .before .before .args in
+    let field-len = c .before .before .before .before .field-len in
+    let e = part-is (a .fields .now) (a .at) (field-len .result) (fieldLen (a .version)) (field-len .ensures) in (
+      c .before .before .field-number .ensures ∙ ap (fieldNumber (a .base) (areaOf (a .names .now) (a .info .now))) e,
+      c .size-of .ensures
+          ∙ ap fieldSize e,
+    )
 
 pub field-at-spec : {M : Type 1} → statement M
 field-at-spec =

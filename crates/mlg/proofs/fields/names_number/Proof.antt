@@ -2,7 +2,7 @@ use borrow.Author.Needs.{needs}
 use Rattle.mlg.proofs.fields.names_number.Statement.{statement}
 use Rattle.mlg.proofs.fields.names_number.Tie as tie
 use native.Mathlib.Omega.{arith}
-use Rattle.mlgfile.specs.Fields.{namesNumber}
+use Rattle.mlg_rules.specs.Fields.{namesNumber}
 use Rattle.wire.proofs.Orders.{order}
 
 shared-slice-read-t : tie.Need-shared-slice-read-t
@@ -44,11 +44,17 @@ lacks-names-requires c κs = search needs
 
 returns-5 : tie.Need-returns-5
 unfolding namesNumber
-returns-5 c = rw (← c .before .before .before .before .before .be32 .ensures, ← c .before .before .before .past-area .ensures, ← c .before .lacks-names .ensures) (search order depth 12)
+returns-5 c =
+    let be32 = c .before .before .before .before .before .be32 in
+    let past-area = c .before .before .before .past-area in
+    rw (← be32 .ensures, ← past-area .ensures, ← c .before .lacks-names .ensures) (search order depth 12)
 
 returns-6 : tie.Need-returns-6
 unfolding namesNumber
-returns-6 c = rw (← c .before .before .before .before .before .be32 .ensures, ← c .before .before .before .past-area .ensures, ← c .before .lacks-names .ensures) (search order depth 12)
+returns-6 c =
+    let be32 = c .before .before .before .before .before .be32 in
+    let past-area = c .before .before .before .past-area in
+    rw (← be32 .ensures, ← past-area .ensures, ← c .before .lacks-names .ensures) (search order depth 12)
 
 pub names-number-spec : {M : Type 1} → statement M
 names-number-spec =

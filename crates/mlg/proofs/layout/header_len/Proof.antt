@@ -2,7 +2,7 @@ use borrow.Author.Needs.{needs}
 use Rattle.mlg.proofs.layout.header_len.Statement.{statement}
 use Rattle.mlg.proofs.layout.header_len.Tie as tie
 use mathlib.Core.Path.{ap}
-use Rattle.field.specs.declared.Layout.{Layout}
+use Rattle.mlg_rules.specs.declared.Layout.{Layout}
 
 layout-of-requires : tie.Need-layout-of-requires
 layout-of-requires c κs = search needs

@@ -1,0 +1,85 @@
+-- The corollaries of demand 3, proved from it.
+use Prim.Native.Nat.{ℕ, _≤_, _<_}
+use mathlib.Core.Path.{_≡_, sym, _∙_, ap}
+use mathlib.Core.Logic.{_⊎_, inl, inr}
+use mathlib.Core.Bool.{true, false}
+use native.Mathlib.Omega.{arith}
+use native.Mathlib.Decide.{decLt}
+use Rattle.bridge_rules.specs.Answers.{plain}
+use Rattle.bridge_rules.specs.Opening.{isWrite}
+use Rattle.bridge_rules.specs.Run.{Run, Lawful, Transfer, Stands, Done, shownAt, chunks}
+use Rattle.bridge_rules.specs.Replies.{Replied, ThreeFailed, AllWritten}
+use Rattle.bridge_rules.specs.Demand3.{Claims}
+use Rattle.bridge_rules.specs.Corollaries.{Corollaries}
+use Rattle.bridge_rules.proofs.Search.{cases}
+use Rattle.bridge_rules.proofs.AskedSoFar.{failed-mono, read-so-far}
+use Rattle.bridge_rules.proofs.TableBytes.{table-since, taken-answers}
+use Rattle.bridge_rules.proofs.Demand3.{claims}
+
+three-stays : (r : Run) (x : Transfer r) (n n′ : ℕ) → n ≤ n′ → ThreeFailed r x n → ThreeFailed r x n′
+three-stays r x n n′ l f = record {
+  c = f .c;
+  j₁ = f .j₁;
+  j₂ = f .j₂;
+  j₃ = f .j₃;
+  order₁ = f .order₁;
+  order₂ = f .order₂;
+  first = failed-mono r x (f .c) (f .j₁) n n′ l (f .first);
+  second = failed-mono r x (f .c) (f .j₂) n n′ l (f .second);
+  third = failed-mono r x (f .c) (f .j₃) n n′ l (f .third);
+}
+
+written-stays : (r : Run) (x : Transfer r) (n n′ : ℕ) → n ≤ n′ → AllWritten r x n → AllWritten r x n′
+written-stays r x n n′ l a =
+    record { j = a .j; wrote = a .wrote; before = λ c h. omega (arith, a .before c h); order = a .order }
+
+-- one of each, as a function
+module _ (P : ℕ → ℕ → Type 0) (k : ℕ) (g : (c : ℕ) → c < k → (m : ℕ) × P c m) where
+  pick : (c : ℕ) → Dec (c < k) → ℕ
+  pick c (yes h) = g c h .0
+  pick c (no h) = 0
+
+  picked : (c : ℕ) (d : Dec (c < k)) → c < k → P c (pick c d)
+  unfolding pick
+  picked c (yes q) h = g c q .1
+  picked c (no q) h = absurd (q h)
+
+  choose : (f : ℕ → ℕ) × ((c : ℕ) → c < k → P c (f c))
+  choose = (λ c. pick c (decLt c k), λ c. picked c (decLt c k))
+
+module _ (r : Run) (w : Lawful r) (x : Transfer r) (n n′ : ℕ) (l : n ≤ n′) (s : Stands r x n) (s′ : Stands r x n′) where
+  now : Claims r x n
+  now = claims r w x n s
+
+  later : Claims r x n′
+  later = claims r w x n′ s′
+
+  got : isWrite (x .ask) ≡ false → Done r x n → (c : ℕ) → c < chunks r x → (m : ℕ) × (m < n) × Replied r x c m
+  got rd e = now .read rd .done .0 e
+
+  done-stays : Done r x n → Done r x n′
+  done-stays e = go (cases (isWrite (x .ask)))
+    where
+      go : (isWrite (x .ask) ≡ true) ⊎ (isWrite (x .ask) ≡ false) → Done r x n′
+      go (inl wr) = later .written wr .1 (written-stays r x n n′ l (now .written wr .0 e))
+      go (inr rd) = later .read rd .done .1 (λ c h. let g = got rd e c h in (g .0, omega (arith, g .1), g .2))
+
+  shown-stays : Done r x n → shownAt r x n′ ≡ shownAt r x n
+  shown-stays e = go (cases (isWrite (x .ask)))
+    where
+      go : (isWrite (x .ask) ≡ true) ⊎ (isWrite (x .ask) ≡ false) → shownAt r x n′ ≡ shownAt r x n
+      go (inl wr) = later .shownOfWrite wr ∙ ap plain (done-stays e ∙ sym e) ∙ sym (now .shownOfWrite wr)
+      go (inr rd) =
+          let g = choose (λ c m. (m < n) × Replied r x c m) (chunks r x) (λ c h. let z = got rd e c h in (z .0, (z .1, z .2))) in
+          later .read rd .shown (g .0) (λ c h. (omega (arith, g .1 c h .0), g .1 c h .1)) ∙ sym (now .read rd .shown (g .0) (g .1))
+
+pub corollaries : Corollaries
+corollaries = record {
+  endedStays = λ r w x n n′ l s s′. record {
+    done = done-stays r w x n n′ l s s′;
+    givenUp = λ e. claims r w x n′ s′ .gaveUp .1 (three-stays r x n n′ l (claims r w x n s .gaveUp .0 e));
+    shown = shown-stays r w x n n′ l s s′;
+  };
+  narrowMeanwhile = λ r w x n s rd e t a un. table-since r w x n t a un s (read-so-far r w x rd n s) e;
+  takenAnswers = λ r w x n t a. taken-answers r w x n t a;
+}

@@ -1,0 +1,43 @@
+-- A proof by computation says `unfolding bus`, and so opens every definition of the bus, and those of wire that they stand on.
+use Rattle.wire.specs.Order.{_if_else_, _orElse_}
+use Rattle.wire.specs.Answer.{answer, result}
+use Rattle.bus_rules.specs.Ident.{idSpare, idTable, idTo, idFrom, idKind, idOffset, idOf, partsOf, inRows, packNumber, packOf}
+use Rattle.bus_rules.specs.Ident.{unpackNumber, unpackOf}
+use Rattle.bus_rules.specs.Frames.{content, padded, frameWith, buildOf, noFrame, headNumber, receiveNumber, readHeadOf}
+use Rattle.bus_rules.specs.Request.{requestOf, reserved, readNumber, readRequestOf, request, requestBytesNumber, wroteRequest, requestBytesOf}
+use Rattle.bus_rules.specs.Device.{sizeOf, rightOf, startOf, totalOf, soundTables, soundDirectory, directoryNumber, lengthNumber}
+use Rattle.bus_rules.specs.Device.{memoryNumber, rangeOf}
+use Rattle.bus_rules.specs.Holder.{commandNumber, requestNumber, queryNumber, byteOf, requestAt, reservedAt, byKind, kindNumber, serveNumber}
+use Rattle.bus_rules.specs.Holder.{noAnswer, answerWith, replyTo, placeOf, protocol, actOf, storing, actAfter, servedBy, afterBy, serveOf, deviceAfter}
+
+unfoldable pub orders : Unit {0}
+unfolding _if_else_ _orElse_ answer result
+orders = tt
+
+unfoldable pub identifiers : Unit {0}
+unfolding idSpare idTable idTo idFrom idKind idOffset idOf partsOf inRows packNumber packOf unpackNumber unpackOf
+identifiers = tt
+
+unfoldable pub frames : Unit {0}
+unfolding content padded frameWith buildOf noFrame headNumber receiveNumber readHeadOf
+frames = tt
+
+unfoldable pub requests : Unit {0}
+unfolding requestOf reserved readNumber readRequestOf request requestBytesNumber wroteRequest requestBytesOf
+requests = tt
+
+unfoldable pub devices : Unit {0}
+unfolding sizeOf rightOf startOf totalOf soundTables soundDirectory directoryNumber lengthNumber memoryNumber rangeOf
+devices = tt
+
+unfoldable pub numbers : Unit {0}
+unfolding commandNumber requestNumber queryNumber byteOf requestAt reservedAt byKind kindNumber serveNumber
+numbers = tt
+
+unfoldable pub answers : Unit {0}
+unfolding noAnswer answerWith replyTo placeOf protocol actOf storing actAfter servedBy afterBy serveOf deviceAfter
+answers = tt
+
+unfoldable pub bus : Unit {0}
+unfolding orders identifiers frames requests devices numbers answers
+bus = tt

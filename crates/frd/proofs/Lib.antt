@@ -1,9 +1,0 @@
-pub mod Cases
-pub mod Alone
-pub mod Walks
-pub mod Heads
-pub mod Puts
-pub mod Backs
-pub mod Logs
-pub mod Same
-pub mod Places

@@ -1,0 +1,20 @@
+use borrow.Author.Needs.{needs}
+use Rattle.frd.proofs.block_reading.block_len.Statement.{statement}
+use Rattle.frd.proofs.block_reading.block_len.Tie as tie
+use mathlib.Core.Path.{sym}
+use Rattle.frd_rules.proofs.BlockLaws.{data-len, time-len, no-len}
+
+add-result : tie.Need-add-result
+add-result c = search needs
+
+returns : tie.Need-returns
+returns c = sym (data-len _ _ (c .if1 .taken))
+
+returns-2 : tie.Need-returns-2
+returns-2 c = sym (time-len _ _ (c .if2 .taken))
+
+returns-3 : tie.Need-returns-3
+returns-3 c = sym (no-len _ _ (c .before .if1 .left) (c .if2 .left))
+
+pub block-len-spec : {M : Type 1} → statement M
+block-len-spec = tie.close (tie.spec add-result returns returns-2 returns-3)

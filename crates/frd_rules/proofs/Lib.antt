@@ -1,0 +1,11 @@
+pub mod HeaderLaws
+pub mod BlockLaws
+pub mod WritingLaws
+pub mod LogLaws
+pub mod TallyLaws
+pub mod BlockAlone
+pub mod HeaderBack
+pub mod BlockBack
+pub mod LogBack
+pub mod LogPlaced
+pub mod LogSame

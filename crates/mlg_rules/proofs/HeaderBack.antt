@@ -1,0 +1,215 @@
+-- A header that was written, followed by any bytes, reads back as given.
+use Prim.Native.Nat.{ℕ, _+_, _*_, _-_, _/_, _%_, _^_, _≤_, _<_}
+use mathlib.Core.Path.{_≡_, refl, sym, ap, _∙_}
+use mathlib.Core.Bool.{Bool, true, false}
+use mathlib.Core.List.{List, [], _∷_, _++_, append-assoc}
+use native.Mathlib.Omega.{arith}
+use borrow.Author.Tests.{le-ltb, lt-leb, eq-eqb, ne-eqb}
+use lib.Dec.{eqb}
+use lib.ListN.{length, take, drop, length-append}
+use lib.Seq.{take-at, drop-at, drop-drop}
+use Rattle.wire.specs.Order.{_if_else_}
+use Rattle.wire.specs.Text.{textLen}
+use Rattle.wire.proofs.Numbers.{be-back}
+use Rattle.wire.proofs.Answers.{stands}
+use Rattle.wire.proofs.Orders.{if-yes, if-no, not-no, else-none}
+use Rattle.wire.proofs.Texts.{text-back, text-most}
+use Rattle.mlg_rules.specs.Layout.{served, layoutOf, headerLen, fieldLen}
+use Rattle.mlg_rules.specs.Area.{ended, areaOf, infoStart}
+use Rattle.mlg_rules.specs.Fields.{sizes}
+use Rattle.mlg_rules.specs.Header.{numbersOf, fieldsEnd, nameNumber, placesNumber, lastNumber, bodyNumber, areaIn, readHeaderNumber, readHeaderOf}
+use Rattle.mlg_rules.specs.Writing.{numberBytes, headerFor, headerBytes}
+use Rattle.mlg_rules.specs.Parts.{fieldsIn, namesEnd, namesIn, infoLength, infoIn}
+use Rattle.mlg_rules.specs.RoundTrip.{HeaderBack}
+use Rattle.mlg_rules.specs.declared.Header.{Header}
+use Rattle.mlg_rules.specs.declared.Head.the-variants.{Is, Refused}
+use Rattle.mlg_rules.proofs.Areas.{area-length, ended-some}
+use Rattle.mlg_rules.proofs.EachField.{fields-alone, sizes-alone}
+use Rattle.mlg_rules.proofs.Fits.{Fit, fit, fields-end}
+use Rattle.mlg_rules.proofs.HeaderBytes.{first-length, number-length, header-length, header-fits, start-most}
+use Rattle.mlg_rules.proofs.Layouts.{header-two, fields-fit}
+
+-- the numbers
+numbers-in : (t i b s n : ℕ) (r : List ℕ) → t < 256 ^ 4 → i < 256 ^ 4 → b < 256 ^ 4 → s < 256 ^ 2 → n < 256 ^ 2
+    → numbersOf (numberBytes (record { version = 2; time = t; info = i; begin = b; size = s; count = n }) ++ r)
+    ≡ record { version = 2; time = t; info = i; begin = b; size = s; count = n }
+unfolding numberBytes numbersOf layoutOf
+numbers-in t i b s n r ht hi hb hs hn =
+    let et = be-back 4 t ht in
+    let ei = be-back 4 i hi in
+    let eb = be-back 4 b hb in
+    let es = be-back 2 s hs in
+    let en = be-back 2 n hn in
+    cc
+
+-- the name and the version
+name-in : (t i b s n : ℕ) (r : List ℕ) → 0 ≡ nameNumber (numberBytes (record { version = 2; time = t; info = i; begin = b; size = s; count = n }) ++ r)
+unfolding nameNumber numberBytes served layoutOf
+name-in t i b s n r =
+    let h : Header = record { version = 2; time = t; info = i; begin = b; size = s; count = n } in
+    let k : 24 ≤ length (numberBytes h ++ r) = omega (arith, length-append (numberBytes h) r, number-length h) in
+    if-no 20 _ _ 0 (le-ltb (length (numberBytes h ++ r)) 24 k)
+    (if-no 21 _ _ 0 (not-no _ refl) (if-no 22 _ _ 0 (not-no _ refl) refl))
+
+-- what follows the fields does not matter to their checks
+pub body-alone : (h : Header) (t r a : List ℕ) → fieldLen (h .version) * h .count ≤ length t → bodyNumber h (t ++ r) a ≡ bodyNumber h t a
+unfolding bodyNumber lastNumber
+body-alone h t r a k = rw (fields-alone (h .version) (fieldsEnd h) a (h .count) t r k, sizes-alone (h .version) (h .count) t r k)
+
+zero-or : (x : Bool) (r : ℕ) → 0 ≡ r → 0 ≡ (0 if x else r)
+unfolding _if_else_
+zero-or true r e = refl
+zero-or false r e = e
+
+module _ (v time : ℕ) (fields names : List ℕ) (n : ℕ) (h : length fields % fieldLen v ≡ 0) where
+  places-in : (info : List ℕ) → headerLen v + length fields + length (areaOf names info) ≤ n → 0 ≡ placesNumber n (headerFor v time fields names info)
+  unfolding placesNumber headerFor
+  places-in [] k =
+      let e = fields-end v time fields names [] h in
+      let a = area-length names [] in
+      if-no 20 _ _ 0 (le-ltb n (fieldsEnd (headerFor v time fields names [])) (omega arith))
+      (if-no 23 _ _ 0 (le-ltb (headerLen v + length fields + length (areaOf names [])) (fieldsEnd (headerFor v time fields names [])) (omega arith))
+      (if-no 23 _ _ 0 (le-ltb n (headerLen v + length fields + length (areaOf names [])) k)
+      (if-yes 0 _ _ (eq-eqb 0 0 refl))))
+  places-in (b ∷ bs) k =
+      let e = fields-end v time fields names (b ∷ bs) h in
+      let a = area-length names (b ∷ bs) in
+      let end = fieldsEnd (headerFor v time fields names (b ∷ bs)) in
+      let info = headerLen v + length fields + length names in
+      let begin = headerLen v + length fields + length (areaOf names (b ∷ bs)) in
+      if-no 20 _ _ 0 (le-ltb n end (omega arith))
+      (if-no 23 _ _ 0 (le-ltb begin end (omega arith))
+      (if-no 23 _ _ 0 (le-ltb n begin k)
+      (zero-or (eqb info 0) _ (if-no 23 _ _ 0 (le-ltb info end (omega arith)) (if-no 23 _ _ 0 (lt-leb begin info (omega arith)) refl)))))
+
+-- the names stop where info starts, or at data begin
+stop-at : (time : ℕ) (fields names info : List ℕ)
+    → namesEnd (headerFor 2 time fields names info) ≡ headerLen 2 + length fields + length names
+unfolding headerFor namesEnd
+stop-at time fields names [] = omega (arith, area-length names [])
+stop-at time fields names (b ∷ bs) =
+    let start = headerLen 2 + length fields + length names in
+    let z : eqb start 0 ≡ false = ne-eqb start 0 (λ w. omega (arith, header-two)) in
+    rw z
+
+module _ (time : ℕ) (fields names info rest : List ℕ) where
+  abbrev pub log : List ℕ
+  log = headerBytes 2 time fields names info ++ rest
+
+  abbrev head : Header
+  head = headerFor 2 time fields names info
+
+  after-numbers : log ≡ numberBytes head ++ (fields ++ (areaOf names info ++ rest))
+  unfolding headerBytes
+  after-numbers = simp append-assoc
+
+  after-fields : log ≡ (numberBytes head ++ fields) ++ (areaOf names info ++ rest)
+  after-fields = after-numbers ∙ sym (append-assoc (numberBytes head) fields (areaOf names info ++ rest))
+
+  fields-at : length (numberBytes head ++ fields) ≡ headerLen 2 + length fields
+  fields-at = length-append (numberBytes head) fields ∙ rw (first-length 2 time fields names info)
+
+  drop-numbers : drop (headerLen 2) log ≡ fields ++ (areaOf names info ++ rest)
+  drop-numbers = rw after-numbers (drop-at (numberBytes head) (fields ++ (areaOf names info ++ rest)) (headerLen 2) (first-length 2 time fields names info))
+
+  drop-fields : drop (headerLen 2 + length fields) log ≡ areaOf names info ++ rest
+  drop-fields = rw after-fields (drop-at (numberBytes head ++ fields) (areaOf names info ++ rest) (headerLen 2 + length fields) fields-at)
+
+  area-in : length fields % fieldLen 2 ≡ 0 → areaIn log head ≡ areaOf names info
+  unfolding areaIn headerFor
+  area-in h =
+      let e = fields-end 2 time fields names info h in
+      let l : length (areaOf names info) ≡ headerLen 2 + length fields + length (areaOf names info) - (headerLen 2 + length fields) = omega arith in
+      rw (e, drop-fields) (take-at (areaOf names info) rest (headerLen 2 + length fields + length (areaOf names info) - (headerLen 2 + length fields)) l)
+
+  numbers-of : time < 256 ^ 4 → Fit 2 fields names info → numbersOf log ≡ head
+  unfolding headerFor
+  numbers-of t f =
+      let start = headerLen 2 + length fields + length names in
+      rw after-numbers
+      (numbers-in time (infoStart start info) (headerLen 2 + length fields + length (areaOf names info)) (sizes 2 (length fields / fieldLen 2) fields)
+      (length fields / fieldLen 2) (fields ++ (areaOf names info ++ rest)) t (omega (arith, start-most start info, area-length names info, f .file))
+      (omega (arith, f .file)) (omega (arith, f .small)) (omega (arith, f .few)))
+
+  name-of : 0 ≡ nameNumber log
+  unfolding headerFor
+  name-of =
+      rw after-numbers
+      (name-in time (infoStart (headerLen 2 + length fields + length names) info) (headerLen 2 + length fields + length (areaOf names info))
+      (sizes 2 (length fields / fieldLen 2) fields) (length fields / fieldLen 2) (fields ++ (areaOf names info ++ rest)))
+
+  count-fits : fieldLen (head .version) * head .count ≤ length fields
+  unfolding headerFor
+  count-fits = fields-fit 2 (length fields)
+
+  drop-head : bodyNumber head (drop (headerLen (head .version)) log) (areaIn log head) ≡ bodyNumber head (drop (headerLen 2) log) (areaIn log head)
+  unfolding headerFor
+  drop-head = refl
+
+  body-in : Fit 2 fields names info → bodyNumber head (drop (headerLen 2) log) (areaIn log head) ≡ bodyNumber head fields (areaOf names info)
+  body-in f = rw (drop-numbers, area-in (f .whole)) (body-alone head fields (areaOf names info ++ rest) (areaOf names info) count-fits)
+
+  number-of : time < 256 ^ 4 → Fit 2 fields names info → bodyNumber head fields (areaOf names info) ≡ 0 → 0 ≡ readHeaderNumber log
+  unfolding readHeaderNumber
+  number-of t f z =
+      let long = length-append (headerBytes 2 time fields names info) rest in
+      let places = places-in 2 time fields names (length log) (f .whole) info (omega (arith, long, header-length 2 time fields names info)) in
+      rw (numbers-of t f) (else-none _ _ 0 0 name-of refl (else-none _ _ 0 0 places refl (sym (drop-head ∙ body-in f ∙ z))))
+
+  -- the reader answers exactly the numbers written
+  header-read : time < 256 ^ 4 → Fit 2 fields names info → bodyNumber head fields (areaOf names info) ≡ 0 → readHeaderOf log ≡ Is head
+  unfolding readHeaderOf
+  header-read t f z = sym (stands Is Refused (readHeaderNumber log) (numbersOf log) head (sym (number-of t f z)) (sym (numbers-of t f)))
+
+  -- and the parts are as given
+  fields-back : Fit 2 fields names info → fieldsIn log head ≡ fields
+  unfolding fieldsIn headerFor
+  fields-back f =
+      let l : length fields ≡ headerLen 2 + length fields - headerLen 2 = omega arith in
+      rw (fields-end 2 time fields names info (f .whole), drop-numbers)
+      (take-at fields (areaOf names info ++ rest) (headerLen 2 + length fields - headerLen 2) l)
+
+  names-part : take (length names) (areaOf names info ++ rest) ≡ names
+  unfolding areaOf
+  names-part = rw (append-assoc names (ended info) rest) (take-at names (ended info ++ rest) (length names) refl)
+
+  info-part : drop (headerLen 2 + length fields + length names) log ≡ ended info ++ rest
+  unfolding areaOf
+  info-part =
+      sym (drop-drop (length names) (headerLen 2 + length fields) log)
+      ∙ ap (drop (length names)) (drop-fields ∙ append-assoc names (ended info) rest)
+      ∙ drop-at names (ended info ++ rest) (length names) refl
+
+  names-back : Fit 2 fields names info → namesIn log head ≡ names
+  unfolding namesIn
+  names-back f =
+      let l : headerLen 2 + length fields + length names - (headerLen 2 + length fields) ≡ length names = omega arith in
+      rw (stop-at time fields names info, fields-end 2 time fields names info (f .whole), drop-fields, l) names-part
+
+text-at : (l info rest : List ℕ) → l ≡ ended info ++ rest → (length info ≡ 0 → ⊥) → textLen info ≡ length info → take (textLen l) l ≡ info
+text-at l info rest p h t =
+    let e : l ≡ info ++ (0 ∷ rest) = p ∙ ap (λ (k : List ℕ). k ++ rest) (ended-some info h) ∙ append-assoc info (0 ∷ []) rest in
+    rw (e, text-back info rest t) (take-at info (0 ∷ rest) (length info) refl)
+
+info-back : (time : ℕ) (fields names info rest : List ℕ) → Fit 2 fields names info
+    → infoIn (log time fields names info rest) (headerFor 2 time fields names info) ≡ info
+unfolding infoIn infoLength headerFor
+info-back time fields names [] rest f = refl
+info-back time fields names (b ∷ bs) rest f =
+    let start = headerLen 2 + length fields + length names in
+    let z : eqb start 0 ≡ false = ne-eqb start 0 (λ w. omega (arith, header-two)) in
+    let t : textLen (b ∷ bs) ≡ length (b ∷ bs) = omega (arith, text-most (b ∷ bs), f .text) in
+    let part = info-part time fields names (b ∷ bs) rest in
+    rw z (text-at (drop start (log time fields names (b ∷ bs) rest)) (b ∷ bs) rest part (λ w. omega arith) t)
+
+pub header-back : HeaderBack
+unfolding HeaderBack
+header-back time fields names info rest room t z =
+    let a = header-fits 2 time fields names info room z in
+    let f = fit 2 fields names info (a .0) in
+    record {
+      numbers = header-read time fields names info rest (omega arith) f (a .1);
+      same-fields = fields-back time fields names info rest f;
+      same-names = names-back time fields names info rest f;
+      same-info = info-back time fields names info rest f;
+    }

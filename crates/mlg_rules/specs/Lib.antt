@@ -1,0 +1,14 @@
+pub mod Layout
+pub mod Types
+pub mod Field
+pub mod Raw
+pub mod Shown
+pub mod Area
+pub mod Fields
+pub mod Header
+pub mod Block
+pub mod Writing
+pub mod Parts
+pub mod Log
+pub mod Entries
+pub mod RoundTrip

@@ -1,9 +1,0 @@
-pub mod Area
-pub mod Fields
-pub mod Header
-pub mod Block
-pub mod Writing
-pub mod Parts
-pub mod Log
-pub mod Entries
-pub mod RoundTrip
