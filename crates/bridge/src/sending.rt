@@ -6,12 +6,14 @@ ghost use Prim.Native.Nat.{_+_, _≤_, _<_};
 ghost use mathlib.Core.Path.{_≡_};
 ghost use lib.ListN.{length};
 ghost use Rattle.bus_rules.specs.Ident.{idOf};
+ghost use Rattle.bus_rules.specs.Frames.{frameWith};
 ghost use Rattle.bridge_rules.specs.Turn.{readFrame, writeFrame, sentFrame};
 
-// The identifier of a slot's next frame, of a type.
-fn identifier(own: u8, kind: u8, x: Slot) -> u32
-    requires { ⌜ (own ≤ 15) × (kind ≤ 7) × (x .device ≤ 15) × (x .table ≤ 31) × (x .offset + x .progress ≤ 2047) ⌝ }
-    ensures { λ r. ⌜ r ≡ idOf (x .offset + x .progress) kind own (x .device) (x .table) ⌝ }
+// A frame for a slot's next bytes, of a type and with these bytes.
+fn next_frame(own: u8, kind: u8, x: Slot, bytes: &[u8]) -> bus::Frame
+    requires { ⌜ (own ≤ 15) × (kind ≤ 7) × (x .device ≤ 15) × (x .table ≤ 31) × (x .offset + x .progress ≤ 2047)
+        × (length (now bytes) ≤ 8) ⌝ }
+    ensures { λ r. ⌜ r ≡ frameWith (idOf (x .offset + x .progress) kind own (x .device) (x .table)) (now (bytes .entry)) ⌝ }
 {
     let parts = bus::Parts {
         offset: x.offset + x.progress as u16,
@@ -20,11 +22,7 @@ fn identifier(own: u8, kind: u8, x: Slot) -> u32
         to: x.device,
         table: x.table,
     };
-    // The parts are in range, so they pack.
-    let bus::Packed::Is(id) = bus::ident::pack(parts) else {
-        return 0;
-    };
-    id
+    bus::frames::build(parts, bytes)
 }
 
 // The REQ of a read in slot k.
@@ -33,21 +31,14 @@ fn read_frame(own: u8, k: usize, x: Slot) -> bus::Frame
         × (x .count ≤ 128) × (x .offset + x .count ≤ 2048) ⌝ }
     ensures { λ r. ⌜ r ≡ readFrame own k x ⌝ }
 {
-    let id = identifier(own, bus::REQ, x);
-    let n = next_len(x.count, x.progress);
     let request = bus::Request {
         table: 6,
-        count: n,
+        count: next_len(x.count, x.progress),
         offset: (128 * k) as u16 + x.progress as u16,
     };
     let asked = bus::requests::request_bytes(request);
     let three = asked.bytes;
-    let bytes = [three[0], three[1], three[2], 0, 0, 0, 0, 0];
-    bus::Frame {
-        id: id,
-        len: 3,
-        bytes: bytes,
-    }
+    next_frame(own, bus::REQ, x, &three)
 }
 
 // The CMD of a write in slot k, with the next of its bytes.
@@ -56,16 +47,9 @@ fn write_frame(own: u8, k: usize, x: Slot, buffer: &[u8]) -> bus::Frame
         × (x .count ≤ 128) × (x .offset + x .count ≤ 2048) × (length (now buffer) ≡ 512) ⌝ }
     ensures { λ r. ⌜ r ≡ writeFrame own k x (now (buffer .entry)) ⌝ }
 {
-    let id = identifier(own, bus::CMD, x);
-    let n = next_len(x.count, x.progress);
     let start = 128 * k + x.progress as usize;
-    let end = start + n as usize;
-    let bytes = bus::frames::padded(&buffer[start..end]);
-    bus::Frame {
-        id: id,
-        len: n,
-        bytes: bytes,
-    }
+    let end = start + next_len(x.count, x.progress) as usize;
+    next_frame(own, bus::CMD, x, &buffer[start..end])
 }
 
 // What a ready slot k sends.

@@ -1,5 +1,4 @@
 -- What a call answers, and what the code's calls hand back of it.
--- what a call answers: a number, an opening's ticket, a turn's frame, the bytes call's part
 use Prim.Native.Nat.{ℕ}
 use mathlib.Core.List.{List, []}
 use mathlib.Core.Option.{Option, none, some}
@@ -15,6 +14,7 @@ pub use Rattle.bridge_rules.specs.declared.Stepped.{Stepped}
 pub use Rattle.bridge_rules.specs.declared.Yielded.{Yielded}
 use Rattle.bridge_rules.specs.State.{sound}
 
+-- what a call answers: a number, an opening's ticket, a turn's frame, the bytes call's part
 pub record Answer : Type 0 where
   pub number : ℕ
   pub ticket : ℕ

@@ -1,5 +1,4 @@
 -- A call with its arguments, and what it does to the bridge and its buffer.
--- where a call takes a buffer: the bridge's own, or another
 use Prim.Native.Nat.{ℕ}
 use mathlib.Core.List.{List}
 use Rattle.bus_rules.specs.declared.Frame.{Frame}
@@ -11,6 +10,7 @@ use Rattle.bridge_rules.specs.Turn.{turnOf}
 use Rattle.bridge_rules.specs.Incoming.{frameOf}
 use Rattle.bridge_rules.specs.Ending.{statusOf, bytesOf, closeOf, resetOf}
 
+-- where a call takes a buffer: the bridge's own, or another
 pub data Lent : Type 0 where
   itsOwn : Lent
   other : List ℕ → Lent

@@ -1,5 +1,4 @@
 -- 01 "Bridge": status, bytes, closing and reset.
--- of a held slot: 0 done, 16 gave up, 15 not finished. Done write means sent, no more
 use Prim.Native.Nat.{ℕ, _*_}
 use mathlib.Core.List.{List}
 use mathlib.Core.Option.{none}
@@ -13,6 +12,7 @@ use Rattle.bridge_rules.specs.declared.Changed.{Changed}
 use Rattle.bridge_rules.specs.State.{done, gaveUp, asks, blank, slot, fresh, withSlots, sound, heldSlot, isNone, orZero}
 use Rattle.bridge_rules.specs.Answers.{Answer, changedBy}
 
+-- of a held slot: 0 done, 16 gave up, 15 not finished. Done write means sent, no more
 unfoldable pub phaseNumber : ℕ → ℕ
 phaseNumber phase = 0 if eqb phase done else 16 if eqb phase gaveUp else 15
 

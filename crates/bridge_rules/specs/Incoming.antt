@@ -1,5 +1,4 @@
 -- 01 "Bridge": an incoming frame.
--- of an incoming frame: 1, 2, 3, 4, 5 (only RSP served)
 use Prim.Native.Nat.{ℕ, _+_, _*_}
 use mathlib.Core.List.{List}
 use mathlib.Core.Option.{Option}
@@ -16,6 +15,7 @@ use Rattle.bridge_rules.specs.State.{isWaiting, slot, withSlots, firstSl
 use Rattle.bridge_rules.specs.Answers.{Result, plain, unless, lentNumber}
 use Rattle.bridge_rules.specs.Turn.{chunkLen, advanced}
 
+-- of an incoming frame: 1, 2, 3, 4, 5 (only RSP served)
 unfoldable pub contentNumber : ℕ → Frame → ℕ
 contentNumber own f = headNumber own f orElse (5 if not (eqb (idKind (f .id)) rsp) else 0)
 

@@ -1,5 +1,4 @@
 -- 01 "Bridge": a turn.
--- a waiting read one turn on: 20 turns after a send it is ready again, or after its third send has given up
 use Prim.Native.Nat.{ℕ, suc, _+_, _*_, _-_, min}
 use mathlib.Core.List.{List, [], map}
 use mathlib.Core.Option.{Option, none, some}
@@ -15,6 +14,7 @@ use Rattle.bridge_rules.specs.declared.Slot.{Slot}
 use Rattle.bridge_rules.specs.State.{ready, waiting, done, gaveUp, isWaiting, asks, carries, slot, withSlots, moved, nextReady}
 use Rattle.bridge_rules.specs.Answers.{Result, plain, unless, lentNumber}
 
+-- a waiting read one turn on: 20 turns after a send it is ready again, or after its third send has given up
 unfoldable pub ticked : Slot → Slot
 ticked x =
     moved x (cond (leb (x .left) 1) (cond (leb 3 (x .sends)) gaveUp ready) waiting) (x .progress) (x .sends) (x .left - 1)

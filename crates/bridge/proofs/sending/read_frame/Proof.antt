@@ -1,69 +1,71 @@
 use borrow.Author.Needs.{needs}
 use Rattle.bridge.proofs.sending.read_frame.Statement.{statement}
 use Rattle.bridge.proofs.sending.read_frame.Tie as tie
-use mathlib.Core.Path.{_∙_}
+use Prim.Native.Nat.{_+_, _*_}
+use mathlib.Core.Path.{_≡_, _∙_, ap}
+use lib.ListN.{length}
 use native.Mathlib.Omega.{arith}
-use Rattle.bus_rules.specs.Frames.{frameWith, padded}
 use Rattle.bus_rules.specs.Request.{request}
+use Rattle.bus_rules.specs.declared.RequestBytes.{RequestBytes}
 use Rattle.bridge_rules.specs.Turn.{readFrame}
-use Rattle.bridge.proofs.SentFrames.{requests}
 use Rattle.bridge_rules.proofs.FrameLaws.{len-eight}
+use Rattle.bridge.proofs.SentFrames.{requests}
 
-identifier-requires : tie.Need-identifier-requires
-identifier-requires c κs = search needs
+-- the request's three bytes
+asked : (c : tie.After-request-bytes)
+    → let s = c .before .before .before in
+    c .request-bytes .result
+    ≡ record { number = 0; bytes = request 6 (128 * s .args .k + s .args .x .progress) (c .before .before .next-len .result) }
+asked c =
+    let n = c .before .before in
+    let x = n .before .args .x in
+    c .request-bytes .ensures .0
+    ∙ requests _ (omega arith) (omega (arith, n .next-len .ensures, len-eight (x .count) (x .progress))) (omega arith)
 
 next-len-requires : tie.Need-next-len-requires
 next-len-requires c κs = search needs
 
-mul-t10 : tie.Need-mul-t10
-mul-t10 c = search needs
+mul-t8 : tie.Need-mul-t8
+mul-t8 c = search needs
 
-cast-t11 : tie.Need-cast-t11
-cast-t11 c = search needs
+cast-t9 : tie.Need-cast-t9
+cast-t9 c = search needs
 
-cast-t12 : tie.Need-cast-t12
-cast-t12 c = search needs
+cast-t10 : tie.Need-cast-t10
+cast-t10 c = search needs
 
-add-t13 : tie.Need-add-t13
-add-t13 c = search needs
+add-t11 : tie.Need-add-t11
+add-t11 c = search needs
 
 request-bytes-requires : tie.Need-request-bytes-requires
 request-bytes-requires c κs = search needs
 
-array-read-t16 : tie.Need-array-read-t16
-array-read-t16 c = search needs
+slice-aggregate-next-frame : tie.Need-slice-aggregate-next-frame
+slice-aggregate-next-frame c = search needs
 
-array-read-t19 : tie.Need-array-read-t19
-array-read-t19 c = search needs
-
-array-read-t22 : tie.Need-array-read-t22
-array-read-t22 c = search needs
+next-frame-requires : tie.Need-next-frame-requires
+unfolding request
+next-frame-requires c κs =
+    let s = c .before .before .before .before .before in
+    let three = ap (λ (r : RequestBytes). length (r .bytes)) (asked (c .before .before)) in
+    (s .pre .0, omega arith, s .pre .2, s .pre .3, omega (arith, s .pre .4, s .pre .6), omega (arith, three))
 
 returns : tie.Need-returns
-unfolding readFrame frameWith padded request
+unfolding readFrame
 returns c =
-    let n = c .before .before .before in
-    let x = n .before .before .args .x in
-    let few = n .next-len .ensures in
-    let asked = c .before .request-bytes .ensures .0 in
-    rw (
-      n .before .identifier .ensures,
-      asked ∙ requests _ (omega arith) (omega (arith, few, len-eight (x .count) (x .progress))) (omega arith),
-      few,
-    )
+    let n = c .before .before .before .before .before in
+    rw (c .next-frame .ensures, asked (c .before .before .before), n .next-len .ensures)
 
 pub read-frame-spec : {M : Type 1} → statement M
 read-frame-spec =
     tie.close
     (tie.spec
-    identifier-requires
     next-len-requires
-    mul-t10
-    cast-t11
-    cast-t12
-    add-t13
+    mul-t8
+    cast-t9
+    cast-t10
+    add-t11
     request-bytes-requires
-    array-read-t16
-    array-read-t19
-    array-read-t22
+    slice-aggregate-next-frame
+    next-frame-requires
     returns)

@@ -1,17 +1,12 @@
 use borrow.Author.Needs.{needs}
 use Rattle.bridge.proofs.sending.write_frame.Statement.{statement}
 use Rattle.bridge.proofs.sending.write_frame.Tie as tie
+use Prim.Native.Nat.{_+_, _*_}
 use native.Mathlib.Omega.{arith}
-use Rattle.bus_rules.specs.Frames.{frameWith}
 use Rattle.bus_rules.proofs.FrameLaws.{part-is}
 use Rattle.bridge_rules.specs.Turn.{writeFrame, outgoing}
-use Rattle.bridge.proofs.SentFrames.{goes-inside, goes-length}
-
-identifier-requires : tie.Need-identifier-requires
-identifier-requires c κs = search needs
-
-next-len-requires : tie.Need-next-len-requires
-next-len-requires c κs = search needs
+use Rattle.bridge_rules.proofs.FrameLaws.{len-eight}
+use Rattle.bridge.proofs.SentFrames.{goes-inside, part-short}
 
 mul-start : tie.Need-mul-start
 mul-start c = search needs
@@ -22,48 +17,53 @@ cast-start c = search needs
 add-start : tie.Need-add-start
 add-start c = search needs
 
+next-len-requires : tie.Need-next-len-requires
+next-len-requires c κs = search needs
+
 cast-end : tie.Need-cast-end
 cast-end c = search needs
 
 add-end : tie.Need-add-end
 add-end c = search needs
 
-sub-padded : tie.Need-sub-padded
-sub-padded c = search needs
+sub-next-frame : tie.Need-sub-next-frame
+sub-next-frame c = search needs
 
-part-padded-start : tie.Need-part-padded-start
-part-padded-start c = search needs
+part-next-frame-start : tie.Need-part-next-frame-start
+part-next-frame-start c = search needs
 
-part-padded-end : tie.Need-part-padded-end
-part-padded-end c =
-    let s = c .before .before .before .before in
+part-next-frame-end : tie.Need-part-next-frame-end
+part-next-frame-end c =
+    let s = c .before .before .before in
     let inside = goes-inside (s .args .k) (s .args .x) (s .args .buffer .now) (s .pre .1) (s .pre .4) (s .pre .5) (s .pre .7) in
-    omega (arith, c .before .next-len .ensures, inside)
+    omega (arith, c .next-len .ensures, inside)
 
-padded-requires : tie.Need-padded-requires
-padded-requires c κs = search needs
+next-frame-requires : tie.Need-next-frame-requires
+next-frame-requires c κs =
+    let s = c .before .before .before .before in
+    let x = s .args .x in
+    let short = part-short (s .args .buffer .now) (128 * s .args .k + x .progress) (c .before .next-len .result)
+    (omega (arith, c .before .next-len .ensures, len-eight (x .count) (x .progress))) in
+    (s .pre .0, omega arith, s .pre .2, s .pre .3, omega (arith, s .pre .4, s .pre .6), short)
 
 returns : tie.Need-returns
-unfolding writeFrame frameWith outgoing
+unfolding writeFrame outgoing
 returns c =
-    let n = c .before .before .before in
-    let s = n .before .before .before in
-    let all = goes-length (s .args .k) (s .args .x) (s .args .buffer .now) (s .pre .1) (s .pre .4) (s .pre .5) (s .pre .7) in
-    rw (all, n .before .identifier .ensures, c .padded .ensures, part-is (s .args .buffer .now) _ _, n .next-len .ensures)
+    let n = c .before .before in
+    rw (c .next-frame .ensures, part-is (n .before .before .before .args .buffer .now) _ _, n .next-len .ensures)
 
 pub write-frame-spec : {M : Type 1} → statement M
 write-frame-spec =
     tie.close
     (tie.spec
-    identifier-requires
-    next-len-requires
     mul-start
     cast-start
     add-start
+    next-len-requires
     cast-end
     add-end
-    sub-padded
-    part-padded-start
-    part-padded-end
-    padded-requires
+    sub-next-frame
+    part-next-frame-start
+    part-next-frame-end
+    next-frame-requires
     returns)
