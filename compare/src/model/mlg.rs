@@ -7,6 +7,9 @@ pub const HEADER: usize = 24;
 pub const FIELD: usize = 89;
 pub const MARK: usize = 54;
 
+/// The counter is the number of earlier blocks, of both kinds, modulo this.
+pub const COUNTER_MODULUS: u64 = 255;
+
 #[derive(Clone, Copy, Debug, PartialEq, Eq)]
 pub struct Header {
     pub time: u32,
@@ -171,7 +174,7 @@ pub fn read_block(file: &[u8], size: u16, earlier: u64, place: usize) -> Result<
         return Err(20);
     }
     let counter = rest[1];
-    let as_expected = counter as u64 == earlier % 255;
+    let as_expected = counter as u64 == earlier % COUNTER_MODULUS;
     let time = be16(rest, 2);
     let start = place + 4;
     if rest[0] == 1 {
@@ -289,7 +292,7 @@ pub fn write_data(output: usize, size: u16, earlier: u64, time: u16, record: &[u
     if record.len() != size as usize {
         return Err(23);
     }
-    let mut block = vec![0, (earlier % 255) as u8];
+    let mut block = vec![0, (earlier % COUNTER_MODULUS) as u8];
     block.extend(time.to_be_bytes());
     block.extend(record);
     block.push(sum(record));
@@ -301,7 +304,7 @@ pub fn write_mark(output: usize, earlier: u64, time: u16, text: &[u8]) -> Result
     if text.len() > 49 || text.contains(&0) {
         return Err(28);
     }
-    let mut block = vec![1, (earlier % 255) as u8];
+    let mut block = vec![1, (earlier % COUNTER_MODULUS) as u8];
     block.extend(time.to_be_bytes());
     block.extend(text);
     block.resize(MARK, 0);
