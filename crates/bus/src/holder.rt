@@ -14,6 +14,7 @@ use crate::ident::head_number;
 use crate::requests::is_reserved;
 use crate::requests::request_of;
 use crate::rows::parts_of;
+use crate::rows::table_of;
 ghost use mathlib.Core.Path.{_≡_};
 ghost use mathlib.Core.List.{List};
 ghost use Prim.Native.Nat.{ℕ, _+_, _*_, _≤_, _<_};
@@ -294,12 +295,13 @@ pub fn serve(d: Directory, memory: &mut [u8], f: Frame) -> Served
     ensures { λ r. ⌜ (r ≡ serveOf (device d (now (memory .entry))) f) × (now (memory .exit) ≡ deviceAfter (device d (now (memory .entry))) f .memory) ⌝ }
     ensures demand2 { λ r. ⌜ Demand2 (device d (now (memory .entry))) f r (device d (now (memory .exit))) ⌝ }
 {
+    // Looked up before the directory is judged: a processor does both at once.
+    let t = table_at(d, table_of(f.id) as usize);
     let unsound = memory_number(d, memory.len());
     if unsound != 0 {
         return no_answer(unsound);
     }
     let p = parts_of(f.id);
-    let t = table_at(d, p.table as usize);
     let number = frame_number(d.own, t, p, f);
     if number != 0 {
         return no_answer(number);

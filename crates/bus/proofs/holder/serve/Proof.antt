@@ -3,9 +3,9 @@ use Rattle.bus.proofs.holder.serve.Statement.{statement}
 use Rattle.bus.proofs.holder.serve.Tie as tie
 use mir.Val.{Fits}
 use mir.Syntax.{w8}
-use Prim.Native.Nat.{ℕ}
+use Prim.Native.Nat.{ℕ, _+_}
 use native.Mathlib.Omega.{arith}
-use mathlib.Core.Path.{_≡_, sym, _∙_, ap}
+use mathlib.Core.Path.{_≡_, sym, _∙_, ap, ap₂}
 use mathlib.Core.Logic.{_≢_}
 use mathlib.Core.List.{List}
 use lib.ListN.{length, getD}
@@ -14,10 +14,10 @@ use Rattle.wire.proofs.Orders.{order}
 use Rattle.bus_rules.specs.declared.Frame.{Frame}
 use Rattle.bus_rules.specs.declared.Served.{Served}
 use Rattle.bus_rules.specs.Frames.{headNumber}
-use Rattle.bus_rules.specs.Device.{Device, device, ownOf, sizeOf, rightOf, memoryNumber}
+use Rattle.bus_rules.specs.Device.{Device, device, ownOf, startOf, sizeOf, rightOf, memoryNumber}
 use Rattle.bus_rules.specs.Holder.{byteOf, placeOf, noAnswer, kindNumber, serveNumber, serveOf, deviceAfter}
 use Rattle.bus_rules.specs.Demand2.{Demand2}
-use Rattle.bus_rules.proofs.IdentLaws.{AreParts, are-parts, table-small}
+use Rattle.bus_rules.proofs.IdentLaws.{are-parts, table-small}
 use Rattle.bus_rules.proofs.Cases.{served-case, refused-case, device-after}
 use Rattle.bus_rules.proofs.Demand2.{IsFrame, demand2}
 
@@ -45,9 +45,6 @@ later-number : (e : Device) (f : Frame) (n k : ℕ) → n ≡ memoryNumber (e .d
 unfolding serveNumber
 later-number e f n k h z l = search order depth 12
 
-parts : (c : tie.After-parts-of) → AreParts (c .before .before .before .before .args .f .id) (c .parts-of .result)
-parts c = are-parts (c .before .before .before .before .args .f .id) (c .parts-of .result) (c .parts-of .ensures)
-
 -- the number of a frame to a sound device
 abbrev start : tie.After-frame-number → tie.Start
 start c = c .before .before .before .before .before .before .before
@@ -55,11 +52,11 @@ start c = c .before .before .before .before .before .before .before
 number : (c : tie.After-frame-number) → c .frame-number .result ≡ serveNumber (before (start c)) (start c .args .f)
 number c =
     let s = start c in
-    let t = c .before .table-at .ensures in
-    let p = parts (c .before .before .before) in
-    let m = c .before .before .before .before in
+    let m = c .before .before in
+    let t = m .before .before .table-at .ensures in
+    let k = m .before .before .before .table-of .ensures in
     later-number (before s) (s .args .f) (m .before .memory-number .result) (c .frame-number .result) (m .before .memory-number .ensures) (m .if1 .left)
-    (c .frame-number .ensures (before s) (t .1 ∙ ap (sizeOf (s .args .d)) (p .table)) (t .2 ∙ ap (rightOf (s .args .d)) (p .table)))
+    (c .frame-number .ensures (before s) (t .1 ∙ ap (sizeOf (s .args .d)) k) (t .2 ∙ ap (rightOf (s .args .d)) k))
 
 -- a refusal
 refused : (s : tie.Start) (n : ℕ) (r : Served) → n ≡ serveNumber (before s) (s .args .f) → n ≢ 0 → r ≡ noAnswer n
@@ -71,6 +68,15 @@ refused s n r h k e =
     let q = sym (ap (λ (v : Device). v .memory) (w .1)) in
     ((p, q), demanded s r _ p q)
 
+table-of-requires : tie.Need-table-of-requires
+table-of-requires c κs = search needs
+
+cast-table-at : tie.Need-cast-table-at
+cast-table-at c = search needs
+
+table-at-requires : tie.Need-table-at-requires
+table-at-requires c κs = omega (arith, c .table-of .ensures, table-small (c .before .before .args .f .id))
+
 memory-number-requires : tie.Need-memory-number-requires
 memory-number-requires c κs = search needs
 
@@ -79,23 +85,16 @@ no-answer-requires c κs = search needs
 
 returns : tie.Need-returns
 returns c =
-    let s = c .before .before .before .before in
+    let s = c .before .before .before .before .before .before in
     let n = c .before .before .memory-number in
-    refused s (n .result) _ (first-number (before s) (s .args .f) (n .result) (n .ensures) (c .before .if1 .taken)) (c .before .if1 .taken) (c .no-answer .ensures)
+    let k = c .before .if1 .taken in
+    refused s (n .result) _ (first-number (before s) (s .args .f) (n .result) (n .ensures) k) k (c .no-answer .ensures)
 
 parts-of-requires : tie.Need-parts-of-requires
 parts-of-requires c κs = search needs
 
-cast-table-at : tie.Need-cast-table-at
-cast-table-at c = search needs
-
-table-at-requires : tie.Need-table-at-requires
-table-at-requires c κs =
-    let f = c .before .before .before .before .before .args .f in
-    omega (arith, parts (c .before) .table, table-small (f .id))
-
 frame-number-requires : tie.Need-frame-number-requires
-frame-number-requires c κs = c .before .before .parts-of .ensures
+frame-number-requires c κs = c .parts-of .ensures
 
 no-answer-requires-2 : tie.Need-no-answer-requires-2
 no-answer-requires-2 c κs = search needs
@@ -118,11 +117,11 @@ act-requires : tie.Need-act-requires
 unfolding placeOf
 act-requires c κs =
     let n = c .before .before .before .before in
-    let p = parts (n .before .before .before) in (
-      sym (number n) ∙ c .before .before .before .if2 .left,
-      rw (p .offset, n .before .table-at .ensures .0, p .table),
-      n .before .before .before .parts-of .ensures,
-    )
+    let p = n .before .parts-of in
+    let t = n .before .before .before .before in
+    let o = are-parts (start n .args .f .id) (p .result) (p .ensures) .offset in
+    let b = t .table-at .ensures .0 ∙ ap (startOf (start n .args .d)) (t .before .table-of .ensures) in
+    (sym (number n) ∙ c .before .before .before .if2 .left, ap₂ (λ (x y : ℕ). x + y) b o, p .ensures)
 
 same-length : tie.Need-same-length
 same-length c = search needs
@@ -140,12 +139,13 @@ pub serve-spec : {M : Type 1} → statement M
 serve-spec =
     tie.close
     (tie.spec
+    table-of-requires
+    cast-table-at
+    table-at-requires
     memory-number-requires
     no-answer-requires
     returns
     parts-of-requires
-    cast-table-at
-    table-at-requires
     frame-number-requires
     no-answer-requires-2
     returns-2
