@@ -279,7 +279,7 @@ static void restore_nothing(void) {}
             V##_serve(&directory, memory, sizeof memory, &frames[i], &s); \
             a += s.number + s.frame.id; \
             if (check) \
-                a = answer_digest(a, s.number, s.answers, &s.frame); \
+                a = answer_digest(a, s.number, s.frames, &s.frame); \
         } \
         return check ? mixed_bytes(a, memory, sizeof memory) : a; \
     } \

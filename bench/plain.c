@@ -79,7 +79,7 @@ static void reply(const hg_directory *d, const hg_frame *f, const uint8_t *reque
 {
     uint8_t count = request[2] & 15;
     out->number = 0;
-    out->answers = 1;
+    out->frames = 1;
     out->frame.id = id_of(request[1] * 8u + (request[2] >> 5), HG_RSP, d->own, from_of(f->id), request[0]);
     out->frame.len = count;
     for (unsigned i = 0; i < 8; i++)

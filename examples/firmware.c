@@ -76,7 +76,7 @@ static void device_frame(unsigned turn, hg_frame frame)
 {
     static unsigned replies;
     hg_served served = hg_bus_serve(directory, memory, sizeof memory, frame);
-    if (!served.answers)
+    if (!served.frames)
         return;
     replies++;
     if (replies == 3)

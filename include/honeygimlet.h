@@ -34,7 +34,7 @@ enum {
     HG_TYPE = 5,             /* type not served */
     HG_REQUEST_BITS = 6,     /* length or reserved request bits wrong */
     HG_NO_RIGHT = 7,         /* table empty, or lacks the right; device or table out of range */
-    HG_RANGE = 8,            /* range past the table's end */
+    HG_RANGE = 8,            /* range past the table's end; offset, or offset and count, too large */
     HG_COUNT = 9,            /* count not allowed */
     HG_MEMORY_LENGTH = 10,   /* lent memory of wrong length */
     HG_UNSOUND = 11,         /* directory, state or own number unsound */
@@ -138,7 +138,7 @@ HG_SIZE(hg_directory, 102);
 /* An answer: a number, how many frames it has (0 or 1), and the frame, all 0 where there is none. */
 typedef struct {
     uint8_t number;
-    uint8_t answers;
+    uint8_t frames;
     hg_frame frame;
 } hg_served;
 HG_SIZE(hg_served, 20);
@@ -170,7 +170,7 @@ typedef struct {
     uint8_t count;    /* bytes of the transfer, 1..128 */
     uint8_t progress; /* bytes of it that are done */
     uint8_t sends;    /* sends of the current request */
-    uint8_t left;     /* turns until a waiting read is ready again */
+    uint8_t left;     /* turns until a waiting read is ready again or has given up */
 } hg_slot;
 HG_SIZE(hg_slot, 16);
 

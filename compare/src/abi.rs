@@ -78,7 +78,7 @@ pub struct Directory {
 #[derive(Clone, Copy, Debug, Default, PartialEq, Eq)]
 pub struct Served {
     pub number: u8,
-    pub answers: u8,
+    pub frames: u8,
     pub frame: Frame,
 }
 

@@ -169,7 +169,7 @@ impl Side for Faulty {
         if self.has(XtndLength0Is5) && answer.number == 6 && kind == 7 && frame.len == 0 {
             answer.number = 5;
         }
-        if self.has(GarbagePastReply) && answer.answers == 1 && answer.frame.len < 8 {
+        if self.has(GarbagePastReply) && answer.frames == 1 && answer.frame.len < 8 {
             answer.frame.bytes[7] = 1;
         }
         if self.has(CmdClearsRest) && *memory != before[..] {

@@ -71,7 +71,7 @@ fn requests(side: &dyn Side, list: &mut List) {
     memory[6..8].copy_from_slice(&[0x0B, 0xB8]);
     let answer = side.serve(directory, &mut memory, frame(0x18A838, &[0x06, 0x10, 0x02]));
     let reply = frame(0x20102B0, &[0x0B, 0xB8]);
-    list.add("0B B8 come back under 0x20102B0", answer, Served { number: 0, answers: 1, frame: reply });
+    list.add("0B B8 come back under 0x20102B0", answer, Served { number: 0, frames: 1, frame: reply });
 }
 
 /// Document 002's own examples (4.1, 4.2), whose identifiers are those on the wire: device 7
@@ -91,7 +91,7 @@ fn wire_examples(side: &dyn Side, list: &mut List) {
     ];
     for (name, id, bytes, reply, data) in examples {
         let answer = side.serve(directory, &mut memory, frame(id, &bytes));
-        list.add(&format!("002: {name}"), answer, Served { number: 0, answers: 1, frame: frame(reply, data) });
+        list.add(&format!("002: {name}"), answer, Served { number: 0, frames: 1, frame: frame(reply, data) });
     }
 }
 

@@ -52,7 +52,7 @@ pub struct Model;
 
 fn served(answer: Result<Option<Frame>, Number>) -> Served {
     match answer {
-        Ok(Some(frame)) => Served { number: 0, answers: 1, frame },
+        Ok(Some(frame)) => Served { number: 0, frames: 1, frame },
         Ok(None) => Served::default(),
         Err(number) => Served { number, ..Served::default() },
     }

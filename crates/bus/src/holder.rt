@@ -217,7 +217,7 @@ fn no_answer(number: u8) -> Served
 {
     Served {
         number,
-        answers: 0,
+        frames: 0,
         frame: Frame {
             id: 0,
             len: 0,
@@ -240,7 +240,7 @@ fn reply(own: u8, to: u8, q: Request, bytes: &[u8]) -> Served
     };
     Served {
         number: 0,
-        answers: 1,
+        frames: 1,
         frame: build(parts, bytes),
     }
 }
