@@ -31,25 +31,34 @@ part-long s at n h = simp (length-take, length-drop) (omega arith)
 pub values-none : (v n : ℕ) (t b : List ℕ) → n ≡ 0 → valuesText v n t b ≡ []
 values-none v n t b e = rw e
 
--- n values are left, of the fields from a place on and the raw bytes from a start on
-module _ (v n : ℕ) (fields bytes : List ℕ) (place start len : ℕ) (h : n ≡ 0 → ⊥) (l : len ≡ fieldLen v) (k : place ≤ length fields)
-    (g : ValuesNotRefused v n (drop place fields) (drop start bytes)) where
+-- values are left, of the fields from a place on and the raw bytes from a start on
+pub record ValuesLeft (v n : ℕ) (fields bytes : List ℕ) (place start len : ℕ) : Type 0 where
+  pub some : n ≡ 0 → ⊥
+  pub length-is : len ≡ fieldLen v
+  pub place-in : place ≤ length fields
+  pub start-in : start ≤ length bytes
+  pub not-refused : ValuesNotRefused v n (drop place fields) (drop start bytes)
+
+module _ {v n : ℕ} {fields bytes : List ℕ} {place start len : ℕ} (g : ValuesLeft v n fields bytes place start len) where
   field-part : take (place + len - place) (drop place fields) ≡ take (fieldLen v) (drop place fields)
-  field-part = part-is fields place len (fieldLen v) l
+  field-part = part-is fields place len (fieldLen v) (g .length-is)
+
+  next : (valueNumber 2 (take (fieldLen v) (drop place fields)) (take (fieldSize (take (fieldLen v) (drop place fields))) (drop start bytes)) ≡ 0)
+      × ValuesNotRefused v (n - 1) (drop (fieldLen v) (drop place fields)) (drop (fieldSize (take (fieldLen v) (drop place fields))) (drop start bytes))
+  next = not-refused-next v n (drop place fields) (drop start bytes) (g .some) (g .not-refused)
 
   -- the next field lies within the fields
   pub field-within : place + len ≤ length fields
   unfolding layoutOf
   field-within =
-      let e = value-lengths _ _ (not-refused-next v n (drop place fields) (drop start bytes) h g .0) .0 in
-      let q = rw (length-take, length-drop) at e in
-      omega (arith, q, l)
+      let e = rw (length-take, length-drop) at (value-lengths _ _ (next .0) .0) in
+      omega (arith, e, g .length-is, g .place-in)
 
   pub field-long : length (take (place + len - place) (drop place fields)) ≡ 89
   unfolding layoutOf
-  field-long = part-long fields place len field-within ∙ l
+  field-long = part-long fields place len field-within ∙ g .length-is
 
-  module _ (size : ℕ) (s : size ≡ fieldSize (take (place + len - place) (drop place fields))) where
+  module _ {size : ℕ} (s : size ≡ fieldSize (take (place + len - place) (drop place fields))) where
     size-is : size ≡ fieldSize (take (fieldLen v) (drop place fields))
     size-is = s ∙ ap fieldSize field-part
 
@@ -57,27 +66,24 @@ module _ (v n : ℕ) (fields bytes : List ℕ) (place start len : ℕ) (h : n �
     raw-part = part-is bytes start size _ size-is
 
     pub value-not-refused : valueNumber 2 (take (place + len - place) (drop place fields)) (take (start + size - start) (drop start bytes)) ≡ 0
-    value-not-refused = rw (field-part, raw-part) (not-refused-next v n (drop place fields) (drop start bytes) h g .0)
+    value-not-refused = rw (field-part, raw-part) (next .0)
 
     -- its raw bytes lie within the bytes
-    pub raw-within : start ≤ length bytes → start + size ≤ length bytes
-    raw-within i =
-        let e = value-lengths _ _ value-not-refused .1 in
+    pub raw-within : start + size ≤ length bytes
+    raw-within =
         let m : start + size - start ≡ size = omega arith in
-        let q = rw (length-take, length-drop, m) at e in
-        omega (arith, q, s)
+        let e = rw (length-take, length-drop, m) at (value-lengths _ _ value-not-refused .1) in
+        omega (arith, e, s, g .start-in)
 
     pub rest-not-refused : ValuesNotRefused v (n - 1) (drop (place + len) fields) (drop (start + size) bytes)
-    rest-not-refused =
-        rw (← drop-drop len place fields, ← drop-drop size start bytes, l, size-is)
-        (not-refused-next v n (drop place fields) (drop start bytes) h g .1)
+    rest-not-refused = rw (← drop-drop len place fields, ← drop-drop size start bytes, g .length-is, size-is) (next .1)
 
     pub value-then-rest : valuesText v n (drop place fields) (drop start bytes)
         ≡ valueText (take (place + len - place) (drop place fields)) (take (start + size - start) (drop start bytes))
         ++ valuesText v (n - 1) (drop (place + len) fields) (drop (start + size) bytes)
     value-then-rest =
-        value-next v n (drop place fields) (drop start bytes) h
-        ∙ rw (field-part, raw-part, ← drop-drop len place fields, ← drop-drop size start bytes, l, size-is)
+        value-next v n (drop place fields) (drop start bytes) (g .some)
+        ∙ rw (field-part, raw-part, ← drop-drop len place fields, ← drop-drop size start bytes, g .length-is, size-is)
 
 -- the fields of a file and the record of a block, as the code cuts them
 module _ (v n : ℕ) (f : List ℕ) (header start size : ℕ) (e : header ≡ headerLen v) where

@@ -4,7 +4,7 @@ use Rattle.loglist.proofs.main.Tie as tie
 use Rattle.loglist.proofs.main.Reads as reads
 use Rattle.loglist.proofs.main.Lts as lts
 use native.Mathlib.Omega.{arith}
-use Rattle.loglist.proofs.Reading.{bytes-within}
+use Rattle.loglist.proofs.BytesWithin.{bytes-within}
 use Rattle.io.proofs.write_all.Reads as write-all-reads
 use Rattle.loglist.proofs.listing_of.Reads as listing-of-reads
 use Rattle.loglist.proofs.read_input.Reads as read-input-reads

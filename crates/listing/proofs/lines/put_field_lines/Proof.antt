@@ -28,6 +28,15 @@ Inv-loop out₀ at version count fields len place₀ index₀ next₀ out place 
 abbrev μ-loop : tie.MeasureT-loop
 μ-loop out₀ at version count fields len place₀ index₀ next₀ out place index next = count - index
 
+-- in the loop the next field lies within the fields
+within : (c : tie.In-loop Inv-loop μ-loop)
+    → c .before .loop .place + c .before .before .layout-of .result .field ≤ length (c .before .before .before .before .before .args .fields .now)
+within c =
+    let inv = c .before .loop .inv in
+    let entry = c .before .before .before .before .before in
+    let a = entry .args in
+    omega (arith, len-89 (a .version), fields-fit (a .version) (a .count) _ (entry .pre .1), inv .0, inv .2, c .loop-test .taken)
+
 layout-of-requires : tie.Need-layout-of-requires Inv-loop μ-loop
 layout-of-requires c κs = tt
 
@@ -38,11 +47,7 @@ loop-holds c =
     (ap (λ (l : Layout). l .field) (c .layout-of .ensures), omega arith, refl, omega arith, refl, completes-all _ _ _ _ all)
 
 add-put-field-line : tie.Need-add-put-field-line Inv-loop μ-loop
-add-put-field-line c =
-    let inv = c .before .before .loop .inv in
-    let entry = c .before .before .before .before .before .before in
-    let a = entry .args in
-    omega (arith, len-89 (a .version), fields-fit (a .version) (a .count) _ (entry .pre .1), inv .0, inv .2)
+add-put-field-line c = omega (arith, within (c .before))
 
 sub-put-field-line : tie.Need-sub-put-field-line Inv-loop μ-loop
 sub-put-field-line c = search needs
@@ -51,11 +56,7 @@ part-put-field-line-start : tie.Need-part-put-field-line-start Inv-loop μ-loop
 part-put-field-line-start c = search needs
 
 part-put-field-line-end : tie.Need-part-put-field-line-end Inv-loop μ-loop
-part-put-field-line-end c =
-    let inv = c .before .before .loop .inv in
-    let entry = c .before .before .before .before .before .before in
-    let a = entry .args in
-    omega (arith, len-89 (a .version), fields-fit (a .version) (a .count) _ (entry .pre .1), inv .0, inv .2)
+part-put-field-line-end c = omega (arith, within (c .before))
 
 put-field-line-requires : tie.Need-put-field-line-requires Inv-loop μ-loop
 put-field-line-requires c κs =
@@ -63,16 +64,11 @@ put-field-line-requires c κs =
     let len = c .before .before .before .before .layout-of .result .field in
     let entry = c .before .before .before .before .before .before .before in
     let a = entry .args in
-    let n = len-89 (a .version) in
-    let fields = fields-fit (a .version) (a .count) _ (entry .pre .1) in
-    (omega (arith, entry .pre .0), omega (arith, part-long (a .fields .now) (l .place) len (omega (arith, n, fields, l .inv .0, l .inv .2)), l .inv .0, n))
+    let long = part-long (a .fields .now) (l .place) len (within (c .before .before)) in
+    (omega (arith, entry .pre .0), omega (arith, long, l .inv .0, len-89 (a .version)))
 
 add-place : tie.Need-add-place Inv-loop μ-loop
-add-place c =
-    let inv = c .before .before .before .before .before .before .loop .inv in
-    let entry = c .before .before .before .before .before .before .before .before .before .before in
-    let a = entry .args in
-    omega (arith, len-89 (a .version), fields-fit (a .version) (a .count) _ (entry .pre .1), inv .0, inv .2)
+add-place c = omega (arith, within (c .before .before .before .before .before))
 
 add-index : tie.Need-add-index Inv-loop μ-loop
 add-index c = search needs

@@ -15,7 +15,7 @@ use Rattle.mlg_rules.specs.declared.Layout.{Layout}
 use Rattle.listing_rules.specs.Lines.{valuesText}
 use Rattle.listing_rules.specs.BlockInFile.{ValuesNotRefused}
 use Rattle.listing_rules.proofs.PutsText.{Completes, completes-all, completes-next, completed}
-use Rattle.listing_rules.proofs.ValuesText.{field-within, field-long, value-not-refused, raw-within, rest-not-refused, value-then-rest, values-none}
+use Rattle.listing_rules.proofs.ValuesText.{ValuesLeft, field-within, field-long, value-not-refused, raw-within, rest-not-refused, value-then-rest, values-none}
 
 abbrev Inv-loop : tie.InvT-loop
 Inv-loop out₀ at version count fields bytes len place₀ start₀ left₀ next₀ out place start left next =
@@ -31,6 +31,15 @@ Inv-loop out₀ at version count fields bytes len place₀ start₀ left₀ next
 abbrev μ-loop : tie.MeasureT-loop
 μ-loop out₀ at version count fields bytes len place₀ start₀ left₀ next₀ out place start left next =
     left
+
+-- in the loop values are left
+left : (c : tie.In-loop Inv-loop μ-loop)
+    → let a = c .before .before .before .before .before .before .args in
+    let l = c .before .loop in
+    ValuesLeft (a .version) (l .left) (a .fields .now) (a .bytes .now) (l .place) (l .start) (c .before .before .layout-of .result .field)
+left c =
+    let inv = c .before .loop .inv in
+    record { some = c .loop-test .taken; length-is = inv .0; place-in = inv .1; start-in = inv .2; not-refused = inv .6 }
 
 layout-of-requires : tie.Need-layout-of-requires Inv-loop μ-loop
 layout-of-requires c κs = tt
@@ -48,11 +57,7 @@ loop-holds c = (
 )
 
 add-d : tie.Need-add-d Inv-loop μ-loop
-add-d c =
-    let l = c .before .loop in
-    let a = c .before .before .before .before .before .before .args in
-    let some = c .loop-test .taken in
-    omega (arith, field-within (a .version) (l .left) (a .fields .now) (a .bytes .now) (l .place) (l .start) _ some (l .inv .0) (l .inv .1) (l .inv .6))
+add-d c = omega (arith, field-within (left c))
 
 sub-d : tie.Need-sub-d Inv-loop μ-loop
 sub-d c = search needs
@@ -61,18 +66,10 @@ part-d-start : tie.Need-part-d-start Inv-loop μ-loop
 part-d-start c = search needs
 
 part-d-end : tie.Need-part-d-end Inv-loop μ-loop
-part-d-end c =
-    let l = c .before .loop in
-    let a = c .before .before .before .before .before .before .args in
-    let some = c .loop-test .taken in
-    omega (arith, field-within (a .version) (l .left) (a .fields .now) (a .bytes .now) (l .place) (l .start) _ some (l .inv .0) (l .inv .1) (l .inv .6))
+part-d-end c = omega (arith, field-within (left c))
 
 shared-slice-read-size-of : tie.Need-shared-slice-read-size-of Inv-loop μ-loop
-shared-slice-read-size-of c =
-    let l = c .before .before .before .loop in
-    let a = c .before .before .before .before .before .before .before .before .args in
-    let some = c .before .before .loop-test .taken in
-    omega (arith, field-long (a .version) (l .left) (a .fields .now) (a .bytes .now) (l .place) (l .start) _ some (l .inv .0) (l .inv .1) (l .inv .6))
+shared-slice-read-size-of c = omega (arith, field-long (left (c .before .before)))
 
 size-of-requires : tie.Need-size-of-requires Inv-loop μ-loop
 size-of-requires c κs = tt
@@ -81,14 +78,7 @@ cast-size : tie.Need-cast-size Inv-loop μ-loop
 cast-size c = search needs
 
 add-put-value : tie.Need-add-put-value Inv-loop μ-loop
-add-put-value c =
-    let l = c .before .before .before .before .before .loop in
-    let a = c .before .before .before .before .before .before .before .before .before .before .args in
-    let inv = l .inv in
-    let some = c .before .before .before .before .loop-test .taken in
-    let size = c .before .size-of .ensures in
-    omega
-    (arith, raw-within (a .version) (l .left) (a .fields .now) (a .bytes .now) (l .place) (l .start) _ some (inv .0) (inv .1) (inv .6) _ size (inv .2))
+add-put-value c = omega (arith, raw-within (left (c .before .before .before .before)) (c .before .size-of .ensures))
 
 sub-put-value : tie.Need-sub-put-value Inv-loop μ-loop
 sub-put-value c = search needs
@@ -97,42 +87,20 @@ part-put-value-start : tie.Need-part-put-value-start Inv-loop μ-loop
 part-put-value-start c = search needs
 
 part-put-value-end : tie.Need-part-put-value-end Inv-loop μ-loop
-part-put-value-end c =
-    let l = c .before .before .before .before .before .loop in
-    let a = c .before .before .before .before .before .before .before .before .before .before .args in
-    let inv = l .inv in
-    let some = c .before .before .before .before .loop-test .taken in
-    let size = c .before .size-of .ensures in
-    omega
-    (arith, raw-within (a .version) (l .left) (a .fields .now) (a .bytes .now) (l .place) (l .start) _ some (inv .0) (inv .1) (inv .6) _ size (inv .2))
+part-put-value-end c = omega (arith, raw-within (left (c .before .before .before .before)) (c .before .size-of .ensures))
 
 put-value-requires : tie.Need-put-value-requires Inv-loop μ-loop
 put-value-requires c κs =
-    let l = c .before .before .before .before .before .before .loop in
-    let entry = c .before .before .before .before .before .before .before .before .before .before .before in
-    let a = entry .args in
-    let some = c .before .before .before .before .before .loop-test .taken in
-    let size = c .before .before .size-of .ensures in (
-      omega (arith, entry .pre .0),
-      value-not-refused (a .version) (l .left) (a .fields .now) (a .bytes .now) (l .place) (l .start) _ some (l .inv .0) (l .inv .1) (l .inv .6) _ size,
-    )
+    let pre = c .before .before .before .before .before .before .before .before .before .before .before .pre in
+    (omega (arith, pre .0), value-not-refused (left (c .before .before .before .before .before)) (c .before .before .size-of .ensures))
 
 add-place : tie.Need-add-place Inv-loop μ-loop
-add-place c =
-    let l = c .before .before .before .before .before .before .before .before .before .loop in
-    let a = c .before .before .before .before .before .before .before .before .before .before .before .before .before .before .args in
-    let some = c .before .before .before .before .before .before .before .before .loop-test .taken in
-    omega (arith, field-within (a .version) (l .left) (a .fields .now) (a .bytes .now) (l .place) (l .start) _ some (l .inv .0) (l .inv .1) (l .inv .6))
+add-place c = omega (arith, field-within (left (c .before .before .before .before .before .before .before .before)))
 
 add-start : tie.Need-add-start Inv-loop μ-loop
 add-start c =
-    let l = c .before .before .before .before .before .before .before .before .before .loop in
-    let a = c .before .before .before .before .before .before .before .before .before .before .before .before .before .before .args in
-    let inv = l .inv in
-    let some = c .before .before .before .before .before .before .before .before .loop-test .taken in
     let size = c .before .before .before .before .before .size-of .ensures in
-    omega
-    (arith, raw-within (a .version) (l .left) (a .fields .now) (a .bytes .now) (l .place) (l .start) _ some (inv .0) (inv .1) (inv .6) _ size (inv .2))
+    omega (arith, raw-within (left (c .before .before .before .before .before .before .before .before)) size)
 
 sub-left : tie.Need-sub-left Inv-loop μ-loop
 sub-left c = search needs
@@ -144,21 +112,16 @@ loop-again : tie.Need-loop-again Inv-loop μ-loop
 loop-again c =
     let value = c .before .before .put-value .ensures in
     let size = c .before .before .before .before .before .size-of .ensures in
-    let some = c .before .before .before .before .before .before .before .before .loop-test .taken in
-    let l = c .before .before .before .before .before .before .before .before .before .loop in
-    let a = c .before .before .before .before .before .before .before .before .before .before .before .before .before .before .args in
-    let v = a .version in
-    let fs = a .fields .now in
-    let bs = a .bytes .now in
-    let inv = l .inv in (
+    let g = left (c .before .before .before .before .before .before .before .before) in
+    let inv = c .before .before .before .before .before .before .before .before .before .loop .inv in (
       inv .0,
-      field-within v (l .left) fs bs (l .place) (l .start) _ some (inv .0) (inv .1) (inv .6),
-      raw-within v (l .left) fs bs (l .place) (l .start) _ some (inv .0) (inv .1) (inv .6) _ size (inv .2),
+      field-within g,
+      raw-within g size,
       omega arith,
       omega (arith, value .1),
       value .0 .same-length ∙ inv .5,
-      rest-not-refused v (l .left) fs bs (l .place) (l .start) _ some (inv .0) (inv .1) (inv .6) _ size,
-      completes-next (inv .7) (value-then-rest v (l .left) fs bs (l .place) (l .start) _ some (inv .0) (inv .1) (inv .6) _ size) (value .0),
+      rest-not-refused g size,
+      completes-next (inv .7) (value-then-rest g size) (value .0),
     )
 
 same-length : tie.Need-same-length Inv-loop μ-loop

@@ -9,7 +9,9 @@ use Prim.Native.Nat.{_≤_, _+_, _*_, _^_}
 use mathlib.Core.Path.{_≡_, refl, sym, _∙_}
 use native.Mathlib.Omega.{arith}
 use lib.ListN.{length}
-use Rattle.mlg_rules.specs.Log.{logFrom, logOf}
+use Rattle.mlg_rules.specs.Block.{readBlockOf}
+use Rattle.mlg_rules.specs.Log.{lengthOf, logFrom, logOf}
+use Rattle.mlg_rules.proofs.Logs.{Goes}
 use Rattle.mlg_rules.proofs.TallyLaws.{at-fits, tag-block}
 use Rattle.listing_rules.specs.Listing.{logLines}
 use Rattle.listing_rules.proofs.PutsText.{puts-as, Completes, completes-all, completes-next}
@@ -28,6 +30,20 @@ Inv-loop out₀ at file h size left₀ place₀ n₀ next₀ out left place n ne
 
 abbrev μ-loop : tie.MeasureT-loop
 μ-loop out₀ at file h size left₀ place₀ n₀ next₀ out left place n next = left
+
+-- a block that is passed over, as it was read, lies within the file
+module _ (c : tie.At-match-keys1 Inv-loop μ-loop) where
+  goes : Goes (c .before .read-block .result)
+  goes = tag-block (c .before .read-block .result) (c .match .keys1)
+
+  is : let a = c .before .before .before .before .before .before .before .args in
+      let l = c .before .before .before .loop in
+      readBlockOf (a .h .size) (l .n) (a .file .now) (l .place) ≡ c .before .read-block .result
+  is = sym (c .before .read-block .ensures .0 .0)
+
+  within : let a = c .before .before .before .before .before .before .before .args in
+      c .before .before .before .loop .place + lengthOf (a .h .size) (c .before .read-block .result) ≤ length (a .file .now)
+  within = at-fits _ _ _ _ _ is goes
 
 add-left : tie.Need-add-left Inv-loop μ-loop
 add-left c = omega arith
@@ -65,24 +81,17 @@ returns c =
 
 put-block-line-requires-2 : tie.Need-put-block-line-requires-2 Inv-loop μ-loop
 put-block-line-requires-2 c κs =
-    let goes = tag-block (c .before .before .read-block .result) (c .before .match .keys1) in
-    let read = c .before .before .read-block in
-    let l = c .before .before .before .before .loop in
     let entry = c .before .before .before .before .before .before .before .before in
     let a = entry .args in
-    let block = block-in-file (a .h) (a .file .now) (entry .pre .2) (l .n) (l .place) (read .result) (sym (read .ensures .0 .0)) goes in
+    let l = c .before .before .before .before .loop in
+    let block = block-in-file (a .h) (a .file .now) (entry .pre .2) (l .n) (l .place) _ (is (c .before)) (goes (c .before)) in
     (omega (arith, entry .pre .0, entry .pre .1), block)
 
 length-of-requires : tie.Need-length-of-requires Inv-loop μ-loop
 length-of-requires c κs = tt
 
 add-place : tie.Need-add-place Inv-loop μ-loop
-add-place c =
-    let read = c .before .before .before .before .before .before .read-block in
-    let goes = tag-block (read .result) (c .before .before .before .before .before .match .keys1) in
-    let l = c .before .before .before .before .before .before .before .before .loop in
-    let a = c .before .before .before .before .before .before .before .before .before .before .before .before .args in
-    omega (arith, c .length-of .ensures, at-fits (a .h .size) (l .n) (a .file .now) (l .place) (read .result) (sym (read .ensures .0 .0)) goes)
+add-place c = omega (arith, c .length-of .ensures, within (c .before .before .before .before .before))
 
 add-n : tie.Need-add-n Inv-loop μ-loop
 add-n c =
@@ -97,21 +106,19 @@ loop-less c = search needs
 
 loop-again : tie.Need-loop-again Inv-loop μ-loop
 loop-again c =
-    let length = c .length-of .ensures in
+    let block = c .before .before .before .before .before in
+    let len = c .length-of .ensures in
     let line = c .before .before .before .put-block-line2 .ensures in
-    let read = c .before .before .before .before .before .before .read-block in
-    let goes = tag-block (read .result) (c .before .before .before .before .before .match .keys1) in
-    let some = c .before .before .before .before .before .before .before .loop-test .taken in
-    let l = c .before .before .before .before .before .before .before .before .loop in
-    let a = c .before .before .before .before .before .before .before .before .before .before .before .before .args in
-    let is = sym (read .ensures .0 .0) in
-    let next = block-next (a .h) (a .file .now) (l .left) (l .n) (l .place) (read .result) some is goes in (
+    let some = block .before .before .loop-test .taken in
+    let l = block .before .before .before .loop in
+    let a = block .before .before .before .before .before .before .before .args in
+    let next = block-next (a .h) (a .file .now) (l .left) (l .n) (l .place) _ some (is block) (goes block) in (
       refl,
-      omega (arith, length, at-fits (a .h .size) (l .n) (a .file .now) (l .place) (read .result) is goes),
+      omega (arith, len, within block),
       omega arith,
       omega (arith, line .1, l .inv .3),
       line .0 .same-length ∙ l .inv .4,
-      rw length (completes-next (l .inv .5) next (line .0)),
+      rw len (completes-next (l .inv .5) next (line .0)),
     )
 
 put-block-line-requires-3 : tie.Need-put-block-line-requires-3 Inv-loop μ-loop
