@@ -11,7 +11,7 @@ use native.Mathlib.Omega.{arith}
 use lib.ListN.{length}
 use Rattle.mlg_rules.specs.Block.{readBlockOf}
 use Rattle.mlg_rules.specs.Log.{lengthOf, logFrom, logOf}
-use Rattle.mlg_rules.proofs.Logs.{Goes}
+use Rattle.mlg_rules.proofs.LogLaws.{IsBlock}
 use Rattle.mlg_rules.proofs.TallyLaws.{at-fits, tag-block}
 use Rattle.listing_rules.specs.Listing.{logLines}
 use Rattle.listing_rules.proofs.PutsText.{puts-as, Completes, completes-all, completes-next}
@@ -33,7 +33,7 @@ abbrev μ-loop : tie.MeasureT-loop
 
 -- a block that is passed over, as it was read, lies within the file
 module _ (c : tie.At-match-keys1 Inv-loop μ-loop) where
-  goes : Goes (c .before .read-block .result)
+  goes : IsBlock (c .before .read-block .result)
   goes = tag-block (c .before .read-block .result) (c .match .keys1)
 
   is : let a = c .before .before .before .before .before .before .before .args in
