@@ -25,13 +25,13 @@ PLAIN_DECLARE(gcc_O2_)
 
 /* The library's calls in the plain version's form. */
 #define LIBRARY_CALL static inline __attribute__((always_inline))
-LIBRARY_CALL void library_unpack(uint32_t id, hg_unpacked *out) { *out = hg_unpack(id); }
-LIBRARY_CALL void library_serve(const hg_directory *d, uint8_t *memory, size_t len, const hg_frame *f, hg_served *out) { *out = hg_serve(*d, memory, len, *f); }
-LIBRARY_CALL void library_turn(hg_bridge *b, const uint8_t *buffer, size_t len, hg_served *out) { *out = hg_turn_in_place(b, buffer, len); }
-LIBRARY_CALL void library_frame(hg_bridge *b, uint8_t *buffer, size_t len, const hg_frame *f, hg_served *out) { *out = hg_frame_in_place(b, buffer, len, *f); }
+LIBRARY_CALL void library_unpack(uint32_t id, hg_unpacked *out) { *out = hg_bus_unpack(id); }
+LIBRARY_CALL void library_serve(const hg_directory *d, uint8_t *memory, size_t len, const hg_frame *f, hg_served *out) { *out = hg_bus_serve(*d, memory, len, *f); }
+LIBRARY_CALL void library_turn(hg_bridge *b, const uint8_t *buffer, size_t len, hg_yielded *out) { *out = hg_bridge_turn_in_place(b, buffer, len); }
+LIBRARY_CALL void library_frame(hg_bridge *b, uint8_t *buffer, size_t len, const hg_frame *f, hg_yielded *out) { *out = hg_bridge_frame_in_place(b, buffer, len, *f); }
 LIBRARY_CALL void library_read_header(const uint8_t *file, size_t len, hg_mlg_header *out) { *out = hg_mlg_read_header(file, len); }
 LIBRARY_CALL void library_read_block(const uint8_t *file, size_t len, uint16_t size, uint64_t earlier, size_t place, hg_mlg_block *out) { *out = hg_mlg_read_block(file, len, size, earlier, place); }
-LIBRARY_CALL hg_written library_list(uint8_t *out, size_t len, const uint8_t *file, size_t file_len) { return hg_list(out, len, file, file_len); }
+LIBRARY_CALL hg_written library_list(uint8_t *out, size_t len, const uint8_t *file, size_t file_len) { return hg_mlg_list(out, len, file, file_len); }
 
 /* ---- Numbers that stand for an answer ---- */
 
@@ -44,10 +44,10 @@ static uint64_t mixed_bytes(uint64_t h, const uint8_t *bytes, size_t n)
     return h;
 }
 
-static uint64_t served_digest(uint64_t h, const hg_served *s)
+static uint64_t answer_digest(uint64_t h, uint8_t number, uint8_t frames, const hg_frame *f)
 {
-    h = mixed(mixed(mixed(mixed(h, s->number), s->answers), s->frame.id), s->frame.len);
-    return mixed_bytes(h, s->frame.bytes, 8);
+    h = mixed(mixed(mixed(mixed(h, number), frames), f->id), f->len);
+    return mixed_bytes(h, f->bytes, 8);
 }
 
 static uint64_t slot_digest(uint64_t h, const hg_slot *s)
@@ -65,8 +65,8 @@ static uint64_t bridge_digest(uint64_t h, const hg_bridge *b)
 
 static uint64_t block_digest(uint64_t h, const hg_mlg_block *b)
 {
-    h = mixed(mixed(mixed(mixed(h, b->place), b->start), b->count), b->time);
-    return mixed(mixed(mixed(mixed(h, b->number), b->kind), b->counter), b->right);
+    h = mixed(mixed(mixed(mixed(h, b->place), b->start), b->len), b->time);
+    return mixed(mixed(mixed(mixed(h, b->number), b->kind), b->counter), b->as_expected);
 }
 
 static uint64_t header_digest(uint64_t h, const hg_mlg_header *m)
@@ -116,12 +116,12 @@ static void make_bus_inputs(void)
     for (int i = 0; i < FRAMES; i++) {
         hg_parts parts = {(uint16_t)(random_number() % 1016), HG_CMD, 3, 5, (uint8_t)(random_number() % 32)};
         hg_frame *c = &commands[i], *r = &requests[i];
-        c->id = hg_pack(parts).id;
+        c->id = hg_bus_pack(parts).id;
         c->len = (uint8_t)(1 + random_number() % 8);
         for (int k = 0; k < 8; k++)
             c->bytes[k] = (uint8_t)random_number();
         parts.kind = HG_REQ;
-        r->id = hg_pack(parts).id;
+        r->id = hg_bus_pack(parts).id;
         r->len = 3;
         r->bytes[0] = (uint8_t)(random_number() % 32);
         r->bytes[1] = (uint8_t)random_number();
@@ -138,8 +138,8 @@ static void open_some(hg_bridge *b)
     for (int i = 0; i < 4; i++) {
         size_t count = 1 + random_number() % HG_MOST;
         uint16_t offset = (uint16_t)(random_number() % 1900);
-        hg_opened o = random_number() % 2 ? hg_open_read(*b, buffer_start, HG_BUFFER, 5, 7, offset, count)
-                                          : hg_open_write(*b, buffer_start, HG_BUFFER, 5, 7, offset, bytes, count);
+        hg_opened o = random_number() % 2 ? hg_bridge_open_read(*b, buffer_start, HG_BUFFER, 5, 7, offset, count)
+                                          : hg_bridge_open_write(*b, buffer_start, HG_BUFFER, 5, 7, offset, bytes, count);
         *b = o.bridge;
     }
 }
@@ -147,28 +147,28 @@ static void open_some(hg_bridge *b)
 /* The states of a busy bridge, before a turn and before a frame that a read awaits. */
 static void make_bridge_inputs(void)
 {
-    hg_bridge b = hg_reset((hg_bridge){0}, 0).bridge;
+    hg_bridge b = hg_bridge_reset((hg_bridge){0}, 0).bridge;
     int turns = 0, frames = 0;
     while (turns < BRIDGES || frames < BRIDGES) {
         for (int i = 0; i < 4; i++)
             if (b.slots[i].phase == HG_FINISHED || b.slots[i].phase == HG_FAILED)
-                b = hg_close(b, b.slots[i].ticket).bridge;
+                b = hg_bridge_close(b, b.slots[i].ticket).bridge;
         open_some(&b);
         if (turns < BRIDGES)
             turn_start[turns++] = b;
-        hg_stepped t = hg_turn(b, buffer_start, HG_BUFFER);
+        hg_stepped t = hg_bridge_turn(b, buffer_start, HG_BUFFER);
         b = t.bridge;
         const hg_slot *s = &b.slots[b.last];
-        if (!t.answer.answers || s->kind != HG_READ || random_number() % 4 == 0)
+        if (!t.answer.frames || s->kind != HG_READ || random_number() % 4 == 0)
             continue;
         unsigned left = s->count - s->progress;
         hg_parts parts = {(uint16_t)(128 * b.last + s->progress), HG_RSP, s->device, 0, 6};
-        hg_frame f = {hg_pack(parts).id, (uint8_t)(left < 8 ? left : 8), {1, 2, 3, 4, 5, 6, 7, 8}};
+        hg_frame f = {hg_bus_pack(parts).id, (uint8_t)(left < 8 ? left : 8), {1, 2, 3, 4, 5, 6, 7, 8}};
         if (frames < BRIDGES) {
             replies[frames] = f;
             frame_start[frames++] = b;
         }
-        b = hg_frame_in(b, buffer_start, HG_BUFFER, f).bridge;
+        b = hg_bridge_frame(b, buffer_start, HG_BUFFER, f).bridge;
     }
 }
 
@@ -279,7 +279,7 @@ static void restore_nothing(void) {}
             V##_serve(&directory, memory, sizeof memory, &frames[i], &s); \
             a += s.number + s.frame.id; \
             if (check) \
-                a = served_digest(a, &s); \
+                a = answer_digest(a, s.number, s.frames, &s.frame); \
         } \
         return check ? mixed_bytes(a, memory, sizeof memory) : a; \
     } \
@@ -289,11 +289,11 @@ static void restore_nothing(void) {}
     { \
         uint64_t a = 0; \
         for (int i = 0; i < BRIDGES; i++) { \
-            hg_served s; \
+            hg_yielded s; \
             V##_turn(&bridges[i], buffer_start, HG_BUFFER, &s); \
             a += s.number + s.frame.id; \
             if (check) \
-                a = bridge_digest(served_digest(a, &s), &bridges[i]); \
+                a = bridge_digest(answer_digest(a, s.number, s.frames, &s.frame), &bridges[i]); \
         } \
         return a; \
     } \
@@ -301,11 +301,11 @@ static void restore_nothing(void) {}
     { \
         uint64_t a = 0; \
         for (int i = 0; i < BRIDGES; i++) { \
-            hg_served s; \
+            hg_yielded s; \
             V##_frame(&bridges[i], buffer, HG_BUFFER, &replies[i], &s); \
             a += s.number; \
             if (check) \
-                a = bridge_digest(served_digest(a, &s), &bridges[i]); \
+                a = bridge_digest(answer_digest(a, s.number, s.frames, &s.frame), &bridges[i]); \
         } \
         return check ? mixed_bytes(a, buffer, sizeof buffer) : a; \
     } \

@@ -79,7 +79,7 @@ static void reply(const hg_directory *d, const hg_frame *f, const uint8_t *reque
 {
     uint8_t count = request[2] & 15;
     out->number = 0;
-    out->answers = 1;
+    out->frames = 1;
     out->frame.id = id_of(request[1] * 8u + (request[2] >> 5), HG_RSP, d->own, from_of(f->id), request[0]);
     out->frame.len = count;
     for (unsigned i = 0; i < 8; i++)
@@ -227,12 +227,17 @@ static void age(hg_slot *s)
         s->phase = s->sends < 3 ? HG_READY : HG_FAILED;
 }
 
-static void send(hg_bridge *b, unsigned k, const uint8_t *buffer, hg_served *out)
+static void no_yield(hg_yielded *out, uint8_t number)
+{
+    *out = (hg_yielded){number, 0, {0, 0, {0}}};
+}
+
+static void send(hg_bridge *b, unsigned k, const uint8_t *buffer, hg_yielded *out)
 {
     hg_slot *s = &b->slots[k];
     unsigned count = next_len(s), kind = s->kind == HG_WRITE ? HG_CMD : HG_REQ;
     out->number = 0;
-    out->answers = 1;
+    out->frames = 1;
     out->frame.id = id_of(s->offset + s->progress, kind, b->own, s->device, s->table);
     b->last = (uint8_t)k;
     if (s->kind == HG_WRITE) {
@@ -251,11 +256,11 @@ static void send(hg_bridge *b, unsigned k, const uint8_t *buffer, hg_served *out
     }
 }
 
-void PLAIN(turn)(hg_bridge *b, const uint8_t *buffer, size_t len, hg_served *out)
+void PLAIN(turn)(hg_bridge *b, const uint8_t *buffer, size_t len, hg_yielded *out)
 {
     uint8_t number = bridge_number(b, len);
     if (number != 0) {
-        no_frame(out, number);
+        no_yield(out, number);
         return;
     }
     for (int i = 0; i < 4; i++)
@@ -267,7 +272,7 @@ void PLAIN(turn)(hg_bridge *b, const uint8_t *buffer, size_t len, hg_served *out
             return;
         }
     }
-    no_frame(out, 0);
+    no_yield(out, 0);
 }
 
 /* A reply's offset says whose it is: slot k's part of the buffer begins at 128 k. */
@@ -286,14 +291,14 @@ static uint8_t take(hg_bridge *b, uint8_t *buffer, const hg_frame *f)
     return 0;
 }
 
-void PLAIN(frame)(hg_bridge *b, uint8_t *buffer, size_t len, const hg_frame *f, hg_served *out)
+void PLAIN(frame)(hg_bridge *b, uint8_t *buffer, size_t len, const hg_frame *f, hg_yielded *out)
 {
     uint8_t number = bridge_number(b, len);
     if (number == 0)
         number = head_number(b->own, f);
     if (number == 0)
         number = take(b, buffer, f);
-    no_frame(out, number);
+    no_yield(out, number);
 }
 
 /* ---- MLG ---- */
@@ -520,9 +525,9 @@ static inline void put_block(text *t, const uint8_t *file, const hg_mlg_header *
         put_values(t, file + 24, h->count, file + b->start);
     } else {
         PUT(t, " ");
-        put_shown(t, file + b->start, b->count);
+        put_shown(t, file + b->start, b->len);
     }
-    if (!b->right)
+    if (!b->as_expected)
         PUT(t, " !");
     PUT(t, "\n");
 }

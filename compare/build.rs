@@ -10,11 +10,7 @@ fn main() {
         Ok(folder) if !folder.is_empty() => folder,
         _ => return,
     };
-    let candidates = [
-        ("libhoneygimlet.a", "static=honeygimlet"),
-        ("libcapi.a", "static=capi"),
-        ("libhoneygimlet.so", "dylib=honeygimlet"),
-    ];
+    let candidates = [("libhoneygimlet.a", "static=honeygimlet"), ("libhoneygimlet.so", "dylib=honeygimlet")];
     let found = candidates.iter().find(|(file, _)| Path::new(&folder).join(file).exists());
     let (file, link) = found.unwrap_or_else(|| panic!("no library in {folder}"));
     println!("cargo:rerun-if-changed={folder}/{file}");

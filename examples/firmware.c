@@ -5,7 +5,7 @@
  * one reply, delivers another late, and carries frames of a third device (number 9). At the end the bytes that the
  * bridge shows are compared with the device's tables; the program exits 1 where they differ.
  *
- *     gcc -std=c11 -Iinclude examples/firmware.c target/staticlib/libcapi.a -o firmware
+ *     gcc -std=c11 -Iinclude examples/firmware.c target/staticlib/libhoneygimlet.a -o firmware
  */
 #include "honeygimlet.h"
 
@@ -75,8 +75,8 @@ static void device_start(void)
 static void device_frame(unsigned turn, hg_frame frame)
 {
     static unsigned replies;
-    hg_served served = hg_serve(directory, memory, sizeof memory, frame);
-    if (!served.answers)
+    hg_served served = hg_bus_serve(directory, memory, sizeof memory, frame);
+    if (!served.frames)
         return;
     replies++;
     if (replies == 3)
@@ -89,7 +89,7 @@ static void device_frame(unsigned turn, hg_frame frame)
 
 static void other_sends(unsigned turn, hg_parts parts, uint8_t len)
 {
-    hg_packed packed = hg_pack(parts);
+    hg_packed packed = hg_bus_pack(parts);
     hg_frame frame = {packed.id, len, {0xEE, 0xEE, 0xEE, 0xEE, 0xEE, 0xEE, 0xEE, 0xEE}};
     if (packed.number == 0)
         bus_send(turn, OTHER, frame);
@@ -125,14 +125,14 @@ static uint32_t opened(const char *what, hg_opened answer)
 
 static void dash_turn(unsigned turn)
 {
-    hg_served sent = hg_turn_in_place(&bridge, buffer, sizeof buffer);
+    hg_yielded sent = hg_bridge_turn_in_place(&bridge, buffer, sizeof buffer);
     if (sent.number != 0) {
         printf("turn %3u  dash    the bridge is unsound, number %u\n", turn, sent.number);
         exit(1);
     }
-    if (!sent.answers)
+    if (!sent.frames)
         return;
-    hg_parts parts = hg_unpack(sent.frame.id).parts;
+    hg_parts parts = hg_bus_unpack(sent.frame.id).parts;
     uint8_t count = parts.kind == HG_REQ ? sent.frame.bytes[2] & 15 : sent.frame.len;
     printf("turn %3u  dash    %s 0x%08" PRIX32 ": %u bytes, table %u, offset %u, send %u\n", turn,
            parts.kind == HG_REQ ? "REQ" : "CMD", sent.frame.id, count, parts.table, parts.offset,
@@ -142,7 +142,7 @@ static void dash_turn(unsigned turn)
 
 static void dash_frame(unsigned turn, hg_frame frame)
 {
-    hg_served got = hg_frame_in_place(&bridge, buffer, sizeof buffer, frame);
+    hg_yielded got = hg_bridge_frame_in_place(&bridge, buffer, sizeof buffer, frame);
     if (got.number == 0)
         printf("turn %3u  dash    takes  0x%08" PRIX32 "\n", turn, frame.id);
     else
@@ -167,38 +167,38 @@ int main(void)
     uint8_t text[WRITE_COUNT];
     memcpy(text, "twenty bytes, no end", sizeof text);
     device_start();
-    hg_changed fresh = hg_reset(bridge, DASH);
+    hg_changed fresh = hg_bridge_reset(bridge, DASH);
     if (fresh.number != 0) {
         printf("reset refused with number %u\n", fresh.number);
         return 1;
     }
     bridge = fresh.bridge;
 
-    uint32_t read = opened("read", hg_open_read(bridge, buffer, sizeof buffer, DEVICE, READ_TABLE, READ_OFFSET, READ_COUNT));
-    uint32_t write = opened("write", hg_open_write(bridge, buffer, sizeof buffer, DEVICE, WRITE_TABLE, WRITE_OFFSET, text, sizeof text));
+    uint32_t read = opened("read", hg_bridge_open_read(bridge, buffer, sizeof buffer, DEVICE, READ_TABLE, READ_OFFSET, READ_COUNT));
+    uint32_t write = opened("write", hg_bridge_open_write(bridge, buffer, sizeof buffer, DEVICE, WRITE_TABLE, WRITE_OFFSET, text, sizeof text));
 
     /* A transfer ends within 72 turns for each started eight bytes. */
     unsigned turn = 0;
     bool written = false;
-    while (hg_status(bridge, read) == HG_NOT_FINISHED || hg_status(bridge, write) == HG_NOT_FINISHED) {
+    while (hg_bridge_status(bridge, read) == HG_NOT_FINISHED || hg_bridge_status(bridge, write) == HG_NOT_FINISHED) {
         loop_turn(++turn);
-        if (!written && hg_status(bridge, write) == HG_DONE) {
+        if (!written && hg_bridge_status(bridge, write) == HG_DONE) {
             written = true;
             printf("turn %3u  dash    the write is sent\n", turn);
         }
     }
 
-    hg_span shown = hg_span_of(bridge, buffer, sizeof buffer, read);
+    hg_span shown = hg_bridge_span(bridge, buffer, sizeof buffer, read);
     if (shown.number != 0) {
         printf("turn %3u  dash    the read ended with number %u\n", turn, shown.number);
         return 1;
     }
-    bool same = shown.count == READ_COUNT && memcmp(buffer + shown.start, read_table + READ_OFFSET, READ_COUNT) == 0;
+    bool same = shown.len == READ_COUNT && memcmp(buffer + shown.start, read_table + READ_OFFSET, READ_COUNT) == 0;
     bool stored = memcmp(write_table + WRITE_OFFSET, text, sizeof text) == 0;
-    printf("turn %3u  dash    the read is done: %zu bytes, %s\n", turn, shown.count, same ? "the table's" : "NOT the table's");
+    printf("turn %3u  dash    the read is done: %zu bytes, %s\n", turn, shown.len, same ? "the table's" : "NOT the table's");
     printf("          device  has %s\n", stored ? "the bytes written" : "NOT the bytes written");
 
-    uint8_t closed = hg_close_in_place(&bridge, read) | hg_close_in_place(&bridge, write);
+    uint8_t closed = hg_bridge_close_in_place(&bridge, read) | hg_bridge_close_in_place(&bridge, write);
     printf("          dash    closes both, number %u\n", closed);
     return same && stored && closed == 0 ? 0 : 1;
 }

@@ -1,6 +1,6 @@
 /*
  * Honeygimlet: the 29-bit CAN protocol of Megasquirt controllers, a bridge for long reads and writes, and the log formats
- * MLG (MLVLG 2) and FRD 1. Link libcapi.a (`rt staticlib capi`); it needs nothing else. For C11 and C++11, x86-64 Linux.
+ * MLG (MLVLG 2) and FRD 1. Link libhoneygimlet.a (`rt staticlib honeygimlet`); it needs nothing else. For C11 and C++11, x86-64 Linux.
  *
  * Every call judges its arguments: any number in any argument is allowed, and a refusal carries one of the numbers below,
  * changes nothing that it was lent and yields no frame; every other number in its answer is 0, save a block's kind and place, and the
@@ -34,7 +34,7 @@ enum {
     HG_TYPE = 5,             /* type not served */
     HG_REQUEST_BITS = 6,     /* length or reserved request bits wrong */
     HG_NO_RIGHT = 7,         /* table empty, or lacks the right; device or table out of range */
-    HG_RANGE = 8,            /* range past the table's end */
+    HG_RANGE = 8,            /* range past the table's end; offset, or offset and count, too large */
     HG_COUNT = 9,            /* count not allowed */
     HG_MEMORY_LENGTH = 10,   /* lent memory of wrong length */
     HG_UNSOUND = 11,         /* directory, state or own number unsound */
@@ -102,8 +102,8 @@ HG_SIZE(hg_request, 4);
 typedef struct {
     hg_request request;
     uint8_t number;
-} hg_asked;
-HG_SIZE(hg_asked, 6);
+} hg_request_read;
+HG_SIZE(hg_request_read, 6);
 
 typedef struct {
     uint8_t number;
@@ -112,16 +112,16 @@ typedef struct {
 HG_SIZE(hg_request_bytes, 4);
 
 /* The identifier of parts. Numbers: 5 (kind over 7), 7 (from, to or table out of range), 8 (offset over 2,047). */
-hg_packed hg_pack(hg_parts parts);
+hg_packed hg_bus_pack(hg_parts parts);
 
 /* The parts of an identifier. Numbers: 1, 2. */
-hg_unpacked hg_unpack(uint32_t id);
+hg_unpacked hg_bus_unpack(uint32_t id);
 
 /* The request in three bytes. Number: 6 (a reserved bit is set). */
-hg_asked hg_read_request(uint8_t first, uint8_t second, uint8_t third);
+hg_request_read hg_bus_read_request(uint8_t first, uint8_t second, uint8_t third);
 
 /* The three bytes of a request. Numbers: 7 (table over 31), 9 (count over 15), 8 (offset over 2,047). */
-hg_request_bytes hg_request_bytes_of(hg_request request);
+hg_request_bytes hg_bus_request_bytes(hg_request request);
 
 /* ---- Table holder ---- */
 
@@ -138,7 +138,7 @@ HG_SIZE(hg_directory, 102);
 /* An answer: a number, how many frames it has (0 or 1), and the frame, all 0 where there is none. */
 typedef struct {
     uint8_t number;
-    uint8_t answers;
+    uint8_t frames;
     hg_frame frame;
 } hg_served;
 HG_SIZE(hg_served, 20);
@@ -151,7 +151,7 @@ HG_SIZE(hg_served, 20);
  * Numbers: 11, 10, 1, 2, 3, 4, 5, 6, 7, 9, 8, save that XTND of length 0 is 6.
  * Changes the addressed bytes of memory for a CMD answered 0, and nothing else.
  */
-hg_served hg_serve(hg_directory directory, uint8_t *memory, size_t len, hg_frame frame);
+hg_served hg_bus_serve(hg_directory directory, uint8_t *memory, size_t len, hg_frame frame);
 
 /* ---- Bridge ---- */
 
@@ -170,11 +170,11 @@ typedef struct {
     uint8_t count;    /* bytes of the transfer, 1..128 */
     uint8_t progress; /* bytes of it that are done */
     uint8_t sends;    /* sends of the current request */
-    uint8_t left;     /* turns until a waiting read is ready again */
+    uint8_t left;     /* turns until a waiting read is ready again or has given up */
 } hg_slot;
 HG_SIZE(hg_slot, 16);
 
-/* A bridge. Any content will do before the first hg_reset. Its buffer has HG_BUFFER bytes, 128 for each slot; nobody else writes it. */
+/* A bridge. Any content will do before the first hg_bridge_reset. Its buffer has HG_BUFFER bytes, 128 for each slot; nobody else writes it. */
 typedef struct {
     hg_slot slots[4];
     uint32_t issued;  /* the last ticket given */
@@ -192,9 +192,17 @@ typedef struct {
 } hg_opened;
 HG_SIZE(hg_opened, 80);
 
+/* What a turn or an incoming frame answers: a number, how many frames it yields (0 or 1), and the frame, all 0 where there is none. */
+typedef struct {
+    uint8_t number;
+    uint8_t frames;
+    hg_frame frame;
+} hg_yielded;
+HG_SIZE(hg_yielded, 20);
+
 typedef struct {
     hg_bridge bridge;
-    hg_served answer;
+    hg_yielded answer;
 } hg_stepped;
 HG_SIZE(hg_stepped, 92);
 
@@ -208,63 +216,63 @@ HG_SIZE(hg_changed, 76);
 typedef struct {
     uint8_t number;
     size_t start;
-    size_t count;
+    size_t len;
 } hg_span;
 HG_SIZE(hg_span, 24);
 
 /* Calls by value hand back the bridge as they leave it; a refusal hands back the bridge that it was given. */
 
 /* The fresh bridge of an own number, whatever b is. Number: 11 (own over 15). */
-hg_changed hg_reset(hg_bridge b, uint8_t own);
+hg_changed hg_bridge_reset(hg_bridge b, uint8_t own);
 
 /*
  * Opens a read of `count` bytes at an offset of a device's table. Takes the lowest free slot and the next ticket.
  * Numbers: 11, 10, 7 (device over 15, table over 31), 9 (count not 1..128), 8 (offset + count over 2,048), 12, 13.
  * The buffer is not changed.
  */
-hg_opened hg_open_read(hg_bridge b, const uint8_t *buffer, size_t len, uint8_t device, uint8_t table, uint16_t offset, size_t count);
+hg_opened hg_bridge_open_read(hg_bridge b, const uint8_t *buffer, size_t len, uint8_t device, uint8_t table, uint16_t offset, size_t count);
 
 /*
  * Opens a write of the given bytes, which are copied into the slot's part of the buffer; nothing else of it changes.
- * Numbers: as hg_open_read.
+ * Numbers: as hg_bridge_open_read.
  */
-hg_opened hg_open_write(hg_bridge b, uint8_t *buffer, size_t len, uint8_t device, uint8_t table, uint16_t offset, const uint8_t *bytes, size_t count);
+hg_opened hg_bridge_open_write(hg_bridge b, uint8_t *buffer, size_t len, uint8_t device, uint8_t table, uint16_t offset, const uint8_t *bytes, size_t count);
 
 /*
  * A turn: every waiting read gets one turn older (20 turns after a send it is ready again, or after its third send has
- * given up); then the first ready slot after the one last served sends its next frame. `answers` is 0 where none is ready.
+ * given up); then the first ready slot after the one last served sends its next frame. `frames` is 0 where none is ready.
  * Numbers: 11, 10. The buffer is not changed.
  */
-hg_stepped hg_turn(hg_bridge b, const uint8_t *buffer, size_t len);
+hg_stepped hg_bridge_turn(hg_bridge b, const uint8_t *buffer, size_t len);
 
 /*
- * An incoming frame. Its bytes are stored in the buffer for the waiting read that awaits it; `answers` is always 0.
+ * An incoming frame. Its bytes are stored in the buffer for the waiting read that awaits it; `frames` is always 0.
  * Numbers: 11, 10, 1, 2, 3, 4, 5 (not RSP), 17. Changes the bytes that the frame brings, and nothing else of the buffer.
  */
-hg_stepped hg_frame_in(hg_bridge b, uint8_t *buffer, size_t len, hg_frame frame);
+hg_stepped hg_bridge_frame(hg_bridge b, uint8_t *buffer, size_t len, hg_frame frame);
 
 /* How a transfer stands: 0 done, 15 not finished, 16 gave up. Numbers: 11, then 14. A done write was sent, no more. */
-uint8_t hg_status(hg_bridge b, uint32_t ticket);
+uint8_t hg_bridge_status(hg_bridge b, uint32_t ticket);
 
 /*
- * Where a done read's bytes lie in the buffer; a done write has count 0. Start and count are 0 where the number is not 0.
- * Numbers: 11, 10, then hg_status's. Nothing is changed.
+ * Where a done read's bytes lie in the buffer; a done write has length 0. Start and length are 0 where the number is not 0.
+ * Numbers: 11, 10, then hg_bridge_status's. Nothing is changed.
  */
-hg_span hg_span_of(hg_bridge b, const uint8_t *buffer, size_t len, uint32_t ticket);
+hg_span hg_bridge_span(hg_bridge b, const uint8_t *buffer, size_t len, uint32_t ticket);
 
 /* Frees the slot of a ticket, in any phase. Numbers: 11, 14. */
-hg_changed hg_close(hg_bridge b, uint32_t ticket);
+hg_changed hg_bridge_close(hg_bridge b, uint32_t ticket);
 
 /* The same turn, incoming frame and closing, which change the bridge where it stands; a refusal leaves it as it was. */
 
-/* hg_turn in place. Numbers: 11, 10. The buffer is not changed. */
-hg_served hg_turn_in_place(hg_bridge *b, const uint8_t *buffer, size_t len);
+/* hg_bridge_turn in place. Numbers: 11, 10. The buffer is not changed. */
+hg_yielded hg_bridge_turn_in_place(hg_bridge *b, const uint8_t *buffer, size_t len);
 
-/* hg_frame_in in place. Numbers: 11, 10, 1, 2, 3, 4, 5 (not RSP), 17. Changes the bytes that the frame brings, and nothing else of the buffer. */
-hg_served hg_frame_in_place(hg_bridge *b, uint8_t *buffer, size_t len, hg_frame frame);
+/* hg_bridge_frame in place. Numbers: 11, 10, 1, 2, 3, 4, 5 (not RSP), 17. Changes the bytes that the frame brings, and nothing else of the buffer. */
+hg_yielded hg_bridge_frame_in_place(hg_bridge *b, uint8_t *buffer, size_t len, hg_frame frame);
 
-/* hg_close in place. Numbers: 11, 14. */
-uint8_t hg_close_in_place(hg_bridge *b, uint32_t ticket);
+/* hg_bridge_close in place. Numbers: 11, 14. */
+uint8_t hg_bridge_close_in_place(hg_bridge *b, uint32_t ticket);
 
 /* ---- MLG ---- */
 
@@ -285,12 +293,12 @@ enum { HG_BLOCK_DATA = 0, HG_BLOCK_MARK = 1, HG_BLOCK_TIME = 1, HG_BLOCK_END = 2
 typedef struct {
     size_t place; /* a refusal's: where the block stands */
     size_t start; /* where the record or the text starts */
-    size_t count; /* length of the record, or of the text before its zero */
+    size_t len;   /* length of the record, or of the text before its zero */
     uint16_t time;
     uint8_t number;
     uint8_t kind;
     uint8_t counter;
-    uint8_t right; /* 1 if the counter is the expected one */
+    uint8_t as_expected; /* 1 if the counter is the expected one */
 } hg_mlg_block;
 HG_SIZE(hg_mlg_block, 32);
 
@@ -339,7 +347,7 @@ hg_span hg_mlg_info_span(const uint8_t *file, size_t len);
  * bytes the line `too long`. No listing is longer than HG_LISTING bytes. Number: 27.
  */
 enum { HG_LISTING = 327680 };
-hg_written hg_list(uint8_t *out, size_t len, const uint8_t *file, size_t file_len);
+hg_written hg_mlg_list(uint8_t *out, size_t len, const uint8_t *file, size_t file_len);
 
 /*
  * Writes a header: fields of 89 bytes each, the names area, and the info text without its zero (empty: none).
@@ -367,10 +375,10 @@ typedef struct {
 HG_SIZE(hg_shown, 8);
 
 /* A raw value by its field's 89 bytes and its raw bytes; an F32's is its bits. Numbers: 23 (not 89), 24, 23 (raw length). */
-hg_raw hg_raw_value(const uint8_t *field, size_t field_len, const uint8_t *raw, size_t raw_len);
+hg_raw hg_mlg_raw_value(const uint8_t *field, size_t field_len, const uint8_t *raw, size_t raw_len);
 
 /* A shown value: raw plus transform, times scale, each rounded to f32. Numbers: 23, 24, 23, 30. */
-hg_shown hg_shown_value(const uint8_t *field, size_t field_len, const uint8_t *raw, size_t raw_len);
+hg_shown hg_mlg_shown_value(const uint8_t *field, size_t field_len, const uint8_t *raw, size_t raw_len);
 
 /* ---- FRD ---- */
 
@@ -384,12 +392,12 @@ HG_SIZE(hg_frd_header, 8);
 typedef struct {
     size_t place; /* a refusal's: where the block stands */
     size_t start; /* where the bytes of a data block start */
-    size_t count;
+    size_t len;
     uint32_t time;
     uint8_t number;
     uint8_t kind;
     uint8_t counter;
-    uint8_t right; /* 1 if the counter is the expected one */
+    uint8_t as_expected; /* 1 if the counter is the expected one */
 } hg_frd_block;
 HG_SIZE(hg_frd_block, 32);
 
@@ -403,7 +411,7 @@ hg_frd_block hg_frd_read_block(const uint8_t *file, size_t len, uint16_t size, u
 hg_tally hg_frd_count_blocks(const uint8_t *file, size_t len);
 
 /* The 63 bytes of the signature. Numbers: as hg_frd_read_header. */
-hg_span hg_frd_signature_span(const uint8_t *file, size_t len);
+hg_span hg_frd_read_signature(const uint8_t *file, size_t len);
 
 /* Writes a header. Numbers: 23 (signature not of 63 bytes), 27. */
 hg_written hg_frd_write_header(uint8_t *out, size_t len, uint32_t time, const uint8_t *signature, size_t signature_len, uint16_t size);

@@ -52,7 +52,7 @@ pub struct Request {
 
 #[repr(C)]
 #[derive(Clone, Copy, Debug, Default, PartialEq, Eq)]
-pub struct Asked {
+pub struct RequestRead {
     pub request: Request,
     pub number: u8,
 }
@@ -78,7 +78,15 @@ pub struct Directory {
 #[derive(Clone, Copy, Debug, Default, PartialEq, Eq)]
 pub struct Served {
     pub number: u8,
-    pub answers: u8,
+    pub frames: u8,
+    pub frame: Frame,
+}
+
+#[repr(C)]
+#[derive(Clone, Copy, Debug, Default, PartialEq, Eq)]
+pub struct Yielded {
+    pub number: u8,
+    pub frames: u8,
     pub frame: Frame,
 }
 
@@ -127,7 +135,7 @@ pub struct Opened {
 #[derive(Clone, Copy, Debug, Default, PartialEq, Eq)]
 pub struct Stepped {
     pub bridge: Bridge,
-    pub answer: Served,
+    pub answer: Yielded,
 }
 
 #[repr(C)]
@@ -142,7 +150,7 @@ pub struct Changed {
 pub struct Span {
     pub number: u8,
     pub start: usize,
-    pub count: usize,
+    pub len: usize,
 }
 
 #[repr(C)]
@@ -169,12 +177,12 @@ pub const BLOCK_REFUSED: u8 = 3;
 pub struct MlgBlock {
     pub place: usize,
     pub start: usize,
-    pub count: usize,
+    pub len: usize,
     pub time: u16,
     pub number: u8,
     pub kind: u8,
     pub counter: u8,
-    pub right: u8,
+    pub as_expected: u8,
 }
 
 /// `ending` is 0 at the file's end, else the number that refuses what stands at `place`.
@@ -234,12 +242,12 @@ pub struct FrdHeader {
 pub struct FrdBlock {
     pub place: usize,
     pub start: usize,
-    pub count: usize,
+    pub len: usize,
     pub time: u32,
     pub number: u8,
     pub kind: u8,
     pub counter: u8,
-    pub right: u8,
+    pub as_expected: u8,
 }
 
 const _: () = {
@@ -248,10 +256,11 @@ const _: () = {
     assert!(size_of::<Unpacked>() == 8);
     assert!(size_of::<Frame>() == 16);
     assert!(size_of::<Request>() == 4);
-    assert!(size_of::<Asked>() == 6);
+    assert!(size_of::<RequestRead>() == 6);
     assert!(size_of::<RequestBytes>() == 4);
     assert!(size_of::<Directory>() == 102);
     assert!(size_of::<Served>() == 20);
+    assert!(size_of::<Yielded>() == 20);
     assert!(size_of::<Slot>() == 16);
     assert!(size_of::<Bridge>() == 72);
     assert!(size_of::<Opened>() == 80);

@@ -134,7 +134,7 @@ impl Side for Faulty {
         answer
     }
 
-    fn read_request(&self, first: u8, second: u8, third: u8) -> Asked {
+    fn read_request(&self, first: u8, second: u8, third: u8) -> RequestRead {
         let third = if self.has(ReservedBitIgnored) { third & 0xEF } else { third };
         Model.read_request(first, second, third)
     }
@@ -169,7 +169,7 @@ impl Side for Faulty {
         if self.has(XtndLength0Is5) && answer.number == 6 && kind == 7 && frame.len == 0 {
             answer.number = 5;
         }
-        if self.has(GarbagePastReply) && answer.answers == 1 && answer.frame.len < 8 {
+        if self.has(GarbagePastReply) && answer.frames == 1 && answer.frame.len < 8 {
             answer.frame.bytes[7] = 1;
         }
         if self.has(CmdClearsRest) && *memory != before[..] {
@@ -206,7 +206,7 @@ impl Side for Faulty {
             b.last = 3;
         }
         let mut answer = Model.turn(b, buffer);
-        if self.has(ServesSlot0First) && answer.answer.answers == 0 {
+        if self.has(ServesSlot0First) && answer.answer.frames == 0 {
             answer.bridge.last = given.last;
         }
         if self.has(NineteenTurns) {
@@ -220,7 +220,7 @@ impl Side for Faulty {
         answer
     }
 
-    fn frame_in(&self, b: Bridge, buffer: &mut [u8], mut frame: Frame) -> Stepped {
+    fn frame(&self, b: Bridge, buffer: &mut [u8], mut frame: Frame) -> Stepped {
         if let (true, Some((index, parts))) = (bridge::sound(&b), awaited(&b, &frame)) {
             if self.has(TakesReplyOfAnyDevice) {
                 frame.id = identifier::pack(Parts { from: b.slots[index].device, ..parts }).unwrap();
@@ -229,7 +229,7 @@ impl Side for Faulty {
                 frame.len = bridge::chunk(&b.slots[index]) as u8;
             }
         }
-        let mut answer = Model.frame_in(b, buffer, frame);
+        let mut answer = Model.frame(b, buffer, frame);
         if answer.answer.number == 0 {
             let (index, _) = awaited(&b, &frame).unwrap();
             if self.has(SendsKeptAfterReply) && answer.bridge.slots[index].phase == READY {
@@ -263,8 +263,8 @@ impl Side for Faulty {
 
     fn span(&self, b: Bridge, buffer: &[u8], ticket: u32) -> Span {
         let mut span = Model.span(b, buffer, ticket);
-        if self.has(BytesOfDoneWrite) && span.number == 0 && span.count == 0 {
-            span.count = 8;
+        if self.has(BytesOfDoneWrite) && span.number == 0 && span.len == 0 {
+            span.len = 8;
         }
         span
     }
@@ -286,16 +286,16 @@ impl Side for Faulty {
         changed
     }
 
-    fn turn_in_place(&self, b: &mut Bridge, buffer: &[u8]) -> Served {
+    fn turn_in_place(&self, b: &mut Bridge, buffer: &[u8]) -> Yielded {
         let before = *b;
         let answer = Model.turn_in_place(b, buffer);
-        if self.has(TurnInPlaceForgets) && answer.answers == 0 {
+        if self.has(TurnInPlaceForgets) && answer.frames == 0 {
             *b = before;
         }
         answer
     }
 
-    fn frame_in_place(&self, b: &mut Bridge, buffer: &mut [u8], frame: Frame) -> Served {
+    fn frame_in_place(&self, b: &mut Bridge, buffer: &mut [u8], frame: Frame) -> Yielded {
         Model.frame_in_place(b, buffer, frame)
     }
 
@@ -342,9 +342,9 @@ impl Side for Faulty {
         let mut block = Model.mlg_read_block(file, size, earlier, place);
         if block.number == 0 && block.kind != BLOCK_END {
             if self.has(CounterModulo256) {
-                block.right = (block.counter as u64 == earlier % 256) as u8;
+                block.as_expected = (block.counter as u64 == earlier % 256) as u8;
             }
-            if self.has(WrongCounterRefused) && block.right == 0 {
+            if self.has(WrongCounterRefused) && block.as_expected == 0 {
                 return MlgBlock { place, number: 23, kind: BLOCK_REFUSED, ..MlgBlock::default() };
             }
         }
@@ -355,7 +355,7 @@ impl Side for Faulty {
             return MlgBlock { place, number: 23, kind: BLOCK_REFUSED, ..MlgBlock::default() };
         }
         if self.has(MarkTextOf50) && block.number == 28 {
-            return MlgBlock { start: place + 4, count: 50, kind: BLOCK_MARK, ..MlgBlock::default() };
+            return MlgBlock { start: place + 4, len: 50, kind: BLOCK_MARK, ..MlgBlock::default() };
         }
         if self.has(RefusalWithoutPlace) {
             block.place = 0;
@@ -372,7 +372,7 @@ impl Side for Faulty {
             if self.has(TallyWithoutMarks) && block.kind == BLOCK_MARK {
                 tally.blocks -= 1;
             }
-            if self.has(TallyEndsAtWrongCounter) && block.right == 0 {
+            if self.has(TallyEndsAtWrongCounter) && block.as_expected == 0 {
                 return Tally { blocks: earlier, ending: 23, place };
             }
             place += if block.kind == BLOCK_DATA { 5 + header.size as usize } else { mlg::MARK };
@@ -386,7 +386,7 @@ impl Side for Faulty {
     fn mlg_field_span(&self, file: &[u8], index: u16) -> Span {
         let header = Model.mlg_read_header(file);
         if self.has(FieldAfterTheLast) && header.number == 0 && index == header.count {
-            return Span { number: 0, start: 24 + 89 * index as usize, count: 89 };
+            return Span { number: 0, start: 24 + 89 * index as usize, len: 89 };
         }
         Model.mlg_field_span(file, index)
     }
@@ -394,7 +394,7 @@ impl Side for Faulty {
     fn mlg_names_span(&self, file: &[u8]) -> Span {
         let mut span = Model.mlg_names_span(file);
         if self.has(NamesToBegin) && span.number == 0 {
-            span.count = Model.mlg_read_header(file).begin as usize - span.start;
+            span.len = Model.mlg_read_header(file).begin as usize - span.start;
         }
         span
     }
@@ -402,9 +402,9 @@ impl Side for Faulty {
     fn mlg_info_span(&self, file: &[u8]) -> Span {
         let mut span = Model.mlg_info_span(file);
         if self.has(InfoWithItsZero) && span.start != 0 {
-            span.count += 1;
+            span.len += 1;
         }
-        if self.has(EmptyInfoStartsAt0) && span.count == 0 {
+        if self.has(EmptyInfoStartsAt0) && span.len == 0 {
             span.start = 0;
         }
         span
@@ -486,7 +486,7 @@ impl Side for Faulty {
     fn frd_read_block(&self, file: &[u8], size: u16, earlier: u64, place: usize) -> FrdBlock {
         let mut block = Model.frd_read_block(file, size, earlier, place);
         if self.has(FrdCounterModulo255) && block.number == 0 && block.kind != BLOCK_END {
-            block.right = (block.counter as u64 == earlier % 255) as u8;
+            block.as_expected = (block.counter as u64 == earlier % 255) as u8;
         }
         if self.has(FrdType0Taken) && block.number == 25 && file[place] == 0 {
             block.number = 20;
@@ -502,10 +502,10 @@ impl Side for Faulty {
         tally
     }
 
-    fn frd_signature_span(&self, file: &[u8]) -> Span {
-        let mut span = Model.frd_signature_span(file);
+    fn frd_read_signature(&self, file: &[u8]) -> Span {
+        let mut span = Model.frd_read_signature(file);
         if self.has(SignatureOf62) && span.number == 0 {
-            span.count = 62;
+            span.len = 62;
         }
         span
     }

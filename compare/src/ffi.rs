@@ -10,23 +10,23 @@ use std::process::{Command, Stdio};
 
 #[rustfmt::skip]
 extern "C" {
-    fn hg_pack(parts: Parts) -> Packed;
-    fn hg_unpack(id: u32) -> Unpacked;
-    fn hg_read_request(first: u8, second: u8, third: u8) -> Asked;
-    fn hg_request_bytes_of(request: Request) -> RequestBytes;
-    fn hg_serve(directory: Directory, memory: *mut u8, len: usize, frame: Frame) -> Served;
+    fn hg_bus_pack(parts: Parts) -> Packed;
+    fn hg_bus_unpack(id: u32) -> Unpacked;
+    fn hg_bus_read_request(first: u8, second: u8, third: u8) -> RequestRead;
+    fn hg_bus_request_bytes(request: Request) -> RequestBytes;
+    fn hg_bus_serve(directory: Directory, memory: *mut u8, len: usize, frame: Frame) -> Served;
 
-    fn hg_open_read(b: Bridge, buffer: *const u8, len: usize, device: u8, table: u8, offset: u16, count: usize) -> Opened;
-    fn hg_open_write(b: Bridge, buffer: *mut u8, len: usize, device: u8, table: u8, offset: u16, bytes: *const u8, count: usize) -> Opened;
-    fn hg_turn(b: Bridge, buffer: *const u8, len: usize) -> Stepped;
-    fn hg_frame_in(b: Bridge, buffer: *mut u8, len: usize, frame: Frame) -> Stepped;
-    fn hg_status(b: Bridge, ticket: u32) -> u8;
-    fn hg_span_of(b: Bridge, buffer: *const u8, len: usize, ticket: u32) -> Span;
-    fn hg_close(b: Bridge, ticket: u32) -> Changed;
-    fn hg_reset(b: Bridge, own: u8) -> Changed;
-    fn hg_turn_in_place(b: *mut Bridge, buffer: *const u8, len: usize) -> Served;
-    fn hg_frame_in_place(b: *mut Bridge, buffer: *mut u8, len: usize, frame: Frame) -> Served;
-    fn hg_close_in_place(b: *mut Bridge, ticket: u32) -> u8;
+    fn hg_bridge_open_read(b: Bridge, buffer: *const u8, len: usize, device: u8, table: u8, offset: u16, count: usize) -> Opened;
+    fn hg_bridge_open_write(b: Bridge, buffer: *mut u8, len: usize, device: u8, table: u8, offset: u16, bytes: *const u8, count: usize) -> Opened;
+    fn hg_bridge_turn(b: Bridge, buffer: *const u8, len: usize) -> Stepped;
+    fn hg_bridge_frame(b: Bridge, buffer: *mut u8, len: usize, frame: Frame) -> Stepped;
+    fn hg_bridge_status(b: Bridge, ticket: u32) -> u8;
+    fn hg_bridge_span(b: Bridge, buffer: *const u8, len: usize, ticket: u32) -> Span;
+    fn hg_bridge_close(b: Bridge, ticket: u32) -> Changed;
+    fn hg_bridge_reset(b: Bridge, own: u8) -> Changed;
+    fn hg_bridge_turn_in_place(b: *mut Bridge, buffer: *const u8, len: usize) -> Yielded;
+    fn hg_bridge_frame_in_place(b: *mut Bridge, buffer: *mut u8, len: usize, frame: Frame) -> Yielded;
+    fn hg_bridge_close_in_place(b: *mut Bridge, ticket: u32) -> u8;
 
     fn hg_mlg_read_header(file: *const u8, len: usize) -> MlgHeader;
     fn hg_mlg_read_block(file: *const u8, len: usize, size: u16, earlier: u64, place: usize) -> MlgBlock;
@@ -37,24 +37,24 @@ extern "C" {
     fn hg_mlg_write_header(out: *mut u8, len: usize, time: u32, fields: *const u8, fields_len: usize, names: *const u8, names_len: usize, info: *const u8, info_len: usize) -> Written;
     fn hg_mlg_write_data(out: *mut u8, len: usize, size: u16, earlier: u64, time: u16, record: *const u8, record_len: usize) -> Written;
     fn hg_mlg_write_mark(out: *mut u8, len: usize, earlier: u64, time: u16, text: *const u8, text_len: usize) -> Written;
-    fn hg_raw_value(field: *const u8, field_len: usize, raw: *const u8, raw_len: usize) -> Raw;
-    fn hg_shown_value(field: *const u8, field_len: usize, raw: *const u8, raw_len: usize) -> Shown;
+    fn hg_mlg_raw_value(field: *const u8, field_len: usize, raw: *const u8, raw_len: usize) -> Raw;
+    fn hg_mlg_shown_value(field: *const u8, field_len: usize, raw: *const u8, raw_len: usize) -> Shown;
 
     fn hg_frd_read_header(file: *const u8, len: usize) -> FrdHeader;
     fn hg_frd_read_block(file: *const u8, len: usize, size: u16, earlier: u64, place: usize) -> FrdBlock;
     fn hg_frd_count_blocks(file: *const u8, len: usize) -> Tally;
-    fn hg_frd_signature_span(file: *const u8, len: usize) -> Span;
+    fn hg_frd_read_signature(file: *const u8, len: usize) -> Span;
     fn hg_frd_write_header(out: *mut u8, len: usize, time: u32, signature: *const u8, signature_len: usize, size: u16) -> Written;
     fn hg_frd_write_data(out: *mut u8, len: usize, size: u16, earlier: u64, record: *const u8, record_len: usize) -> Written;
     fn hg_frd_write_time(out: *mut u8, len: usize, earlier: u64, time: u32) -> Written;
 
-    fn hg_list(out: *mut u8, len: usize, file: *const u8, file_len: usize) -> Written;
+    fn hg_mlg_list(out: *mut u8, len: usize, file: *const u8, file_len: usize) -> Written;
 }
 
 /// Longer than the listing of any file of 65,536 bytes.
 const LISTING: usize = 1 << 22;
 
-/// `loglist` is the path of the listing program, where that is to be compared and not `hg_list`.
+/// `loglist` is the path of the listing program, where that is to be compared and not `hg_mlg_list`.
 pub struct Library {
     pub loglist: Option<String>,
 }
@@ -62,68 +62,68 @@ pub struct Library {
 // SAFETY, for all: each pointer comes from a slice with its length, and lives for the call.
 impl Side for Library {
     fn pack(&self, parts: Parts) -> Packed {
-        unsafe { hg_pack(parts) }
+        unsafe { hg_bus_pack(parts) }
     }
 
     fn unpack(&self, id: u32) -> Unpacked {
-        unsafe { hg_unpack(id) }
+        unsafe { hg_bus_unpack(id) }
     }
 
-    fn read_request(&self, first: u8, second: u8, third: u8) -> Asked {
-        unsafe { hg_read_request(first, second, third) }
+    fn read_request(&self, first: u8, second: u8, third: u8) -> RequestRead {
+        unsafe { hg_bus_read_request(first, second, third) }
     }
 
     fn request_bytes(&self, request: Request) -> RequestBytes {
-        unsafe { hg_request_bytes_of(request) }
+        unsafe { hg_bus_request_bytes(request) }
     }
 
     fn serve(&self, directory: Directory, memory: &mut [u8], frame: Frame) -> Served {
-        unsafe { hg_serve(directory, memory.as_mut_ptr(), memory.len(), frame) }
+        unsafe { hg_bus_serve(directory, memory.as_mut_ptr(), memory.len(), frame) }
     }
 
     fn open_read(&self, b: Bridge, buffer: &[u8], device: u8, table: u8, offset: u16, count: usize) -> Opened {
-        unsafe { hg_open_read(b, buffer.as_ptr(), buffer.len(), device, table, offset, count) }
+        unsafe { hg_bridge_open_read(b, buffer.as_ptr(), buffer.len(), device, table, offset, count) }
     }
 
     fn open_write(&self, b: Bridge, buffer: &mut [u8], device: u8, table: u8, offset: u16, bytes: &[u8]) -> Opened {
         let (start, len) = (buffer.as_mut_ptr(), buffer.len());
-        unsafe { hg_open_write(b, start, len, device, table, offset, bytes.as_ptr(), bytes.len()) }
+        unsafe { hg_bridge_open_write(b, start, len, device, table, offset, bytes.as_ptr(), bytes.len()) }
     }
 
     fn turn(&self, b: Bridge, buffer: &[u8]) -> Stepped {
-        unsafe { hg_turn(b, buffer.as_ptr(), buffer.len()) }
+        unsafe { hg_bridge_turn(b, buffer.as_ptr(), buffer.len()) }
     }
 
-    fn frame_in(&self, b: Bridge, buffer: &mut [u8], frame: Frame) -> Stepped {
-        unsafe { hg_frame_in(b, buffer.as_mut_ptr(), buffer.len(), frame) }
+    fn frame(&self, b: Bridge, buffer: &mut [u8], frame: Frame) -> Stepped {
+        unsafe { hg_bridge_frame(b, buffer.as_mut_ptr(), buffer.len(), frame) }
     }
 
     fn status(&self, b: Bridge, ticket: u32) -> u8 {
-        unsafe { hg_status(b, ticket) }
+        unsafe { hg_bridge_status(b, ticket) }
     }
 
     fn span(&self, b: Bridge, buffer: &[u8], ticket: u32) -> Span {
-        unsafe { hg_span_of(b, buffer.as_ptr(), buffer.len(), ticket) }
+        unsafe { hg_bridge_span(b, buffer.as_ptr(), buffer.len(), ticket) }
     }
 
     fn close(&self, b: Bridge, ticket: u32) -> Changed {
-        unsafe { hg_close(b, ticket) }
+        unsafe { hg_bridge_close(b, ticket) }
     }
 
     fn reset(&self, b: Bridge, own: u8) -> Changed {
-        unsafe { hg_reset(b, own) }
+        unsafe { hg_bridge_reset(b, own) }
     }
 
-    fn turn_in_place(&self, b: &mut Bridge, buffer: &[u8]) -> Served {
-        unsafe { hg_turn_in_place(b, buffer.as_ptr(), buffer.len()) }
+    fn turn_in_place(&self, b: &mut Bridge, buffer: &[u8]) -> Yielded {
+        unsafe { hg_bridge_turn_in_place(b, buffer.as_ptr(), buffer.len()) }
     }
 
-    fn frame_in_place(&self, b: &mut Bridge, buffer: &mut [u8], frame: Frame) -> Served {
-        unsafe { hg_frame_in_place(b, buffer.as_mut_ptr(), buffer.len(), frame) }
+    fn frame_in_place(&self, b: &mut Bridge, buffer: &mut [u8], frame: Frame) -> Yielded {
+        unsafe { hg_bridge_frame_in_place(b, buffer.as_mut_ptr(), buffer.len(), frame) }
     }
 
     fn close_in_place(&self, b: &mut Bridge, ticket: u32) -> u8 {
-        unsafe { hg_close_in_place(b, ticket) }
+        unsafe { hg_bridge_close_in_place(b, ticket) }
     }
 
     fn mlg_read_header(&self, file: &[u8]) -> MlgHeader {
@@ -167,11 +167,11 @@ impl Side for Library {
     }
 
     fn raw_value(&self, field: &[u8], raw: &[u8]) -> Raw {
-        unsafe { hg_raw_value(field.as_ptr(), field.len(), raw.as_ptr(), raw.len()) }
+        unsafe { hg_mlg_raw_value(field.as_ptr(), field.len(), raw.as_ptr(), raw.len()) }
     }
 
     fn shown_value(&self, field: &[u8], raw: &[u8]) -> Shown {
-        unsafe { hg_shown_value(field.as_ptr(), field.len(), raw.as_ptr(), raw.len()) }
+        unsafe { hg_mlg_shown_value(field.as_ptr(), field.len(), raw.as_ptr(), raw.len()) }
     }
 
     fn frd_read_header(&self, file: &[u8]) -> FrdHeader {
@@ -186,8 +186,8 @@ impl Side for Library {
         unsafe { hg_frd_count_blocks(file.as_ptr(), file.len()) }
     }
 
-    fn frd_signature_span(&self, file: &[u8]) -> Span {
-        unsafe { hg_frd_signature_span(file.as_ptr(), file.len()) }
+    fn frd_read_signature(&self, file: &[u8]) -> Span {
+        unsafe { hg_frd_read_signature(file.as_ptr(), file.len()) }
     }
 
     fn frd_write_header(&self, out: &mut [u8], time: u32, signature: &[u8], size: u16) -> Written {
@@ -204,12 +204,12 @@ impl Side for Library {
         unsafe { hg_frd_write_time(out.as_mut_ptr(), out.len(), earlier, time) }
     }
 
-    /// What the listing program writes on the file, or `hg_list` where there is no program.
+    /// What the listing program writes on the file, or `hg_mlg_list` where there is no program.
     fn listing(&self, file: &[u8]) -> Option<Vec<u8>> {
         let Some(program) = self.loglist.as_ref() else {
             let mut out = vec![0; LISTING];
-            let written = unsafe { hg_list(out.as_mut_ptr(), out.len(), file.as_ptr(), file.len()) };
-            assert_eq!(written.number, 0, "hg_list");
+            let written = unsafe { hg_mlg_list(out.as_mut_ptr(), out.len(), file.as_ptr(), file.len()) };
+            assert_eq!(written.number, 0, "hg_mlg_list");
             out.truncate(written.len);
             return Some(out);
         };

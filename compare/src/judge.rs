@@ -17,7 +17,7 @@ pub trait Answer: PartialEq + Debug {
 macro_rules! answers {
     ($($name:ty),*) => { $(impl Answer for $name { fn number(&self) -> u8 { self.number } })* };
 }
-answers!(Packed, Unpacked, Asked, RequestBytes, Served, Opened, Changed, Span);
+answers!(Packed, Unpacked, RequestRead, RequestBytes, Served, Yielded, Opened, Changed, Span);
 answers!(MlgHeader, MlgBlock, Written, Raw, Shown, FrdHeader, FrdBlock);
 
 impl Answer for Stepped {

@@ -58,9 +58,9 @@ fn identifiers(side: &dyn Side, list: &mut List) {
 }
 
 fn requests(side: &dyn Side, list: &mut List) {
-    let asked = |table, offset, count| Asked { request: Request { table, count, offset }, number: 0 };
+    let asked = |table, offset, count| RequestRead { request: Request { table, count, offset }, number: 0 };
     list.add("06 10 02", side.read_request(0x06, 0x10, 0x02), asked(6, 128, 2));
-    list.add("06 10 12", side.read_request(0x06, 0x10, 0x12), Asked { number: 6, ..Asked::default() });
+    list.add("06 10 12", side.read_request(0x06, 0x10, 0x12), RequestRead { number: 6, ..RequestRead::default() });
     list.add("1F FF E8", side.read_request(0x1F, 0xFF, 0xE8), asked(31, 2047, 8));
 
     // table 7 with 0B B8 at offset 6, asked by device 5 with `06 10 02`
@@ -71,7 +71,7 @@ fn requests(side: &dyn Side, list: &mut List) {
     memory[6..8].copy_from_slice(&[0x0B, 0xB8]);
     let answer = side.serve(directory, &mut memory, frame(0x18A838, &[0x06, 0x10, 0x02]));
     let reply = frame(0x20102B0, &[0x0B, 0xB8]);
-    list.add("0B B8 come back under 0x20102B0", answer, Served { number: 0, answers: 1, frame: reply });
+    list.add("0B B8 come back under 0x20102B0", answer, Served { number: 0, frames: 1, frame: reply });
 }
 
 /// Document 002's own examples (4.1, 4.2), whose identifiers are those on the wire: device 7
@@ -91,7 +91,7 @@ fn wire_examples(side: &dyn Side, list: &mut List) {
     ];
     for (name, id, bytes, reply, data) in examples {
         let answer = side.serve(directory, &mut memory, frame(id, &bytes));
-        list.add(&format!("002: {name}"), answer, Served { number: 0, answers: 1, frame: frame(reply, data) });
+        list.add(&format!("002: {name}"), answer, Served { number: 0, frames: 1, frame: frame(reply, data) });
     }
 }
 
@@ -123,24 +123,24 @@ fn bridge_read(side: &dyn Side, list: &mut List) {
     let first = side.turn(opened.bridge, &buffer);
     list.add("its first request", first.answer.frame, frame(0x1882B8, &[0x06, 0x00, 0x08]));
     let reply = frame(0x12830, &[1, 2, 3, 4, 5, 6, 7, 8]);
-    let taken = side.frame_in(first.bridge, &mut buffer, reply);
+    let taken = side.frame(first.bridge, &mut buffer, reply);
     list.add("its reply", taken.answer.number, 0);
     let second = side.turn(taken.bridge, &buffer);
     list.add("its second request", second.answer.frame, frame(0x3882B8, &[0x06, 0x01, 0x02]));
 
     for (wrong, id) in [("device", 0x13030), ("table", 0x12838), ("offset", 0x212830 | 1 << 18)] {
         let before = buffer;
-        let taken = side.frame_in(first.bridge, &mut buffer, Frame { id, ..reply });
+        let taken = side.frame(first.bridge, &mut buffer, Frame { id, ..reply });
         list.add(&format!("a reply of the wrong {wrong}"), (taken.answer.number, buffer), (17, before));
     }
-    let short = side.frame_in(first.bridge, &mut buffer, Frame { len: 7, ..reply });
+    let short = side.frame(first.bridge, &mut buffer, Frame { len: 7, ..reply });
     list.add("a reply of the wrong length", short.answer.number, 17);
 
     let last = frame(side.pack(Parts { offset: 8, kind: 2, from: 5, to: 0, table: 6 }).id, &[9, 10]);
-    let done = side.frame_in(second.bridge, &mut buffer, last);
+    let done = side.frame(second.bridge, &mut buffer, last);
     list.add("status after both replies", side.status(done.bridge, 1), 0);
     let span = side.span(done.bridge, &buffer, 1);
-    list.add("its part of the buffer", span, Span { number: 0, start: 0, count: 10 });
+    list.add("its part of the buffer", span, Span { number: 0, start: 0, len: 10 });
     list.add("its bytes", buffer[..10].to_vec(), (1..=10).collect());
 }
 
@@ -152,7 +152,7 @@ fn silent_device(side: &dyn Side, list: &mut List) {
         let before = side.status(bridge, 1);
         let stepped = side.turn(bridge, &buffer);
         bridge = stepped.bridge;
-        if stepped.answer.answers == 1 {
+        if stepped.answer.frames == 1 {
             sends.push(turn);
         }
         if before != 16 && side.status(bridge, 1) == 16 {

@@ -8,20 +8,20 @@ use crate::model::{bridge, frd, holder, identifier, listing, mlg, request, value
 pub trait Side {
     fn pack(&self, parts: Parts) -> Packed;
     fn unpack(&self, id: u32) -> Unpacked;
-    fn read_request(&self, first: u8, second: u8, third: u8) -> Asked;
+    fn read_request(&self, first: u8, second: u8, third: u8) -> RequestRead;
     fn request_bytes(&self, request: Request) -> RequestBytes;
     fn serve(&self, directory: Directory, memory: &mut [u8], frame: Frame) -> Served;
 
     fn open_read(&self, b: Bridge, buffer: &[u8], device: u8, table: u8, offset: u16, count: usize) -> Opened;
     fn open_write(&self, b: Bridge, buffer: &mut [u8], device: u8, table: u8, offset: u16, bytes: &[u8]) -> Opened;
     fn turn(&self, b: Bridge, buffer: &[u8]) -> Stepped;
-    fn frame_in(&self, b: Bridge, buffer: &mut [u8], frame: Frame) -> Stepped;
+    fn frame(&self, b: Bridge, buffer: &mut [u8], frame: Frame) -> Stepped;
     fn status(&self, b: Bridge, ticket: u32) -> u8;
     fn span(&self, b: Bridge, buffer: &[u8], ticket: u32) -> Span;
     fn close(&self, b: Bridge, ticket: u32) -> Changed;
     fn reset(&self, b: Bridge, own: u8) -> Changed;
-    fn turn_in_place(&self, b: &mut Bridge, buffer: &[u8]) -> Served;
-    fn frame_in_place(&self, b: &mut Bridge, buffer: &mut [u8], frame: Frame) -> Served;
+    fn turn_in_place(&self, b: &mut Bridge, buffer: &[u8]) -> Yielded;
+    fn frame_in_place(&self, b: &mut Bridge, buffer: &mut [u8], frame: Frame) -> Yielded;
     fn close_in_place(&self, b: &mut Bridge, ticket: u32) -> u8;
 
     fn mlg_read_header(&self, file: &[u8]) -> MlgHeader;
@@ -39,7 +39,7 @@ pub trait Side {
     fn frd_read_header(&self, file: &[u8]) -> FrdHeader;
     fn frd_read_block(&self, file: &[u8], size: u16, earlier: u64, place: usize) -> FrdBlock;
     fn frd_count_blocks(&self, file: &[u8]) -> Tally;
-    fn frd_signature_span(&self, file: &[u8]) -> Span;
+    fn frd_read_signature(&self, file: &[u8]) -> Span;
     fn frd_write_header(&self, out: &mut [u8], time: u32, signature: &[u8], size: u16) -> Written;
     fn frd_write_data(&self, out: &mut [u8], size: u16, earlier: u64, record: &[u8]) -> Written;
     fn frd_write_time(&self, out: &mut [u8], earlier: u64, time: u32) -> Written;
@@ -52,17 +52,25 @@ pub struct Model;
 
 fn served(answer: Result<Option<Frame>, Number>) -> Served {
     match answer {
-        Ok(Some(frame)) => Served { number: 0, answers: 1, frame },
+        Ok(Some(frame)) => Served { number: 0, frames: 1, frame },
         Ok(None) => Served::default(),
         Err(number) => Served { number, ..Served::default() },
     }
 }
 
-/// A part of a buffer or of a file, as start and count.
+fn yielded(answer: Result<Option<Frame>, Number>) -> Yielded {
+    match answer {
+        Ok(Some(frame)) => Yielded { number: 0, frames: 1, frame },
+        Ok(None) => Yielded::default(),
+        Err(number) => Yielded { number, ..Yielded::default() },
+    }
+}
+
+/// A part of a buffer or of a file, as start and length.
 fn span_of(part: Result<(usize, usize), Number>) -> Span {
     match part {
-        Ok((start, count)) => Span { number: 0, start, count },
-        Err(number) => Span { number, start: 0, count: 0 },
+        Ok((start, len)) => Span { number: 0, start, len },
+        Err(number) => Span { number, start: 0, len: 0 },
     }
 }
 
@@ -92,10 +100,10 @@ impl Side for Model {
         }
     }
 
-    fn read_request(&self, first: u8, second: u8, third: u8) -> Asked {
+    fn read_request(&self, first: u8, second: u8, third: u8) -> RequestRead {
         match request::read(first, second, third) {
-            Ok(request) => Asked { request, number: 0 },
-            Err(number) => Asked { request: Request::default(), number },
+            Ok(request) => RequestRead { request, number: 0 },
+            Err(number) => RequestRead { request: Request::default(), number },
         }
     }
 
@@ -132,18 +140,18 @@ impl Side for Model {
 
     fn turn(&self, b: Bridge, buffer: &[u8]) -> Stepped {
         match bridge::turn(&b, buffer) {
-            Ok((bridge, frame)) => Stepped { bridge, answer: served(Ok(frame)) },
-            Err(number) => Stepped { bridge: b, answer: served(Err(number)) },
+            Ok((bridge, frame)) => Stepped { bridge, answer: yielded(Ok(frame)) },
+            Err(number) => Stepped { bridge: b, answer: yielded(Err(number)) },
         }
     }
 
-    fn frame_in(&self, b: Bridge, buffer: &mut [u8], frame: Frame) -> Stepped {
-        match bridge::frame_in(&b, buffer, &frame) {
+    fn frame(&self, b: Bridge, buffer: &mut [u8], frame: Frame) -> Stepped {
+        match bridge::frame(&b, buffer, &frame) {
             Ok((bridge, after)) => {
                 buffer.copy_from_slice(&after);
-                Stepped { bridge, answer: served(Ok(None)) }
+                Stepped { bridge, answer: yielded(Ok(None)) }
             }
-            Err(number) => Stepped { bridge: b, answer: served(Err(number)) },
+            Err(number) => Stepped { bridge: b, answer: yielded(Err(number)) },
         }
     }
 
@@ -170,14 +178,14 @@ impl Side for Model {
     }
 
     /// Thin calls, made after the calls by value.
-    fn turn_in_place(&self, b: &mut Bridge, buffer: &[u8]) -> Served {
+    fn turn_in_place(&self, b: &mut Bridge, buffer: &[u8]) -> Yielded {
         let stepped = self.turn(*b, buffer);
         *b = stepped.bridge;
         stepped.answer
     }
 
-    fn frame_in_place(&self, b: &mut Bridge, buffer: &mut [u8], frame: Frame) -> Served {
-        let stepped = self.frame_in(*b, buffer, frame);
+    fn frame_in_place(&self, b: &mut Bridge, buffer: &mut [u8], frame: Frame) -> Yielded {
+        let stepped = self.frame(*b, buffer, frame);
         *b = stepped.bridge;
         stepped.answer
     }
@@ -198,22 +206,22 @@ impl Side for Model {
     }
 
     fn mlg_read_block(&self, file: &[u8], size: u16, earlier: u64, place: usize) -> MlgBlock {
-        let block = |kind, counter, right, time, start, count| MlgBlock {
+        let block = |kind, counter, as_expected: bool, time, start, len| MlgBlock {
             place: 0,
             start,
-            count,
+            len,
             time,
             number: 0,
             kind,
             counter,
-            right: right as u8,
+            as_expected: as_expected as u8,
         };
         match mlg::read_block(file, size, earlier, place) {
-            Ok(mlg::Block::Data { counter, right, time, start, count }) => {
-                block(BLOCK_DATA, counter, right, time, start, count)
+            Ok(mlg::Block::Data { counter, as_expected, time, start, count }) => {
+                block(BLOCK_DATA, counter, as_expected, time, start, count)
             }
-            Ok(mlg::Block::Mark { counter, right, time, start, count }) => {
-                block(BLOCK_MARK, counter, right, time, start, count)
+            Ok(mlg::Block::Mark { counter, as_expected, time, start, count }) => {
+                block(BLOCK_MARK, counter, as_expected, time, start, count)
             }
             Ok(mlg::Block::End) => MlgBlock { kind: BLOCK_END, ..MlgBlock::default() },
             Err(number) => MlgBlock { place, number, kind: BLOCK_REFUSED, ..MlgBlock::default() },
@@ -276,11 +284,11 @@ impl Side for Model {
     fn frd_read_block(&self, file: &[u8], size: u16, earlier: u64, place: usize) -> FrdBlock {
         let none = FrdBlock::default();
         match frd::read_block(file, size, earlier, place) {
-            Ok(frd::Block::Data { counter, right, start, count }) => {
-                FrdBlock { kind: BLOCK_DATA, counter, right: right as u8, start, count, ..none }
+            Ok(frd::Block::Data { counter, as_expected, start, count }) => {
+                FrdBlock { kind: BLOCK_DATA, counter, as_expected: as_expected as u8, start, len: count, ..none }
             }
-            Ok(frd::Block::Time { counter, right, time }) => {
-                FrdBlock { kind: BLOCK_TIME, counter, right: right as u8, time, ..none }
+            Ok(frd::Block::Time { counter, as_expected, time }) => {
+                FrdBlock { kind: BLOCK_TIME, counter, as_expected: as_expected as u8, time, ..none }
             }
             Ok(frd::Block::End) => FrdBlock { kind: BLOCK_END, ..none },
             Err(number) => FrdBlock { place, number, kind: BLOCK_REFUSED, ..none },
@@ -292,8 +300,8 @@ impl Side for Model {
         Tally { blocks, ending, place }
     }
 
-    fn frd_signature_span(&self, file: &[u8]) -> Span {
-        span_of(frd::signature_span(file))
+    fn frd_read_signature(&self, file: &[u8]) -> Span {
+        span_of(frd::read_signature(file))
     }
 
     fn frd_write_header(&self, out: &mut [u8], time: u32, signature: &[u8], size: u16) -> Written {

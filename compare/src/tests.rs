@@ -88,7 +88,7 @@ fn transfers_end_within_72_turns() {
                             let asked = request::read(a, b, c).unwrap();
                             let id = Parts { offset: asked.offset, kind: 2, from: 5, to: 3, table: asked.table };
                             let reply = holder::frame(id, &rng.bytes(asked.count as usize));
-                            (state, buffer) = bridge::frame_in(&state, &buffer, &reply).unwrap();
+                            (state, buffer) = bridge::frame(&state, &buffer, &reply).unwrap();
                         }
                     }
                     for (ticket, bound, turns) in open.iter_mut() {
@@ -135,7 +135,7 @@ fn bridge_and_holder_together() {
             let (filled, reply) = holder::serve(&directory, &memory, &frame.unwrap()).unwrap();
             memory = filled;
             if let Some(reply) = reply {
-                (state, buffer) = bridge::frame_in(&state, &buffer, &reply).unwrap();
+                (state, buffer) = bridge::frame(&state, &buffer, &reply).unwrap();
             }
         }
         assert!(bridge::status(&state, 1).is_ok());
@@ -201,7 +201,7 @@ fn header_refusals() {
 fn blocks_of_both_formats() {
     let mark = mlg::write_mark(54, 256, 0x0102, b"hello").unwrap();
     assert_eq!(mark[..10], *b"\x01\x01\x01\x02hello\0");
-    let read = mlg::Block::Mark { counter: 1, right: true, time: 0x0102, start: 4, count: 5 };
+    let read = mlg::Block::Mark { counter: 1, as_expected: true, time: 0x0102, start: 4, count: 5 };
     assert_eq!(mlg::read_block(&mark, 9, 256, 0), Ok(read));
     assert_eq!(mlg::read_block(&mark, 9, 256, 54), Ok(mlg::Block::End));
     assert_eq!(mlg::read_block(&mark, 9, 256, 55), Err(23));
@@ -217,7 +217,7 @@ fn blocks_of_both_formats() {
     assert_eq!(frd::write_time(6, 255, 9), Ok(vec![2, 255, 0, 0, 0, 9]));
     assert_eq!(
         frd::read_block(&[2, 0, 0, 0, 0, 9], 2, 256, 0),
-        Ok(frd::Block::Time { counter: 0, right: true, time: 9 })
+        Ok(frd::Block::Time { counter: 0, as_expected: true, time: 9 })
     );
     assert_eq!(frd::read_block(&[0, 0, 0, 0, 0, 9], 2, 256, 0), Err(25));
 }
@@ -244,7 +244,7 @@ fn counts_and_parts() {
 
     let mut file = frd::write_header(81, 5, &[9; 63], 2).unwrap();
     assert_eq!(frd::count_blocks(&file), (0, 0, 81));
-    assert_eq!(frd::signature_span(&file), Ok((12, 63)));
+    assert_eq!(frd::read_signature(&file), Ok((12, 63)));
     assert_eq!(file[12..75], [9; 63]);
     file.extend(frd::write_data(4, 2, 0, &[7, 8]).unwrap());
     file.extend(frd::write_time(6, 7, 9).unwrap());
@@ -252,7 +252,7 @@ fn counts_and_parts() {
     assert_eq!(frd::count_blocks(&file[..90]), (1, 20, 85));
     file[78] = 82;
     assert_eq!(frd::count_blocks(&file), (0, 23, 0));
-    assert_eq!(frd::signature_span(&file), Err(23));
+    assert_eq!(frd::read_signature(&file), Err(23));
 }
 
 #[test]

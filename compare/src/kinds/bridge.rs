@@ -125,15 +125,15 @@ fn compare(
             let other = side.turn_in_place(&mut there, library.get());
             judge.answer("turn_in_place", one, other, input)?;
             judge.same("state after turn_in_place", &here, &there, input)?;
-            if stepped.answer.answers == 1 && stepped.answer.frame.len == 3 {
+            if stepped.answer.frames == 1 && stepped.answer.frame.len == 3 {
                 past.requests.push(stepped.answer.frame);
             }
             stepped.bridge
         }
         Call::Frame(frame) => {
-            let one = Model.frame_in(state, model.get_mut(), *frame);
-            let other = side.frame_in(state, library.get_mut(), *frame);
-            let stepped = judge.answer("frame_in", one, other, input)?;
+            let one = Model.frame(state, model.get_mut(), *frame);
+            let other = side.frame(state, library.get_mut(), *frame);
+            let stepped = judge.answer("frame", one, other, input)?;
             let (mut here, mut there) = (state, state);
             let (mut lent_here, mut lent_there) = (lent.clone(), lent.clone());
             let one = Model.frame_in_place(&mut here, lent_here.get_mut(), *frame);

@@ -56,8 +56,8 @@ fn read(rng: &mut Rng, judge: &mut Judge) -> Outcome {
     let one = Model.frd_read_header(bytes);
     let header = judge.answer("frd_read_header", one, judge.library.frd_read_header(bytes), &input)?;
 
-    let one = Model.frd_signature_span(bytes);
-    judge.answer("frd_signature_span", one, judge.library.frd_signature_span(bytes), &input)?;
+    let one = Model.frd_read_signature(bytes);
+    judge.answer("frd_read_signature", one, judge.library.frd_read_signature(bytes), &input)?;
     let one = Model.frd_count_blocks(bytes);
     judge.answer("frd_count_blocks", one, judge.library.frd_count_blocks(bytes), &input)?;
 

@@ -115,7 +115,7 @@ fn rewrite(judge: &mut Judge, file: &[u8]) -> Outcome {
     let mut earlier = 0;
     loop {
         let block = side.mlg_read_block(file, header.size, earlier, at);
-        let bytes = &file[block.start..block.start + block.count];
+        let bytes = &file[block.start..block.start + block.len];
         let out = &mut again[at..];
         let written = match block.kind {
             BLOCK_DATA => side.mlg_write_data(out, header.size, earlier, block.time, bytes),

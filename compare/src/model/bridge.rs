@@ -1,6 +1,6 @@
 //! 01 "Bridge": the state, its soundness and the seven calls.
 
-use super::holder::{addressed, frame};
+use super::holder::{addressed, frame as frame_of};
 use super::{request, Number, CMD, REQ, RSP};
 use crate::abi::{Bridge, Frame, Parts, Request, Slot, DONE, FREE, GAVE_UP, READ, READY, WAITING, WRITE};
 
@@ -165,9 +165,9 @@ fn sent(own: u8, slot: &Slot, index: usize, buffer: &[u8]) -> Frame {
     let parts = |kind| Parts { offset, kind, from: own, to: slot.device, table: slot.table };
     if slot.kind == READ {
         let asked = Request { table: 6, count: chunk(slot) as u8, offset: place as u16 };
-        frame(parts(REQ), &request::bytes_of(asked).unwrap())
+        frame_of(parts(REQ), &request::bytes_of(asked).unwrap())
     } else {
-        frame(parts(CMD), &buffer[place..place + chunk(slot)])
+        frame_of(parts(CMD), &buffer[place..place + chunk(slot)])
     }
 }
 
@@ -179,7 +179,7 @@ fn advanced(slot: &Slot) -> Slot {
 }
 
 /// An incoming frame: 11, 10, 1, 2, 3, 4, 5 (only RSP served), 17.
-pub fn frame_in(bridge: &Bridge, buffer: &[u8], frame: &Frame) -> Result<(Bridge, Vec<u8>), Number> {
+pub fn frame(bridge: &Bridge, buffer: &[u8], frame: &Frame) -> Result<(Bridge, Vec<u8>), Number> {
     judge_with(bridge, buffer)?;
     let parts = addressed(bridge.own, frame)?;
     if parts.kind != RSP {

@@ -34,8 +34,8 @@ pub fn read_header(file: &[u8]) -> Result<Header, Number> {
 /// Block 1: type, counter, L bytes. Block 2: type, counter, time (32).
 #[derive(Clone, Debug, PartialEq, Eq)]
 pub enum Block {
-    Data { counter: u8, right: bool, start: usize, count: usize },
-    Time { counter: u8, right: bool, time: u32 },
+    Data { counter: u8, as_expected: bool, start: usize, count: usize },
+    Time { counter: u8, as_expected: bool, time: u32 },
     End,
 }
 
@@ -57,11 +57,11 @@ pub fn read_block(file: &[u8], size: u16, earlier: u64, place: usize) -> Result<
         return Err(20);
     }
     let counter = rest[1];
-    let right = counter as u64 == earlier % 256;
+    let as_expected = counter as u64 == earlier % 256;
     if rest[0] == 1 {
-        Ok(Block::Data { counter, right, start: place + 2, count: size as usize })
+        Ok(Block::Data { counter, as_expected, start: place + 2, count: size as usize })
     } else {
-        Ok(Block::Time { counter, right, time: be32(rest, 2) })
+        Ok(Block::Time { counter, as_expected, time: be32(rest, 2) })
     }
 }
 
@@ -85,7 +85,7 @@ pub fn count_blocks(file: &[u8]) -> (u64, Number, usize) {
 }
 
 /// Where the signature starts, after name, version and time, and its length.
-pub fn signature_span(file: &[u8]) -> Result<(usize, usize), Number> {
+pub fn read_signature(file: &[u8]) -> Result<(usize, usize), Number> {
     read_header(file)?;
     Ok((6 + 2 + 4, SIGNATURE))
 }

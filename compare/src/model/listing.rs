@@ -32,7 +32,7 @@ pub fn listing(file: &[u8]) -> String {
             }
         };
         match &block {
-            Block::Data { counter, right, time, start, count } => {
+            Block::Data { counter, as_expected, time, start, count } => {
                 write!(out, "{earlier} data {counter} {time}").unwrap();
                 let mut record = &file[*start..start + count];
                 for field in &fields {
@@ -40,11 +40,11 @@ pub fn listing(file: &[u8]) -> String {
                     write!(out, " {}", raw_value(field, raw).unwrap()).unwrap();
                     record = rest;
                 }
-                writeln!(out, "{}", if *right { "" } else { " !" }).unwrap();
+                writeln!(out, "{}", if *as_expected { "" } else { " !" }).unwrap();
             }
-            Block::Mark { counter, right, time, start, .. } => {
+            Block::Mark { counter, as_expected, time, start, .. } => {
                 let mark = text(&file[*start..start + 50]);
-                let wrong = if *right { "" } else { " !" };
+                let wrong = if *as_expected { "" } else { " !" };
                 writeln!(out, "{earlier} mark {counter} {time} {mark}{wrong}").unwrap();
             }
             Block::End => {

@@ -7,6 +7,9 @@ pub const HEADER: usize = 24;
 pub const FIELD: usize = 89;
 pub const MARK: usize = 54;
 
+/// The counter is the number of earlier blocks, of both kinds, modulo this.
+pub const COUNTER_MODULUS: u64 = 255;
+
 #[derive(Clone, Copy, Debug, PartialEq, Eq)]
 pub struct Header {
     pub time: u32,
@@ -149,8 +152,8 @@ pub fn in_layout(file: &[u8], header: &Header) -> bool {
 /// A block is either data, a mark, the end, or a refusal (`Err`).
 #[derive(Clone, Debug, PartialEq, Eq)]
 pub enum Block {
-    Data { counter: u8, right: bool, time: u16, start: usize, count: usize },
-    Mark { counter: u8, right: bool, time: u16, start: usize, count: usize },
+    Data { counter: u8, as_expected: bool, time: u16, start: usize, count: usize },
+    Mark { counter: u8, as_expected: bool, time: u16, start: usize, count: usize },
     End,
 }
 
@@ -171,18 +174,18 @@ pub fn read_block(file: &[u8], size: u16, earlier: u64, place: usize) -> Result<
         return Err(20);
     }
     let counter = rest[1];
-    let right = counter as u64 == earlier % 255;
+    let as_expected = counter as u64 == earlier % COUNTER_MODULUS;
     let time = be16(rest, 2);
     let start = place + 4;
     if rest[0] == 1 {
         let text = zero_ended(&rest[4..54]).ok_or(28)?;
-        return Ok(Block::Mark { counter, right, time, start, count: text.len() });
+        return Ok(Block::Mark { counter, as_expected, time, start, count: text.len() });
     }
     let record = &rest[4..4 + size as usize];
     if rest[length - 1] != sum(record) {
         return Err(26);
     }
-    Ok(Block::Data { counter, right, time, start, count: record.len() })
+    Ok(Block::Data { counter, as_expected, time, start, count: record.len() })
 }
 
 /// The length of a block that was read.
@@ -289,7 +292,7 @@ pub fn write_data(output: usize, size: u16, earlier: u64, time: u16, record: &[u
     if record.len() != size as usize {
         return Err(23);
     }
-    let mut block = vec![0, (earlier % 255) as u8];
+    let mut block = vec![0, (earlier % COUNTER_MODULUS) as u8];
     block.extend(time.to_be_bytes());
     block.extend(record);
     block.push(sum(record));
@@ -301,7 +304,7 @@ pub fn write_mark(output: usize, earlier: u64, time: u16, text: &[u8]) -> Result
     if text.len() > 49 || text.contains(&0) {
         return Err(28);
     }
-    let mut block = vec![1, (earlier % 255) as u8];
+    let mut block = vec![1, (earlier % COUNTER_MODULUS) as u8];
     block.extend(time.to_be_bytes());
     block.extend(text);
     block.resize(MARK, 0);

@@ -1,4 +1,4 @@
-// A turn: every slot ages, and one ready slot sends its next frame.
+// A turn: every waiting read ages, and one ready slot sends its next frame.
 use crate::Bridge;
 use crate::GAVE_UP;
 use crate::READY;
@@ -37,7 +37,7 @@ fn aged(x: Slot) -> Slot
     moved(x, GAVE_UP, x.progress, x.sends, 0)
 }
 
-// The bridge with every slot one turn older. It starts at the slot last served only for speed: with a constant start the compiler
+// The bridge with every waiting read one turn older. It starts at the slot last served only for speed: with a constant start the compiler
 // takes the array apart.
 fn aged_bridge(b: Bridge) -> Bridge
     ensures { λ r. ⌜ r ≡ agedBridge b ⌝ }
@@ -95,7 +95,7 @@ fn send_for(b: Bridge, k: usize, buffer: &[u8]) -> Stepped
     }
 }
 
-// One turn: every slot ages, then the first ready slot after the one last served sends.
+// One turn: every waiting read ages, then the first ready slot after the one last served sends.
 pub fn turn(b: Bridge, buffer: &[u8]) -> Stepped
     ensures { λ r. ⌜ r ≡ steppedOf (turnOf b (now (buffer .entry))) ⌝ }
 {

@@ -1,14 +1,6 @@
 -- What a proof by computation may open: it says `unfolding everything`, and so opens every definition of the bridge's rules, of runs and of
 -- the bus.
-use Rattle.wire.specs.Order.{_if_else_, _orElse_}
-use Rattle.bus_rules.specs.Ident.{idOf, idOffset, idKind, idFrom, idTo, idTable, idSpare}
-use Rattle.bus_rules.specs.Frames.{padded, content, frameWith, noFrame, headNumber}
-use Rattle.bus_rules.specs.Request.{request, requestOf, reserved}
-use Rattle.bus_rules.specs.Device.{sizeOf, rightOf, startOf, totalOf, soundTables, soundDirectory, directoryNumber, lengthNumber, memoryNumber}
-use Rattle.bus_rules.specs.Device.{rangeOf}
-use Rattle.bus_rules.specs.Holder.{byKind, commandNumber, requestNumber, queryNumber, byteOf, requestAt, reservedAt, kindNumber, serveNumber}
-use Rattle.bus_rules.specs.Holder.{noAnswer, answerWith, replyTo, placeOf, protocol, actOf, storing, actAfter, servedBy, afterBy, serveOf}
-use Rattle.bus_rules.specs.Holder.{deviceAfter}
+use Rattle.bus_rules.proofs.Computing.{bus}
 use Rattle.bridge_rules.specs.State.{asks, carries, askNumber, slot, fresh, soundPhase, soundSlot, soundSlots, absent, distinct, sound}
 use Rattle.bridge_rules.specs.State.{firstSlot, lowestFree, heldSlot, nextReady}
 use Rattle.bridge_rules.specs.Answers.{lentNumber}
@@ -23,34 +15,6 @@ use Rattle.bridge_rules.specs.Run.{storage, accepted, turns, slotOf, led
 use Rattle.bridge_rules.specs.Replies.{commandFrame, requestFrame, matchesFrame}
 use Rattle.bridge_rules.specs.Device.{range}
 use Rattle.bridge_rules.specs.Demand3.{join}
-
--- ── the bus ────────────────────────────────────────────────────────────────────────────────────────────────────────
-
-unfoldable frames : Unit {0}
-unfolding _if_else_ _orElse_ idOf idOffset idKind idFrom idTo idTable idSpare padded content frameWith noFrame headNumber
-frames = tt
-
-unfoldable requests : Unit {0}
-unfolding request requestOf reserved byteOf requestAt reservedAt
-requests = tt
-
-unfoldable devices : Unit {0}
-unfolding sizeOf rightOf startOf totalOf soundTables soundDirectory directoryNumber lengthNumber memoryNumber rangeOf
-devices = tt
-
-unfoldable numbers : Unit {0}
-unfolding byKind commandNumber requestNumber queryNumber kindNumber serveNumber
-numbers = tt
-
-unfoldable serving : Unit {0}
-unfolding noAnswer answerWith replyTo placeOf protocol actOf storing actAfter servedBy afterBy serveOf deviceAfter
-serving = tt
-
-unfoldable bus : Unit {0}
-unfolding frames requests devices numbers serving
-bus = tt
-
--- ── the bridge, as its specs are ───────────────────────────────────────────────────────────────────────────────────
 
 unfoldable state : Unit {0}
 unfolding asks carries askNumber slot fresh soundPhase soundSlot soundSlots absent distinct sound firstSlot lowestFree heldSlot nextReady

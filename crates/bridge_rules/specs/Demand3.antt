@@ -7,12 +7,10 @@ use lib.ListN.{length, getD}
 use Rattle.bus_rules.specs.Frames.{content}
 use mathlib.Core.Path.{_≡_}
 use mathlib.Core.Logic.{_↔_, _⊎_, _≢_}
-use Rattle.bridge_rules.specs.State.{done, gaveUp}
 use Rattle.bridge_rules.specs.Answers.{Answer, plain}
-use Rattle.bridge_rules.specs.Opening.{read, isWrite, askCount}
+use Rattle.bridge_rules.specs.Opening.{isWrite, askCount}
 use Rattle.bridge_rules.specs.Call.{itsOwn, Call, opening, turn, frame, status, bytes, close, reset}
-use Rattle.bridge_rules.specs.Run.{Run, buffer, answerTo, answer, Shaped, Transfer, ticket, slotOf, Stands, chunks, turns, statusAt, shownAt, Done}
-use Rattle.bridge_rules.specs.Run.{GivenUp}
+use Rattle.bridge_rules.specs.Run.{Run, answerTo, answer, Shaped, Transfer, ticket, slotOf, Stands, chunks, turns, statusAt, shownAt, Done, GivenUp}
 use Rattle.bridge_rules.specs.Replies.{AllWritten, Replied, ThreeFailed}
 use Rattle.bridge_rules.specs.Device.{Timeline, NotAfter, Meanwhile, range, Arrivals, Premises}
 

@@ -10,7 +10,7 @@ use Rattle.bus_rules.specs.Request.{request}
 use mathlib.Core.Path.{_≡_}
 use Rattle.bus_rules.specs.declared.Frame.{Frame}
 use Rattle.bridge_rules.specs.Opening.{isWrite, askDevice, askTable, askOffset, askGiven}
-use Rattle.bridge_rules.specs.Incoming.{contentNumber, awaits}
+use Rattle.bridge_rules.specs.Incoming.{contentNumber}
 use Rattle.bridge_rules.specs.Call.{itsOwn, other, Call, opening, turn, frame, status, bytes, close, reset}
 use Rattle.bridge_rules.specs.Run.{Run, state, answer, ledger, Transfer, slotOf, Stands, chunks, lenOf, accepted, turns}
 

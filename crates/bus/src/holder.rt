@@ -14,11 +14,14 @@ use crate::ident::head_number;
 use crate::requests::is_reserved;
 use crate::requests::request_of;
 use crate::rows::parts_of;
+use crate::rows::table_of;
 ghost use mathlib.Core.Path.{_≡_};
 ghost use mathlib.Core.List.{List};
 ghost use Prim.Native.Nat.{ℕ, _+_, _*_, _≤_, _<_};
 ghost use lib.ListN.{length, take, drop};
+ghost use Rattle.wire.specs.Order.{_orElse_};
 ghost use Rattle.bus_rules.specs.Ident.{partsOf};
+ghost use Rattle.bus_rules.specs.Frames.{headNumber};
 ghost use Rattle.bus_rules.specs.Device.{Device, device, startOf, sizeOf, rightOf, totalOf, soundTables, directoryNumber, memoryNumber};
 ghost use Rattle.bus_rules.specs.Holder.{commandNumber, requestNumber, queryNumber, kindNumber, serveNumber, requestAt, tableOf, sizeAt, rightAt};
 ghost use Rattle.bus_rules.specs.Holder.{noAnswer, replyTo, placeOf, protocol, actOf, actAfter, serveOf, deviceAfter};
@@ -196,17 +199,12 @@ fn kind_number(t: Table, p: Parts, f: Frame) -> u8
     5
 }
 
-// The number of the answer: the refusals in their order, or 0; t is the addressed table, n the memory's length, p the parts of the
-// frame's identifier.
-fn serve_number(d: Directory, t: Table, n: usize, p: Parts, f: Frame) -> u8
-    requires { ⌜ (t .size ≡ sizeOf d (tableOf f)) × (t .right ≡ rightOf d (tableOf f)) × (p ≡ partsOf (f .id)) ⌝ }
-    ensures { λ r. ⌜ ((m : List ℕ) → n ≡ length m → r ≡ serveNumber (device d m) f) ⌝ }
+// 1 to 9, after 11 and 10: those of the head, then those of the frame's type; t is the addressed table, p the parts of the identifier.
+fn frame_number(own: u8, t: Table, p: Parts, f: Frame) -> u8
+    requires { ⌜ p ≡ partsOf (f .id) ⌝ }
+    ensures { λ r. ⌜ ((e : Device) → t .size ≡ sizeAt e f → t .right ≡ rightAt e f → r ≡ (headNumber own f orElse kindNumber e f)) ⌝ }
 {
-    let memory = memory_number(d, n);
-    if memory != 0 {
-        return memory;
-    }
-    let head = head_number(d.own, p.to, f);
+    let head = head_number(own, p.to, f);
     if head != 0 {
         return head;
     }
@@ -219,7 +217,7 @@ fn no_answer(number: u8) -> Served
 {
     Served {
         number,
-        answers: 0,
+        frames: 0,
         frame: Frame {
             id: 0,
             len: 0,
@@ -242,7 +240,7 @@ fn reply(own: u8, to: u8, q: Request, bytes: &[u8]) -> Served
     };
     Served {
         number: 0,
-        answers: 1,
+        frames: 1,
         frame: build(parts, bytes),
     }
 }
@@ -297,9 +295,14 @@ pub fn serve(d: Directory, memory: &mut [u8], f: Frame) -> Served
     ensures { λ r. ⌜ (r ≡ serveOf (device d (now (memory .entry))) f) × (now (memory .exit) ≡ deviceAfter (device d (now (memory .entry))) f .memory) ⌝ }
     ensures demand2 { λ r. ⌜ Demand2 (device d (now (memory .entry))) f r (device d (now (memory .exit))) ⌝ }
 {
+    // Looked up before the directory is judged: a processor does both at once.
+    let t = table_at(d, table_of(f.id) as usize);
+    let unsound = memory_number(d, memory.len());
+    if unsound != 0 {
+        return no_answer(unsound);
+    }
     let p = parts_of(f.id);
-    let t = table_at(d, p.table as usize);
-    let number = serve_number(d, t, memory.len(), p, f);
+    let number = frame_number(d.own, t, p, f);
     if number != 0 {
         return no_answer(number);
     }

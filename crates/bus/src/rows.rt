@@ -1,7 +1,13 @@
 // The parts of an identifier, by sums, quotients and remainders; of any numbers.
 use crate::Parts;
 ghost use mathlib.Core.Path.{_≡_};
-ghost use Rattle.bus_rules.specs.Ident.{idIn, inRows, partsOf};
+ghost use Rattle.bus_rules.specs.Ident.{idTable, idIn, inRows, partsOf};
+
+pub(crate) fn table_of(id: u32) -> u8
+    ensures { λ r. ⌜ r ≡ idTable id ⌝ }
+{
+    (id / 4 % 2 * 16 + id / 8 % 16) as u8
+}
 
 pub(crate) fn parts_of(id: u32) -> Parts
     ensures { λ r. ⌜ r ≡ partsOf id ⌝ }
@@ -11,7 +17,7 @@ pub(crate) fn parts_of(id: u32) -> Parts
         kind: (id / 32768 % 8) as u8,
         from: (id / 2048 % 16) as u8,
         to: (id / 128 % 16) as u8,
-        table: (id / 4 % 2 * 16 + id / 8 % 16) as u8,
+        table: table_of(id),
     }
 }
 

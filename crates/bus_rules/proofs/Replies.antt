@@ -23,11 +23,11 @@ module _ (d : Device) (q g : Frame) (e : serveOf d q ≡ answerWith g) where
     where
       go : (n : ℕ) → servedBy n (actOf d q) ≡ answerWith g → (n ≡ 0) × (actOf d q ≡ answerWith g)
       go zero z = (refl, z)
-      go (suc n) z = absurd (omega (arith, ap (λ (s : Served). s .answers) z))
+      go (suc n) z = absurd (omega (arith, ap (λ (s : Served). s .frames) z))
 
   pub command-unanswered : idKind (q .id) ≡ cmd → ⊥
   unfolding noAnswer answerWith
-  command-unanswered k = omega (arith, ap (λ (s : Served). s .answers) (sym (act-command d q k .0) ∙ answered-act .1))
+  command-unanswered k = omega (arith, ap (λ (s : Served). s .frames) (sym (act-command d q k .0) ∙ answered-act .1))
 
   pub request-answered : idKind (q .id) ≡ req → g ≡ frameWith (idOf (requestAt q 0 .offset) rsp (ownOf d) (idFrom (q .id)) (requestAt q 0 .table))
       (rangeOf d (tableOf q) (idOffset (q .id)) (requestAt q 0 .count))

@@ -31,7 +31,7 @@ pub record CommandServed (e : Device) (f : Frame) (s : Served) (after : Device) 
 -- an answer frame: RSP to the sender, under the identifier asked for, with the count asked for, and zeros past it
 pub record Replied (e : Device) (f : Frame) (q : Request) (s : Served) : Type 0 where
   pub done : s .number ≡ 0
-  pub one : s .answers ≡ 1
+  pub one : s .frames ≡ 1
   pub ident : unpackOf (s .frame .id) ≡ U.Is (record { offset = q .offset; kind = rsp; from = ownOf e; to = idFrom (f .id); table = q .table })
   pub len : s .frame .len ≡ q .count
   pub eight : length (s .frame .bytes) ≡ 8

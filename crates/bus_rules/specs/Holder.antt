@@ -90,11 +90,11 @@ serveNumber e f = memoryNumber (e .directory) (length (e .memory)) orElse headNu
 
 -- a number and no frame
 unfoldable pub noAnswer : ℕ → Served
-noAnswer n = record { number = n; answers = 0; frame = noFrame }
+noAnswer n = record { number = n; frames = 0; frame = noFrame }
 
 -- one frame
 unfoldable pub answerWith : Frame → Served
-answerWith f = record { number = 0; answers = 1; frame = f }
+answerWith f = record { number = 0; frames = 1; frame = f }
 
 -- answers RSP, with the reply table and offset asked for, and these bytes
 unfoldable pub replyTo : (own to : ℕ) → Request → List ℕ → Served
@@ -108,7 +108,7 @@ placeOf e f = startOf (e .directory) (tableOf f) + idOffset (f .id)
 unfoldable pub protocol : Directory → List ℕ
 protocol d = 2 ∷ (beBytes 2 (d .«table_blocking») ++ beBytes 2 (d .«write_blocking»))
 
--- of a frame that is not refused: the answer, to the sender, and the device after it. (Another type is refused with 5 before.)
+-- of a frame that is not refused: the answer, to the sender. (Another type is refused with 5 before.)
 unfoldable pub actOf : Device → Frame → Served
 actOf e f =
     byKind (idKind (f .id))
@@ -121,6 +121,7 @@ actOf e f =
 unfoldable pub storing : Device → Frame → Device
 storing e f = record { directory = e .directory; memory = sets (e .memory) (placeOf e f) (content f) }
 
+-- and the device after it
 unfoldable pub actAfter : Device → Frame → Device
 actAfter e f = cond (eqb (idKind (f .id)) cmd) (storing e f) e
 

@@ -27,10 +27,11 @@ readNumber a c = 6 if reserved a c else 0
 unfoldable pub readRequestOf : (a b c : ℕ) → RequestRead
 readRequestOf a b c = answer A.Is A.Refused (readNumber a c) (requestOf a b c)
 
--- the paper's number and values of each case
+-- the values of a refusal
 abbrev pub noRequest : Request
 noRequest = record { table = 0; offset = 0; count = 0 }
 
+-- the paper's number and values of each case
 abbrev pub requestReadAnswer : RequestRead → ℕ × Request
 requestReadAnswer (A.Is q) = (0, q)
 requestReadAnswer (A.Refused n) = (n, noRequest)

@@ -1,4 +1,5 @@
-// The types of the bus. Its rules are defined in specs/.
+// What the bus is made of. Its rules are defined in specs/.
+
 // The types of frames.
 pub const CMD: u8 = 0;
 
@@ -69,10 +70,10 @@ pub struct Directory {
     pub own: u8,
 }
 
-// A holder's answer: a number, how many frames it answers (0 or 1), and the frame, all 0 where there is none.
+// A holder's answer: a number, how many frames it has (0 or 1), and the frame, all 0 where there is none.
 #[repr(C)]
 pub struct Served {
     pub number: u8,
-    pub answers: u8,
+    pub frames: u8,
     pub frame: Frame,
 }

@@ -135,7 +135,7 @@ fn asks(a: u8, b: u8, c: u8) {
 // A holder's number, and its frame where it answers one.
 fn answer(l: Line, s: Served) -> Line {
     let l = labelled(l, b": number ", s.number as u64);
-    if s.answers == 0 {
+    if s.frames == 0 {
         return l;
     }
     let f = s.frame;

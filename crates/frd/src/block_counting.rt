@@ -6,8 +6,6 @@ use crate::block_reading::length_of;
 use crate::block_reading::read_block;
 use crate::header_reading::read_header;
 ghost use mathlib.Core.Path.{_≡_};
-ghost use Prim.Native.Nat.{_≤_};
-ghost use lib.ListN.{length};
 ghost use Rattle.frd_rules.specs.Header.{headAnswer};
 ghost use Rattle.frd_rules.specs.Block.{blockAnswer};
 ghost use Rattle.frd_rules.specs.Log.{logOf, tallyOf, countBlocksOf};
@@ -35,7 +33,6 @@ fn stop_number(b: Block) -> u8
 
 // Counts the blocks from a place on.
 fn count_from(file: &[u8], size: u16, begin: usize) -> Tally
-    requires { ⌜ begin ≤ length (now file) ⌝ }
     ensures { λ r. ⌜ r ≡ tallyOf (logOf size (now (file .entry)) begin) ⌝ }
 {
     let mut at = begin;

@@ -1,7 +1,7 @@
 // Reading a block.
 use crate::Block;
 ghost use mathlib.Core.Path.{_≡_};
-ghost use Prim.Native.Nat.{ℕ, _<_, _^_};
+ghost use Prim.Native.Nat.{_<_, _^_};
 ghost use lib.ListN.{length};
 ghost use Rattle.frd_rules.specs.Block.{counterAfter, blockLen, restNumber, foundOf, blockOf, readBlockOf, blockAnswer, blockResult, lengthOf};
 ghost use Rattle.frd_rules.specs.RoundTrip.{BlockAlone};

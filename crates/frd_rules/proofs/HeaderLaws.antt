@@ -1,6 +1,6 @@
 -- Laws of reading a header: what its answer says, where its signature stands, and what no refusal says of the file.
 use Prim.Native.Nat.{ℕ, zero, suc, _≤_}
-use mathlib.Core.Path.{_≡_, refl, sym}
+use mathlib.Core.Path.{_≡_, refl}
 use mathlib.Core.List.{List}
 use native.Mathlib.Omega.{arith}
 use borrow.Author.Tests.{eqb-true, ltb-false, not-false}
@@ -9,11 +9,10 @@ use Rattle.wire.specs.BigEndian.{beOf, beAt}
 use Rattle.wire.specs.Answer.{result}
 use Rattle.wire.specs.Log.{spanWith}
 use Rattle.wire.specs.declared.Span.{Span}
-use Rattle.wire.proofs.Answers.{means, answered, stands}
+use Rattle.wire.proofs.Answers.{means}
 use Rattle.wire.proofs.Orders.{if-zero}
 use Rattle.frd_rules.specs.Header.{headerLen, signaturePlace, signatureLen, name, version, numbersOf}
 use Rattle.frd_rules.specs.Header.{readHeaderNumber, readHeaderOf, noHeader, headAnswer, readSignatureOf}
-use Rattle.frd_rules.specs.declared.Header.{Header}
 use Rattle.frd_rules.specs.declared.Head.{Head}
 use Rattle.frd_rules.specs.declared.Head.the-variants.{Is, Refused}
 
@@ -64,16 +63,3 @@ known f e =
       served = eqb-true _ _ (not-false _ (d .0));
       begins = eqb-true _ _ (not-false _ (g .0));
     }
-
-head-taken : (f : List ℕ) (h : Header) → readHeaderOf f ≡ Is h → (readHeaderNumber f ≡ 0) × (h ≡ numbersOf f)
-unfolding readHeaderOf
-head-taken f h e =
-    let a = answered Is Refused (λ n y q. let z : _≡_ {A = ℕ} 0 1 = cc in omega arith) (λ x y q. cc) (readHeaderNumber f) (numbersOf f) h e in
-    (a .0, sym (a .1))
-
--- the data begin within the file
-pub begins-in : (f : List ℕ) (h : Header) → readHeaderOf f ≡ Is h → h .begin ≤ length f
-begins-in f h e =
-    let t = head-taken f h e in
-    let k = known f (t .0) in
-    rw (t .1) (omega (arith, k .begins, k .long))

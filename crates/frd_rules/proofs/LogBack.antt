@@ -14,7 +14,7 @@ use Rattle.frd_rules.specs.RoundTrip.{Entry, aRecord, aTime, Writable, e
 use Rattle.frd_rules.specs.declared.Block.{Block}
 use Rattle.frd_rules.specs.declared.Block.the-variants.{Data, Time}
 use Rattle.frd_rules.proofs.BlockLaws.{data-len, time-len, at-end-of}
-use Rattle.frd_rules.proofs.LogLaws.{IsBlock, log-more, log-ends, log-enough, log-all}
+use Rattle.frd_rules.proofs.LogLaws.{IsBlock, log-more, log-ends, log-all}
 use Rattle.frd_rules.proofs.WritingLaws.{data-length, time-length, header-length}
 use Rattle.frd_rules.proofs.HeaderBack.{header-back}
 use Rattle.frd_rules.proofs.BlockBack.{data-back, time-back}

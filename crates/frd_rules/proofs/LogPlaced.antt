@@ -5,7 +5,7 @@ use mathlib.Core.Logic.{⊎-elim}
 use mathlib.Core.List.{List, [], _∷_, _++_}
 use native.Mathlib.Omega.{arith}
 use native.Mathlib.Nat.{zero-add}
-use lib.ListN.{length, drop}
+use lib.ListN.{length}
 use Rattle.wire.specs.Log.{judged}
 use Rattle.frd_rules.specs.Header.{numbersOf}
 use Rattle.frd_rules.specs.Block.{readBlockOf, blockAnswer, lengthOf}

@@ -9,12 +9,12 @@ use lib.Seq.{drop-drop, length-take-le}
 use Rattle.wire.specs.BigEndian.{beOf, beAt, beBytes}
 use Rattle.wire.proofs.Numbers.{Bytes, bytes-take, bytes-drop, be-below, below-part, part-back}
 use Rattle.frd_rules.specs.Header.{headerLen, signaturePlace, signatureLen, name, version, numbersOf, signatureIn}
-use Rattle.frd_rules.specs.Block.{counterAfter, kindIn, counterIn, timeIn, recordPlace, readBlockOf, blockAnswer, lengthOf}
+use Rattle.frd_rules.specs.Block.{counterAfter, kindIn, counterIn, timeIn, readBlockOf, blockAnswer, lengthOf}
 use Rattle.frd_rules.specs.Log.{Log, logFrom}
 use Rattle.frd_rules.specs.Writing.{headerBytes, dataBytes, timeBytes}
-use Rattle.frd_rules.specs.RoundTrip.{Entry, Writable, entriesBytes, logBytes, entryIn, entriesIn, AsExpected, AllAsExpected, logIn, LogSame}
+use Rattle.frd_rules.specs.RoundTrip.{Entry, Writable, entriesBytes, logBytes, entryIn, entriesIn, AsExpected, AllAsExpected, LogSame}
 use Rattle.frd_rules.specs.declared.Block.{Block}
-use Rattle.frd_rules.specs.declared.Block.the-variants.{Data, Time, End, Refused}
+use Rattle.frd_rules.specs.declared.Block.the-variants.{End, Refused}
 use Rattle.frd_rules.proofs.BlockLaws.{View, at-end, of-data, of-time, of-refusal, view, data-len, time-len}
 use Rattle.frd_rules.proofs.LogLaws.{IsBlock, block-fits, log-more, log-ends, log-all}
 use Rattle.frd_rules.proofs.HeaderLaws.{Known, known}

@@ -1,6 +1,6 @@
 -- Laws by which the blocks of a file are counted one by one.
-use Prim.Native.Nat.{ℕ, suc, _+_, _≤_}
-use mathlib.Core.Path.{_≡_, refl, sym, ap, _∙_}
+use Prim.Native.Nat.{ℕ, suc, _+_}
+use mathlib.Core.Path.{_≡_, sym, ap, _∙_}
 use mathlib.Core.List.{List, [], _∷_}
 use mathlib.Core.Logic.{⊎-elim}
 use native.Mathlib.Omega.{arith}
@@ -18,7 +18,7 @@ use Rattle.frd_rules.specs.declared.Head.the-variants.{Is, Refused as He
 use Rattle.frd_rules.specs.declared.Block.{Block}
 use Rattle.frd_rules.specs.declared.Block.the-variants.{Data, Time, End, Refused}
 use Rattle.frd_rules.proofs.Block.{the-type}
-use Rattle.frd_rules.proofs.LogLaws.{IsBlock, block-fits, log-more, log-ends, log-enough, log-all}
+use Rattle.frd_rules.proofs.LogLaws.{IsBlock, block-fits, log-more, log-ends, log-enough}
 
 -- what the two arms of a `let .. else` know
 pub tag-block : (b : Block) → OneOf (0 ∷ 1 ∷ []) (tagOf the-type b) → IsBlock b
@@ -44,9 +44,9 @@ pub tally-start : (l : ℕ) (f : List ℕ) (at : ℕ) → tallyFrom l 0 f at ≡
 unfolding logOf
 tally-start l f at = rw (zero-add (length (logOf l f at .blocks)))
 
-pub tally-more : (l n : ℕ) (f : List ℕ) (at : ℕ) (b : Block) → at ≤ length f → readBlockOf l n f at ≡ b → IsBlock b
+pub tally-more : (l n : ℕ) (f : List ℕ) (at : ℕ) (b : Block) → readBlockOf l n f at ≡ b → IsBlock b
     → tallyFrom l n f at ≡ tallyFrom l (n + 1) f (at + lengthOf l b)
-tally-more l n f at b w e g =
+tally-more l n f at b e g =
     let h = block-fits l n f at b e g in
     let to = at + lengthOf l b in
     let q = log-enough (length f) (suc (length f)) l (n + 1) f to (h .1) (omega (arith, h .0)) (omega (arith, h .0)) in

@@ -2,29 +2,28 @@
 use crate::text::put_bytes;
 use crate::text::put_decimal;
 use crate::text::put_integer;
-use crate::text::put_shown;
+use crate::text::put_printed;
 use mlg::Block;
 use mlg::Header;
 use mlg_values::RawValue;
 ghost use mathlib.Core.Path.{_≡_};
 ghost use mathlib.Core.List.{List, _++_};
-ghost use Prim.Native.Nat.{ℕ, _+_, _*_, _≤_, _<_, _^_};
+ghost use Prim.Native.Nat.{ℕ, _+_, _*_, _≤_, _^_};
 ghost use lib.ListN.{length, take, drop};
 ghost use Rattle.mlg_rules.specs.Layout.{fieldLen};
 ghost use Rattle.mlg_rules.specs.Raw.{valueNumber};
 ghost use Rattle.mlg_rules.specs.Header.{fieldsFrom};
 ghost use Rattle.mlg_rules.specs.declared.Header.{Header};
 ghost use Rattle.mlg_rules.specs.declared.Block.the-variants.{Data, Mark, End, Refused};
-ghost use Rattle.listing.specs.Text.{decimal, shown};
-ghost use Rattle.listing.specs.Lines.{space, headerLine, nameOf, fieldLine, fieldLines, valueText, valuesText, rightText, blockLine};
-ghost use Rattle.listing.specs.Puts.{Puts};
-ghost use Rattle.listing.specs.Stands.{Valued, Stands};
-ghost use Rattle.listing.specs.Most.{mostOf};
+ghost use Rattle.listing_rules.specs.Text.{decimal, printed};
+ghost use Rattle.listing_rules.specs.Lines.{space, headerLine, nameOf, fieldLine, fieldLines, valueText, valuesText, asExpectedText, blockLine};
+ghost use Rattle.listing_rules.specs.PutsText.{PutsText};
+ghost use Rattle.listing_rules.specs.BlockInFile.{ValuesNotRefused, BlockInFile};
 
 // `fields N record L`
 pub(crate) fn put_header_line(out: &mut [u8], at: usize, h: Header) -> usize
     requires { ⌜ at ≤ 2 ^ 60 ⌝ }
-    ensures { λ r. ⌜ Puts (now (out .entry)) at (headerLine h) (now (out .exit)) r × (r ≤ at + 56) ⌝ }
+    ensures { λ r. ⌜ PutsText (now (out .entry)) at (headerLine h) (now (out .exit)) r × (r ≤ at + 56) ⌝ }
 {
     let a = put_bytes(out, at, b"fields ");
     let b = put_decimal(out, a, h.count as u64);
@@ -33,19 +32,19 @@ pub(crate) fn put_header_line(out: &mut [u8], at: usize, h: Header) -> usize
     put_bytes(out, d, b"\n")
 }
 
-// A field's name, as it is shown.
+// A field's name, as it is printed.
 fn put_name(out: &mut [u8], at: usize, field: &[u8]) -> usize
     requires { ⌜ (at ≤ 2 ^ 60) × (35 ≤ length (now field)) ⌝ }
-    ensures { λ r. ⌜ Puts (now (out .entry)) at (shown (nameOf (now (field .entry)))) (now (out .exit)) r × (r ≤ at + 50) ⌝ }
+    ensures { λ r. ⌜ PutsText (now (out .entry)) at (printed (nameOf (now (field .entry)))) (now (out .exit)) r × (r ≤ at + 50) ⌝ }
 {
     let len = wire::text_len(&field[1..35]);
-    put_shown(out, at, &field[1..1 + len])
+    put_printed(out, at, &field[1..1 + len])
 }
 
 // `field I T NAME`
 fn put_field_line(out: &mut [u8], at: usize, index: u16, field: &[u8]) -> usize
     requires { ⌜ (at ≤ 2 ^ 59) × (35 ≤ length (now field)) ⌝ }
-    ensures { λ r. ⌜ Puts (now (out .entry)) at (fieldLine index (now (field .entry))) (now (out .exit)) r × (r ≤ at + 100) ⌝ }
+    ensures { λ r. ⌜ PutsText (now (out .entry)) at (fieldLine index (now (field .entry))) (now (out .exit)) r × (r ≤ at + 100) ⌝ }
 {
     let kind = field[0] as u64;
     let a = put_bytes(out, at, b"field ");
@@ -66,7 +65,7 @@ pub(crate) fn put_field_lines(
     fields: &[u8],
 ) -> usize
     requires { ⌜ (at ≤ 2 ^ 50) × (fieldLen version * count ≤ length (now fields)) ⌝ }
-    ensures { λ r. ⌜ Puts (now (out .entry)) at (fieldLines version 0 count (now (fields .entry))) (now (out .exit)) r × (r ≤ at + 100 * count) ⌝ }
+    ensures { λ r. ⌜ PutsText (now (out .entry)) at (fieldLines version 0 count (now (fields .entry))) (now (out .exit)) r × (r ≤ at + 100 * count) ⌝ }
 {
     let layout = mlg_values::layout_of(version);
     let len = layout.field;
@@ -84,7 +83,7 @@ pub(crate) fn put_field_lines(
 // A space and a raw value.
 fn put_value(out: &mut [u8], at: usize, field: &[u8], raw: &[u8]) -> usize
     requires { ⌜ (at ≤ 2 ^ 60) × (valueNumber 2 (now field) (now raw) ≡ 0) ⌝ }
-    ensures { λ r. ⌜ Puts (now (out .entry)) at (valueText (now (field .entry)) (now (raw .entry))) (now (out .exit)) r × (r ≤ at + 22) × (r ≤ at + 5 * length (now (raw .entry))) ⌝ }
+    ensures { λ r. ⌜ PutsText (now (out .entry)) at (valueText (now (field .entry)) (now (raw .entry))) (now (out .exit)) r × (r ≤ at + 22) ⌝ }
 {
     let value = mlg_values::raw_value(field, raw);
     let RawValue::Is(z) = value else {
@@ -103,8 +102,9 @@ fn put_values(
     fields: &[u8],
     bytes: &[u8],
 ) -> usize
-    requires { ⌜ (at ≤ 2 ^ 50) × Valued version count (now fields) (now bytes) ⌝ }
-    ensures { λ r. ⌜ Puts (now (out .entry)) at (valuesText version count (now (fields .entry)) (now (bytes .entry))) (now (out .exit)) r × (r ≤ at + 1441770) × (r ≤ at + 5 * length (now (bytes .entry))) ⌝ }
+    requires { ⌜ (at ≤ 2 ^ 50) × ValuesNotRefused version count (now fields) (now bytes) ⌝ }
+    ensures { λ r. ⌜ PutsText (now (out .entry)) at (valuesText version count (now (fields .entry)) (now (bytes .entry))) (now (out .exit)) r
+        × (r ≤ at + 22 * 65535) ⌝ }
 {
     let layout = mlg_values::layout_of(version);
     let len = layout.field;
@@ -124,11 +124,11 @@ fn put_values(
 }
 
 // ` !` for a wrong counter.
-fn put_right(out: &mut [u8], at: usize, right: bool) -> usize
+fn put_as_expected(out: &mut [u8], at: usize, expected: bool) -> usize
     requires { ⌜ at ≤ 2 ^ 60 ⌝ }
-    ensures { λ r. ⌜ Puts (now (out .entry)) at (rightText right) (now (out .exit)) r × (r ≤ at + 2) ⌝ }
+    ensures { λ r. ⌜ PutsText (now (out .entry)) at (asExpectedText expected) (now (out .exit)) r × (r ≤ at + 2) ⌝ }
 {
-    if right {
+    if expected {
         return at;
     }
     put_bytes(out, at, b" !")
@@ -136,8 +136,9 @@ fn put_right(out: &mut [u8], at: usize, right: bool) -> usize
 
 // A block's number, kind, counter and time.
 fn put_start(out: &mut [u8], at: usize, n: u64, kind: &[u8], counter: u8, time: u16) -> usize
-    requires { ⌜ (at ≤ 2 ^ 55) × (length (now kind) ≤ 6) × (n < 10 ^ 5) ⌝ }
-    ensures { λ r. ⌜ Puts (now (out .entry)) at (decimal n ++ now (kind .entry) ++ decimal counter ++ space ++ decimal time) (now (out .exit)) r × (r ≤ at + 22) ⌝ }
+    requires { ⌜ (at ≤ 2 ^ 55) × (length (now kind) ≤ 6) ⌝ }
+    ensures { λ r. ⌜ PutsText (now (out .entry)) at (decimal n ++ now (kind .entry) ++ decimal counter ++ space ++ decimal time) (now (out .exit)) r
+        × (r ≤ at + 67) ⌝ }
 {
     let a = put_decimal(out, at, n);
     let b = put_bytes(out, a, kind);
@@ -156,10 +157,11 @@ fn put_data_line(
     counter: u8,
     time: u16,
     start: usize,
-    right: bool,
+    expected: bool,
 ) -> usize
-    requires { ⌜ (at ≤ 2 ^ 49) × Stands h (now file) (Data counter time start right) × (n < 10 ^ 5) ⌝ }
-    ensures { λ r. ⌜ Puts (now (out .entry)) at (blockLine h (now (file .entry)) n (Data counter time start right)) (now (out .exit)) r × (r ≤ at + 5 * (h .size + 5)) ⌝ }
+    requires { ⌜ (at ≤ 2 ^ 49) × BlockInFile h (now file) (Data counter time start expected) ⌝ }
+    ensures { λ r. ⌜ PutsText (now (out .entry)) at (blockLine h (now (file .entry)) n (Data counter time start expected)) (now (out .exit)) r
+        × (r ≤ at + 2 ^ 21) ⌝ }
 {
     let layout = mlg_values::layout_of(h.version);
     let fields = layout.header;
@@ -173,7 +175,7 @@ fn put_data_line(
         &file[fields..],
         &file[start..start + size],
     );
-    let c = put_right(out, b, right);
+    let c = put_as_expected(out, b, expected);
     put_bytes(out, c, b"\n")
 }
 
@@ -188,22 +190,23 @@ fn put_mark_line(
     time: u16,
     start: usize,
     len: usize,
-    right: bool,
+    expected: bool,
 ) -> usize
-    requires { ⌜ (at ≤ 2 ^ 49) × Stands h (now file) (Mark counter time start len right) × (n < 10 ^ 5) ⌝ }
-    ensures { λ r. ⌜ Puts (now (out .entry)) at (blockLine h (now (file .entry)) n (Mark counter time start len right)) (now (out .exit)) r × (r ≤ at + 5 * 54) ⌝ }
+    requires { ⌜ (at ≤ 2 ^ 49) × BlockInFile h (now file) (Mark counter time start len expected) ⌝ }
+    ensures { λ r. ⌜ PutsText (now (out .entry)) at (blockLine h (now (file .entry)) n (Mark counter time start len expected)) (now (out .exit)) r
+        × (r ≤ at + 2 ^ 21) ⌝ }
 {
     let a = put_start(out, at, n, b" mark ", counter, time);
     let b = put_bytes(out, a, b" ");
-    let c = put_shown(out, b, &file[start..start + len]);
-    let d = put_right(out, c, right);
+    let c = put_printed(out, b, &file[start..start + len]);
+    let d = put_as_expected(out, c, expected);
     put_bytes(out, d, b"\n")
 }
 
 // `end N`
 fn put_end_line(out: &mut [u8], at: usize, n: u64) -> usize
     requires { ⌜ at ≤ 2 ^ 49 ⌝ }
-    ensures { λ r. ⌜ ((h : Header) (f : List ℕ) → Puts (now (out .entry)) at (blockLine h f n End) (now (out .exit)) r) × (r ≤ at + 53) ⌝ }
+    ensures { λ r. ⌜ ((h : Header) (f : List ℕ) → PutsText (now (out .entry)) at (blockLine h f n End) (now (out .exit)) r) × (r ≤ at + 53) ⌝ }
 {
     let a = put_bytes(out, at, b"end ");
     let b = put_decimal(out, a, n);
@@ -213,7 +216,8 @@ fn put_end_line(out: &mut [u8], at: usize, n: u64) -> usize
 // `refused N at PLACE`
 pub(crate) fn put_refused_line(out: &mut [u8], at: usize, number: u8, place: usize) -> usize
     requires { ⌜ at ≤ 2 ^ 49 ⌝ }
-    ensures { λ r. ⌜ ((h : Header) (f : List ℕ) (n : ℕ) → Puts (now (out .entry)) at (blockLine h f n (Refused number place)) (now (out .exit)) r) × (r ≤ at + 53) ⌝ }
+    ensures { λ r. ⌜ ((h : Header) (f : List ℕ) (n : ℕ) → PutsText (now (out .entry)) at (blockLine h f n (Refused number place)) (now (out .exit)) r)
+        × (r ≤ at + 53) ⌝ }
 {
     let a = put_bytes(out, at, b"refused ");
     let b = put_decimal(out, a, number as u64);
@@ -231,8 +235,8 @@ pub(crate) fn put_block_line(
     n: u64,
     b: Block,
 ) -> usize
-    requires { ⌜ (at ≤ 2 ^ 49) × Stands h (now file) b × (n < 10 ^ 5) ⌝ }
-    ensures { λ r. ⌜ Puts (now (out .entry)) at (blockLine h (now (file .entry)) n b) (now (out .exit)) r × (r ≤ at + mostOf (h .size) b) ⌝ }
+    requires { ⌜ (at ≤ 2 ^ 49) × BlockInFile h (now file) b ⌝ }
+    ensures { λ r. ⌜ PutsText (now (out .entry)) at (blockLine h (now (file .entry)) n b) (now (out .exit)) r × (r ≤ at + 2 ^ 21) ⌝ }
 {
     match b {
         Block::Data {

@@ -8,19 +8,18 @@ use mlg::Block;
 use mlg::Head;
 use mlg::Header;
 ghost use mathlib.Core.Path.{_≡_};
-ghost use Prim.Native.Nat.{_+_, _*_, _≤_, _^_};
+ghost use Prim.Native.Nat.{_≤_, _^_};
 ghost use lib.ListN.{length};
 ghost use Rattle.mlg_rules.specs.Header.{readHeaderOf};
 ghost use Rattle.mlg_rules.specs.Log.{logOf};
 ghost use Rattle.mlg_rules.specs.declared.Head.the-variants.{Is};
-ghost use Rattle.listing.specs.Listing.{logLines, headedLines, listingOf};
-ghost use Rattle.listing.specs.Puts.{Puts};
-ghost use Rattle.listing.specs.Most.{longest};
+ghost use Rattle.listing_rules.specs.Listing.{logLines, headedLines, listOf};
+ghost use Rattle.listing_rules.specs.PutsText.{PutsText};
 
 // The lines of a log's blocks, and of what ends it.
 fn put_log_lines(out: &mut [u8], at: usize, file: &[u8], h: Header) -> usize
     requires { ⌜ (at ≤ 2 ^ 40) × (length (now file) ≤ 65536) × (readHeaderOf (now file) ≡ Is h) ⌝ }
-    ensures { λ r. ⌜ Puts (now (out .entry)) at (logLines h (now (file .entry)) 0 (logOf (h .size) (now (file .entry)) (h .begin))) (now (out .exit)) r × (r + 5 * h .begin ≤ at + 5 * length (now (file .entry)) + 53) ⌝ }
+    ensures { λ r. ⌜ PutsText (now (out .entry)) at (logLines h (now (file .entry)) 0 (logOf (h .size) (now (file .entry)) (h .begin))) (now (out .exit)) r ⌝ }
 {
     let size = h.size;
     let mut left = file.len() + 1;
@@ -56,7 +55,7 @@ fn put_log_lines(out: &mut [u8], at: usize, file: &[u8], h: Header) -> usize
 // The lines of a file whose header stands.
 fn put_headed_lines(out: &mut [u8], file: &[u8], h: Header) -> usize
     requires { ⌜ (length (now file) ≤ 65536) × (readHeaderOf (now file) ≡ Is h) ⌝ }
-    ensures { λ r. ⌜ Puts (now (out .entry)) 0 (headedLines h (now (file .entry))) (now (out .exit)) r × (r ≤ 5 * length (now (file .entry))) ⌝ }
+    ensures { λ r. ⌜ PutsText (now (out .entry)) 0 (headedLines h (now (file .entry))) (now (out .exit)) r ⌝ }
 {
     let layout = mlg_values::layout_of(h.version);
     let fields = layout.header;
@@ -67,7 +66,7 @@ fn put_headed_lines(out: &mut [u8], file: &[u8], h: Header) -> usize
 
 // The listing of a file.
 pub(crate) fn put_listing(out: &mut [u8], file: &[u8]) -> usize
-    ensures { λ r. ⌜ Puts (now (out .entry)) 0 (listingOf (now (file .entry))) (now (out .exit)) r × (r ≤ longest) ⌝ }
+    ensures { λ r. ⌜ PutsText (now (out .entry)) 0 (listOf (now (file .entry))) (now (out .exit)) r ⌝ }
 {
     if 65536 < file.len() {
         return put_bytes(out, 0, b"too long\n");

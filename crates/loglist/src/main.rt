@@ -5,7 +5,8 @@ use libc::STDOUT_FILENO;
 ghost use mathlib.Core.Path.{_≡_};
 ghost use Prim.Native.Nat.{_≤_};
 ghost use lib.ListN.{length, take};
-ghost use Rattle.listing.specs.Listing.{listingOf};
+ghost use Rattle.listing_rules.specs.Listing.{listOf, LongInput};
+ghost use Rattle.listing_rules.specs.Examples.{Examples};
 ghost use Rattle.loglist.specs.Input.{Within};
 
 // How many bytes standard input gave, or that a read failed.
@@ -43,9 +44,12 @@ fn read_input(buffer: &mut [u8]) -> Input
     Input::Bytes(len)
 }
 
-// Writes the listing of a file, and hands back its length: no listing is longer than this buffer.
+// Writes the listing of a file, and hands back its length: no listing is longer than this buffer. With it stand 01's example, others, and
+// what an input over the length lists.
 fn listing_of(out: &mut [u8; 327680], file: &[u8]) -> usize
-    ensures { λ r. ⌜ (r ≤ length (now (out .exit))) × (take r (now (out .exit)) ≡ listingOf (now (file .entry))) ⌝ }
+    ensures { λ r. ⌜ (r ≤ length (now (out .exit))) × (take r (now (out .exit)) ≡ listOf (now (file .entry))) ⌝ }
+    ensures examples { λ _. ⌜ Examples ⌝ }
+    ensures long { λ _. ⌜ LongInput ⌝ }
 {
     let w = listing::list(out, file);
     w.len

@@ -1,4 +1,4 @@
-// The version's layout, from crate field.
+// The lengths of the version's layout.
 ghost use mathlib.Core.Path.{_≡_};
 ghost use Rattle.mlg_rules.specs.Layout.{headerLen, infoLen, fieldLen};
 

@@ -12,7 +12,7 @@ use Rattle.wire.specs.Log.{judged}
 use Rattle.mlg_rules.specs.Block.{blockLen, kindIn, lastOf, restNumber, partsOf}
 use Rattle.mlg_rules.specs.RoundTrip.{BlockAlone}
 use Rattle.mlg_rules.specs.declared.Block.the-variants.{Refused}
-use Rattle.mlg_rules.proofs.Cases.{block-here}
+use Rattle.mlg_rules.proofs.BlockLaws.{block-here}
 
 module _ (l : ℕ) (t r : List ℕ) where
   longer : length t ≤ length (t ++ r)

@@ -15,7 +15,7 @@ use Rattle.mlg_rules.specs.Writing.{startBytes, dataBytes, paddedText, m
 use Rattle.mlg_rules.specs.RoundTrip.{DataBack, MarkBack}
 use Rattle.mlg_rules.specs.declared.Block.the-variants.{Data, Mark}
 use Rattle.mlg_rules.proofs.BlockBytes.{data-fits, mark-fits, padded-length}
-use Rattle.mlg_rules.proofs.Cases.{at-within, here-stands, data-stands, mark-stands, parts-data, parts-mark}
+use Rattle.mlg_rules.proofs.BlockLaws.{at-within, here-stands, data-stands, mark-stands, parts-data, parts-mark}
 
 -- what stands at a place of a file, as the rest of the file
 abbrev file : List ℕ → List ℕ → List ℕ → List ℕ

@@ -12,7 +12,7 @@ use Rattle.mlg_rules.specs.Block.{blockLen, kindIn, counterIn, sumIn}
 use Rattle.mlg_rules.specs.Writing.{startBytes, dataBytes, paddedText, markBytes}
 use Rattle.mlg_rules.specs.Entries.{rewritten, PaddedHere}
 use Rattle.mlg_rules.specs.RoundTrip.{BlockSame}
-use Rattle.mlg_rules.proofs.Cases.{whole, least, data-whole, len-none, sum-stands}
+use Rattle.mlg_rules.proofs.BlockLaws.{whole, least, data-whole, len-none, sum-stands}
 
 -- two bytes read as a number, and written again
 pub two-back : (x y : ℕ) → x < 256 → y < 256 → beBytes 2 ((0 * 256 + x) * 256 + y) ≡ x ∷ y ∷ []

@@ -12,7 +12,7 @@ use Rattle.mlg_rules.specs.Types.{sizeOf}
 use Rattle.mlg_rules.specs.Field.{fieldSize}
 use Rattle.mlg_rules.specs.Fields.{fieldNumber, fieldsNumber, sizes}
 use Rattle.wire.proofs.Orders.{else-none}
-use Rattle.mlg_rules.proofs.Layouts.{field-least}
+use Rattle.mlg_rules.proofs.LayoutLaws.{field-least}
 
 module _ (v : ℕ) (f : List ℕ) (e : ℕ) (b : List ℕ) where
   pub fields-at : (left at : ℕ) → (left ≡ 0 → ⊥)

@@ -19,8 +19,8 @@ use Rattle.mlg_rules.specs.RoundTrip.{BlockSame}
 use Rattle.mlg_rules.specs.declared.Block.{Block}
 use Rattle.mlg_rules.specs.declared.Block.the-variants.{End, Refused}
 use Rattle.mlg_rules.proofs.Accepted.{two-below, text-taken, text-length, data-accepted, mark-accepted}
-use Rattle.mlg_rules.proofs.Cases.{whole, data-whole, text-ends}
-use Rattle.mlg_rules.proofs.Logs.{Next, Stands, a-block, the-end, refused, stands-at, step, parts-go, parts-length, log-end, log-refused, log-go}
+use Rattle.mlg_rules.proofs.BlockLaws.{whole, data-whole, text-ends}
+use Rattle.mlg_rules.proofs.LogLaws.{Next, Stands, a-block, the-end, refused, stands-at, step, parts-block, parts-length, log-end, log-refused, log-more}
 use Rattle.mlg_rules.proofs.BlockSame.{block-same}
 
 -- the first bytes of a part
@@ -97,8 +97,8 @@ module _ (l : ℕ) (f : List ℕ) (bytes : (i : ℕ) → getD f i 0 < 256) where
         block-same l (counterAfter n) (drop at f) (bytes-from at f bytes) num .0
         (as-expected-here (kindIn (drop at f)) (counterAfter n) at (drop at f) r, padded-here (kindIn (drop at f)) (counterAfter n) at f p)
 
-    same-go : (log next : Log) → Next log at b next → Same next (n + 1) (at + lengthOf l b) → Same log n at
-    same-go log next g ih = λ z r p.
+    same-more : (log next : Log) → Next log at b next → Same next (n + 1) (at + lengthOf l b) → Same log n at
+    same-more log next g ih = λ z r p.
         let r′ = rw (g .0) at r in
         let p′ = rw (g .0) at p in
         let rest = ih (sym (g .1) ∙ z) (r′ .1) (p′ .1) in (
@@ -116,7 +116,7 @@ module _ (l : ℕ) (f : List ℕ) (bytes : (i : ℕ) → getD f i 0 < 256) where
   same-by k n at (a-block h some num e) fuel ih =
       let s = step l n f at h num in
       let w = len n at num in
-      same-go n at num _ _ (log-go k l n f at (b n at num) e (parts-go (kindIn (drop at f)) (counterAfter n) at (drop at f)))
+      same-more n at num _ _ (log-more k l n f at (b n at num) e (parts-block (kindIn (drop at f)) (counterAfter n) at (drop at f)))
       (ih (n + 1) (at + lengthOf l (b n at num)) (omega arith) (omega arith))
 
   pub same-from : (k n at : ℕ) → at ≤ length f → length f - at < k → Same (logFrom k l n f at) n at

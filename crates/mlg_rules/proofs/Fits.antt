@@ -17,8 +17,8 @@ use Rattle.mlg_rules.specs.Area.{ended, areaOf}
 use Rattle.mlg_rules.specs.Fields.{fieldsNumber, sizes}
 use Rattle.mlg_rules.specs.Header.{fieldsEnd, lastNumber, bodyNumber}
 use Rattle.mlg_rules.specs.Writing.{headerFor, lengthsNumber}
-use Rattle.mlg_rules.proofs.Areas.{area-length}
-use Rattle.mlg_rules.proofs.Layouts.{fields-whole, fields-few, header-most}
+use Rattle.mlg_rules.proofs.AreaLaws.{area-length}
+use Rattle.mlg_rules.proofs.LayoutLaws.{fields-whole, fields-few, header-most}
 
 pub record Fit (v : ℕ) (fields names info : List ℕ) : Type 0 where
   pub whole : length fields % fieldLen v ≡ 0

@@ -23,33 +23,41 @@ use Rattle.mlg_rules.specs.Parts.{fieldsIn, namesEnd, namesIn, infoLengt
 use Rattle.mlg_rules.specs.RoundTrip.{HeaderBack}
 use Rattle.mlg_rules.specs.declared.Header.{Header}
 use Rattle.mlg_rules.specs.declared.Head.the-variants.{Is, Refused}
-use Rattle.mlg_rules.proofs.Areas.{area-length, ended-some}
+use Rattle.mlg_rules.proofs.AreaLaws.{area-length, ended-some}
 use Rattle.mlg_rules.proofs.EachField.{fields-alone, sizes-alone}
 use Rattle.mlg_rules.proofs.Fits.{Fit, fit, fields-end}
 use Rattle.mlg_rules.proofs.HeaderBytes.{first-length, number-length, header-length, header-fits, start-most}
-use Rattle.mlg_rules.proofs.Layouts.{header-two, fields-fit}
+use Rattle.mlg_rules.proofs.LayoutLaws.{header-two, fields-fit}
+
+-- numbers that fit their places
+record Widths (h : Header) : Type 0 where
+  version : h .version ≡ 2
+  time : h .time < 256 ^ 4
+  info : h .info < 256 ^ 4
+  begin : h .begin < 256 ^ 4
+  size : h .size < 256 ^ 2
+  count : h .count < 256 ^ 2
 
 -- the numbers
-numbers-in : (t i b s n : ℕ) (r : List ℕ) → t < 256 ^ 4 → i < 256 ^ 4 → b < 256 ^ 4 → s < 256 ^ 2 → n < 256 ^ 2
-    → numbersOf (numberBytes (record { version = 2; time = t; info = i; begin = b; size = s; count = n }) ++ r)
-    ≡ record { version = 2; time = t; info = i; begin = b; size = s; count = n }
+numbers-in : (h : Header) (r : List ℕ) → Widths h → numbersOf (numberBytes h ++ r) ≡ h
 unfolding numberBytes numbersOf layoutOf
-numbers-in t i b s n r ht hi hb hs hn =
-    let et = be-back 4 t ht in
-    let ei = be-back 4 i hi in
-    let eb = be-back 4 b hb in
-    let es = be-back 2 s hs in
-    let en = be-back 2 n hn in
-    cc
+numbers-in h r w =
+    let v = be-back 2 (h .version) (omega (arith, w .version)) in
+    let t = be-back 4 (h .time) (w .time) in
+    let i = be-back 4 (h .info) (w .info) in
+    let b = be-back 4 (h .begin) (w .begin) in
+    let s = be-back 2 (h .size) (w .size) in
+    let n = be-back 2 (h .count) (w .count) in
+    rw (v, t, i, b, s, n)
 
 -- the name and the version
-name-in : (t i b s n : ℕ) (r : List ℕ) → 0 ≡ nameNumber (numberBytes (record { version = 2; time = t; info = i; begin = b; size = s; count = n }) ++ r)
+name-in : (h : Header) (r : List ℕ) → h .version ≡ 2 → 0 ≡ nameNumber (numberBytes h ++ r)
 unfolding nameNumber numberBytes served layoutOf
-name-in t i b s n r =
-    let h : Header = record { version = 2; time = t; info = i; begin = b; size = s; count = n } in
+name-in h r e =
     let k : 24 ≤ length (numberBytes h ++ r) = omega (arith, length-append (numberBytes h) r, number-length h) in
+    let v = be-back 2 (h .version) (omega (arith, e)) ∙ e in
     if-no 20 _ _ 0 (le-ltb (length (numberBytes h ++ r)) 24 k)
-    (if-no 21 _ _ 0 (not-no _ refl) (if-no 22 _ _ 0 (not-no _ refl) refl))
+    (if-no 21 _ _ 0 (not-no _ refl) (if-no 22 _ _ 0 (not-no _ (eq-eqb _ _ v)) refl))
 
 -- what follows the fields does not matter to their checks
 pub body-alone : (h : Header) (t r a : List ℕ) → fieldLen (h .version) * h .count ≤ length t → bodyNumber h (t ++ r) a ≡ bodyNumber h t a
@@ -122,21 +130,25 @@ module _ (time : ℕ) (fields names info rest : List ℕ) where
       let l : length (areaOf names info) ≡ headerLen 2 + length fields + length (areaOf names info) - (headerLen 2 + length fields) = omega arith in
       rw (e, drop-fields) (take-at (areaOf names info) rest (headerLen 2 + length fields + length (areaOf names info) - (headerLen 2 + length fields)) l)
 
-  numbers-of : time < 256 ^ 4 → Fit 2 fields names info → numbersOf log ≡ head
+  widths : time < 256 ^ 4 → Fit 2 fields names info → Widths head
   unfolding headerFor
-  numbers-of t f =
+  widths t f =
       let start = headerLen 2 + length fields + length names in
-      rw after-numbers
-      (numbers-in time (infoStart start info) (headerLen 2 + length fields + length (areaOf names info)) (sizes 2 (length fields / fieldLen 2) fields)
-      (length fields / fieldLen 2) (fields ++ (areaOf names info ++ rest)) t (omega (arith, start-most start info, area-length names info, f .file))
-      (omega (arith, f .file)) (omega (arith, f .small)) (omega (arith, f .few)))
+      record {
+        version = refl;
+        time = t;
+        info = omega (arith, start-most start info, area-length names info, f .file);
+        begin = omega (arith, f .file);
+        size = omega (arith, f .small);
+        count = omega (arith, f .few);
+      }
+
+  numbers-of : time < 256 ^ 4 → Fit 2 fields names info → numbersOf log ≡ head
+  numbers-of t f = rw after-numbers (numbers-in head (fields ++ (areaOf names info ++ rest)) (widths t f))
 
   name-of : 0 ≡ nameNumber log
   unfolding headerFor
-  name-of =
-      rw after-numbers
-      (name-in time (infoStart (headerLen 2 + length fields + length names) info) (headerLen 2 + length fields + length (areaOf names info))
-      (sizes 2 (length fields / fieldLen 2) fields) (length fields / fieldLen 2) (fields ++ (areaOf names info ++ rest)))
+  name-of = rw after-numbers (name-in head (fields ++ (areaOf names info ++ rest)) refl)
 
   count-fits : fieldLen (head .version) * head .count ≤ length fields
   unfolding headerFor

@@ -16,7 +16,7 @@ use Rattle.mlg_rules.specs.Area.{ended, areaOf, infoStart}
 use Rattle.mlg_rules.specs.Writing.{numberBytes, headerFor, headerBytes, lengthsNumber, writeHeaderNumber}
 use Rattle.mlg_rules.specs.Header.{bodyNumber}
 use Rattle.mlg_rules.specs.declared.Header.{Header}
-use Rattle.mlg_rules.proofs.Areas.{ended-some, ended-none, ended-length, area-length}
+use Rattle.mlg_rules.proofs.AreaLaws.{ended-some, ended-none, ended-length, area-length}
 
 pub start-none : (at : ℕ) (l : List ℕ) → length l ≡ 0 → 0 ≡ infoStart at l
 start-none at [] h = refl

@@ -26,11 +26,11 @@ use Rattle.mlg_rules.specs.RoundTrip.{InLayout}
 use Rattle.mlg_rules.specs.declared.Header.{Header}
 use Rattle.mlg_rules.specs.declared.Head.the-variants.{Is, Refused}
 use Rattle.mlg_rules.proofs.Accepted.{two-below, four-below, text-whole}
-use Rattle.mlg_rules.proofs.Areas.{ended-some}
+use Rattle.mlg_rules.proofs.AreaLaws.{ended-some}
 use Rattle.mlg_rules.proofs.EachField.{sizes-alone}
 use Rattle.mlg_rules.proofs.HeaderBack.{body-alone}
 use Rattle.mlg_rules.proofs.HeaderBytes.{start-some}
-use Rattle.mlg_rules.proofs.Places.{Placed, placed}
+use Rattle.mlg_rules.proofs.HeaderLaws.{Placed, placed}
 
 -- what is known of a header that was read
 taken : (f : List ℕ) (h : Header) → readHeaderOf f ≡ Is h → (readHeaderNumber f ≡ 0) × (numbersOf f ≡ h)

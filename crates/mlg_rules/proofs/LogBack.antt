@@ -15,10 +15,10 @@ use Rattle.mlg_rules.specs.declared.Block.{Block}
 use Rattle.mlg_rules.specs.declared.Block.the-variants.{Data, Mark, End}
 use Rattle.mlg_rules.proofs.BlockBack.{data-back, mark-back}
 use Rattle.mlg_rules.proofs.BlockBytes.{data-fits, data-length, mark-fits, mark-length}
-use Rattle.mlg_rules.proofs.Cases.{at-within, block-end}
+use Rattle.mlg_rules.proofs.BlockLaws.{at-within, block-end}
 use Rattle.mlg_rules.proofs.HeaderBack.{header-back}
 use Rattle.mlg_rules.proofs.HeaderBytes.{header-length}
-use Rattle.mlg_rules.proofs.Logs.{Goes, Next, log-end, log-go}
+use Rattle.mlg_rules.proofs.LogLaws.{IsBlock, Next, log-end, log-more}
 
 -- the blocks of a log say the entries
 record Reads (l : ℕ) (es : List Entry) (f : List ℕ) (log : Log) : Type 0 where
@@ -55,7 +55,7 @@ one-more l f log at b next e es g w r =
 -- the file after a block is the file that begins with it
 block-first : (l k n : ℕ) (before block tail : List ℕ) (b : Block) (e : Entry) (es : List Entry)
     → readBlockOf l n (before ++ (block ++ tail)) (length before) ≡ b
-    → Goes b → Says l (before ++ (block ++ tail)) b e → lengthOf l b ≡ length block
+    → IsBlock b → Says l (before ++ (block ++ tail)) b e → lengthOf l b ≡ length block
     → Reads l es ((before ++ block) ++ tail) (logFrom k l (n + 1) ((before ++ block) ++ tail) (length (before ++ block)))
     → Reads l (e ∷ es) (before ++ (block ++ tail)) (logFrom (suc k) l n (before ++ (block ++ tail)) (length before))
 block-first l k n before block tail b e es at g w len r =
@@ -63,7 +63,7 @@ block-first l k n before block tail b e es at g w len r =
     let next = length before + lengthOf l b in
     let q : length (before ++ block) ≡ next = rw len (length-append before block) in
     let r′ = same-reads k l (n + 1) es ((before ++ block) ++ tail) file (length (before ++ block)) next (append-assoc before block tail) q r in
-    one-more l file _ (length before) b (logFrom k l (n + 1) file next) e es (log-go k l n file (length before) b at g) w r′
+    one-more l file _ (length before) b (logFrom k l (n + 1) file next) e es (log-more k l n file (length before) b at g) w r′
 
 data-len : (l c m s : ℕ) (rec : List ℕ) → length rec ≡ l → lengthOf l (Data c m s true) ≡ length rec + 5
 unfolding lengthOf blockLen

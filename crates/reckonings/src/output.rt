@@ -56,7 +56,7 @@ pub(crate) fn frame(f: Frame) {
 
 // A line's end with the frame of an answer, or its number.
 pub(crate) fn answer(s: bus::Served) {
-    if s.answers == 0 {
+    if s.frames == 0 {
         number(s.number);
         return;
     }

@@ -6,7 +6,9 @@ use Rattle.listing.proofs.list.Lts as lts
 use Rattle.listing.proofs.list_measured.Reads as list-measured-reads
 use Rattle.listing.proofs.whole.put_listing.Reads as put-listing-reads
 use native.Mathlib.Omega.{arith}
-use Rattle.listing.proofs.Listed.{list-written}
+use Rattle.listing_rules.specs.Longest.{NoneLonger}
+use Rattle.listing_rules.proofs.ListWritten.{list-written}
+use Rattle.listing_rules.proofs.Longest.{none-longer}
 
 list-measured-requires : tie.Need-list-measured-requires
 list-measured-requires c κs = search needs
@@ -15,7 +17,10 @@ same-length : tie.Need-same-length
 same-length c = search needs
 
 returns : tie.Need-returns
-returns c = c .before .before .list-measured .ensures
+unfolding NoneLonger
+returns c =
+    let file = c .before .before .before .before .before .before .before .args .file .now in
+    (c .before .before .list-measured .ensures, none-longer file (λ i. omega (arith, c .before .before .before .before .before .shared-slice-known .given i)))
 
 put-listing-requires : tie.Need-put-listing-requires
 put-listing-requires c κs = search needs
@@ -24,9 +29,13 @@ same-length-2 : tie.Need-same-length-2
 same-length-2 c = search needs
 
 returns-2 : tie.Need-returns-2
+unfolding NoneLonger
 returns-2 c =
-    let p = c .before .before .put-listing .ensures in
-    (list-written (c .before .before .before .before .before .before .before .args .file .now) (c .before .before .before .before .before .before .before .args .out .now) _ _ _ (omega (arith, p .1, c .before .before .before .before .if1 .left)) (p .0 .counted) (p .0), omega (arith, p .0 .counted, p .1))
+    let a = c .before .before .before .before .before .before .before .args in
+    let short = none-longer (a .file .now) (λ i. omega (arith, c .before .before .before .before .before .shared-slice-known .given i)) in
+    let put = c .before .before .put-listing .ensures in
+    let room = c .before .before .before .before .if1 .left in
+    (list-written (a .file .now) (a .out .now) _ _ _ (omega (arith, put .counted, short, room)) (put .counted) put, short)
 
 pub list-spec : {M : Type 1} → statement M
 list-spec =

@@ -1,5 +1,5 @@
 use borrow.Author.Needs.{needs}
-use Rattle.listing_cases.proofs.Rooms.{list-in-room}
+use Rattle.listing_cases.proofs.ListInRoom.{list-in-room}
 use Rattle.listing_cases.proofs.list.Statement.{statement}
 use Rattle.listing_cases.proofs.list.Tie as tie
 use Rattle.listing_cases.proofs.list.Reads as reads

@@ -4,7 +4,7 @@ use Rattle.loglist.proofs.main.Tie as tie
 use Rattle.loglist.proofs.main.Reads as reads
 use Rattle.loglist.proofs.main.Lts as lts
 use native.Mathlib.Omega.{arith}
-use Rattle.loglist.proofs.Reading.{bytes-within}
+use Rattle.loglist.proofs.BytesWithin.{bytes-within}
 use Rattle.io.proofs.write_all.Reads as write-all-reads
 use Rattle.loglist.proofs.listing_of.Reads as listing-of-reads
 use Rattle.loglist.proofs.read_input.Reads as read-input-reads
@@ -53,7 +53,7 @@ part-write-all-start : tie.Need-part-write-all-start
 part-write-all-start c = search needs
 
 part-write-all-end : tie.Need-part-write-all-end
-part-write-all-end c = omega (arith, c .before .listing-of .ensures .0)
+part-write-all-end c = omega (arith, c .before .listing-of .ensures .0 .0)
 
 write-all-requires-2 : tie.Need-write-all-requires-2
 write-all-requires-2 c κs = search needs

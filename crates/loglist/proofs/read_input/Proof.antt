@@ -3,7 +3,7 @@ use native.Mathlib.Omega.{arith}
 use Prim.Native.Nat.{_≤_, _-_}
 use mathlib.Core.Path.{_≡_, refl, _∙_}
 use lib.ListN.{length, drop, length-take, length-drop}
-use Rattle.loglist.proofs.Reading.{bytes-within}
+use Rattle.loglist.proofs.BytesWithin.{bytes-within}
 use Rattle.loglist.proofs.read_input.Statement.{statement}
 use Rattle.loglist.proofs.read_input.Tie as tie
 use Rattle.loglist.proofs.read_input.Reads as reads

@@ -3,7 +3,7 @@ use Rattle.mlg.proofs.count_blocks.Statement.{statement}
 use Rattle.mlg.proofs.count_blocks.Tie as tie
 use mathlib.Core.Path.{sym, _∙_}
 use Rattle.mlg_rules.proofs.LogPlaced.{log-placed}
-use Rattle.mlg_rules.proofs.Tallies.{head-stop, head-go}
+use Rattle.mlg_rules.proofs.TallyLaws.{count-none, count-is}
 
 read-header-requires : tie.Need-read-header-requires
 read-header-requires c κs = search needs
@@ -21,7 +21,7 @@ returns : tie.Need-returns
 returns c =
     let a = c .before .before .before .before .before .args in
     let read-header = c .before .before .before .read-header in (
-      rw (c .refusal .ensures) (head-stop (a .file .now) (read-header .result) (sym (read-header .ensures .0)) (c .before .before .match .keys2)),
+      rw (c .refusal .ensures) (count-none (a .file .now) (read-header .result) (sym (read-header .ensures .0)) (c .before .before .match .keys2)),
       log-placed,
     )
 
@@ -36,7 +36,7 @@ returns-2 c =
     let a = c .before .before .before .before .before .before .before .args in
     let read-header = c .before .before .before .before .before .read-header in
     let head = c .before .before .before .head in
-    (c .count-from .ensures ∙ head-go (a .file .now) _ (sym (read-header .ensures .0) ∙ head .given .1), log-placed)
+    (c .count-from .ensures ∙ count-is (a .file .now) _ (sym (read-header .ensures .0) ∙ head .given .1), log-placed)
 
 pub count-blocks-spec : {M : Type 1} → statement M
 count-blocks-spec =

@@ -9,8 +9,8 @@ use Rattle.wire.proofs.Orders.{else-some, else-none, if-yes, if-no}
 use Rattle.mlg_rules.specs.Layout.{fieldLen}
 use Rattle.mlg_rules.specs.declared.Header.{Header}
 use Rattle.mlg_rules.specs.Parts.{fieldSpanOf}
-use Rattle.mlg_rules.proofs.Layouts.{header-most, fields-most}
-use Rattle.mlg_rules.proofs.Spans.{refused, given, placed-in, field-fits}
+use Rattle.mlg_rules.proofs.LayoutLaws.{header-most, fields-most}
+use Rattle.mlg_rules.proofs.SpanLaws.{refused, given, placed-in, field-fits}
 
 read-header-number-requires : tie.Need-read-header-number-requires
 read-header-number-requires c κs = search needs

@@ -10,8 +10,8 @@ use Rattle.wire.proofs.Parts.{tail-part}
 use Rattle.mlg_rules.specs.declared.Header.{Header}
 use Rattle.mlg_rules.specs.Header.{readHeaderNumber}
 use Rattle.mlg_rules.specs.Parts.{infoSpanOf, infoLength}
-use Rattle.mlg_rules.proofs.Places.{Placed}
-use Rattle.mlg_rules.proofs.Spans.{refused, given, placed-in, info-none, info-some, info-fits}
+use Rattle.mlg_rules.proofs.HeaderLaws.{Placed}
+use Rattle.mlg_rules.proofs.SpanLaws.{refused, given, placed-in, info-none, info-some, info-fits}
 
 read-header-number-requires : tie.Need-read-header-number-requires
 read-header-number-requires c κs = search needs

@@ -6,8 +6,8 @@ use native.Mathlib.Omega.{arith}
 use lib.ListN.{length}
 use Rattle.mlg_rules.specs.Parts.{namesSpanOf}
 use Rattle.mlg_rules.specs.Header.{fieldsEnd, readHeaderNumber}
-use Rattle.mlg_rules.proofs.Places.{Placed}
-use Rattle.mlg_rules.proofs.Spans.{refused, given, placed-in, names-fit}
+use Rattle.mlg_rules.proofs.HeaderLaws.{Placed}
+use Rattle.mlg_rules.proofs.SpanLaws.{refused, given, placed-in, names-fit}
 
 read-header-number-requires : tie.Need-read-header-number-requires
 read-header-number-requires c κs = search needs

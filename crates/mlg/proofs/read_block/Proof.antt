@@ -7,7 +7,7 @@ use lib.ListN.{length, take, drop}
 use mathlib.Core.Path.{sym, _∙_, ap}
 use Rattle.wire.proofs.Parts.{tail-part}
 use Rattle.mlg_rules.specs.Block.{blockOf, counterAfter}
-use Rattle.mlg_rules.proofs.Cases.{at-past, at-within, block-means}
+use Rattle.mlg_rules.proofs.BlockLaws.{at-past, at-within, block-means}
 
 returns : tie.Need-returns
 returns c =

@@ -5,7 +5,7 @@ use mathlib.Core.Path.{sym, _∙_}
 use Rattle.mlg_rules.specs.Header.{readHeaderOf}
 use Rattle.wire.proofs.Answers.{refuses, stands}
 use Rattle.mlg_rules.specs.declared.Head.the-variants.{Is, Refused}
-use Rattle.mlg_rules.proofs.Places.{head-means}
+use Rattle.mlg_rules.proofs.HeaderLaws.{head-means}
 
 read-header-number-requires : tie.Need-read-header-number-requires
 read-header-number-requires c κs = search needs

@@ -6,7 +6,7 @@ use native.Mathlib.Omega.{arith}
 use borrow.Author.Tests.{not-true, not-false}
 use Rattle.mlg_rules.specs.Shown.{applyOf}
 use Rattle.wire.proofs.Answers.{refuses, stands}
-use Rattle.mlg_rules.proofs.Scalings.{by-sum, by-product, all-finite, apply-means}
+use Rattle.mlg_rules.proofs.ShownLaws.{by-sum, by-product, all-finite, apply-means}
 use Rattle.mlg_rules.specs.declared.ShownValue.the-variants as S
 
 is-finite-requires : tie.Need-is-finite-requires
@@ -33,10 +33,9 @@ returns-3 : tie.Need-returns-3
 unfolding applyOf
 returns-3 c =
     let a = c .before .before .before .before .before .before .args in
-    let is-finite = c .before .before .before .before .is-finite in
-    let if1 = c .before .before .before .if1 in
-    apply-means (a .scaling) (a .raw) _ (stands S.Is S.Refused _ _ _
-    (sym (all-finite _ _ (sym (is-finite .ensures) ∙ not-false _ (if1 .left)) (sym (c .before .is-finite2 .ensures) ∙ not-false _ (c .if2 .left)))) refl)
+    let sum = sym (c .before .before .before .before .is-finite .ensures) ∙ not-false _ (c .before .before .before .if1 .left) in
+    let product = sym (c .before .is-finite2 .ensures) ∙ not-false _ (c .if2 .left) in
+    apply-means (a .scaling) (a .raw) _ (stands S.Is S.Refused _ _ _ (sym (all-finite _ _ sum product)) refl)
 
 pub apply-spec : {M : Type 1} → statement M
 apply-spec =

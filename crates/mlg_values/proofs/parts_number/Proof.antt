@@ -36,34 +36,18 @@ finite-bits-requires-2 c κs = search needs
 returns-3 : tie.Need-returns-3
 unfolding partsNumber scalingIn
 returns-3 c =
-    let byte-at = c .before .before .before .before .before .before .before .before .byte-at in
-    let is-shown = c .before .before .before .before .before .before .before .is-shown in
-    let be32 = c .before .before .before .before .before .be32 in
-    let finite-bits = c .before .before .before .before .finite-bits in
-    rw (
-      ← byte-at .ensures,
-      ← is-shown .ensures,
-      ← be32 .ensures,
-      ← finite-bits .ensures,
-      ← c .before .before .be322 .ensures,
-      ← c .before .finite-bits2 .ensures,
-    ) (search order depth 12)
+    let f = c .before .before .before .before in
+    let s = f .before .before .before in
+    rw (← s .before .byte-at .ensures, ← s .is-shown .ensures, ← f .before .be32 .ensures, ← f .finite-bits .ensures)
+    (rw (← c .before .before .be322 .ensures, ← c .before .finite-bits2 .ensures) (search order depth 12))
 
 returns-4 : tie.Need-returns-4
 unfolding partsNumber scalingIn
 returns-4 c =
-    let byte-at = c .before .before .before .before .before .before .before .before .byte-at in
-    let is-shown = c .before .before .before .before .before .before .before .is-shown in
-    let be32 = c .before .before .before .before .before .be32 in
-    let finite-bits = c .before .before .before .before .finite-bits in
-    rw (
-      ← byte-at .ensures,
-      ← is-shown .ensures,
-      ← be32 .ensures,
-      ← finite-bits .ensures,
-      ← c .before .before .be322 .ensures,
-      ← c .before .finite-bits2 .ensures,
-    ) (search order depth 12)
+    let f = c .before .before .before .before in
+    let s = f .before .before .before in
+    rw (← s .before .byte-at .ensures, ← s .is-shown .ensures, ← f .before .be32 .ensures, ← f .finite-bits .ensures)
+    (rw (← c .before .before .be322 .ensures, ← c .before .finite-bits2 .ensures) (search order depth 12))
 
 pub parts-number-spec : {M : Type 1} → statement M
 parts-number-spec =

@@ -7,8 +7,8 @@ use lib.IntN.{pos}
 use mir.Syntax.{w64}
 use mir.ValLaws.{toZ-ofZ, toZ-pos}
 use Rattle.mlg_rules.specs.Types.{sizeOf}
-use Rattle.mlg_rules.proofs.Types.{size-at, size-plain}
-use Rattle.mlg_rules.proofs.Raws.{raw-signed, raw-plain, whole, single}
+use Rattle.mlg_rules.proofs.TypeLaws.{size-at, size-plain}
+use Rattle.mlg_rules.proofs.RawLaws.{raw-signed, raw-plain, whole, single}
 use Rattle.mlg_rules.specs.Raw.{signedType}
 
 byte-at-requires : tie.Need-byte-at-requires
@@ -79,14 +79,12 @@ cast-result c = search needs
 
 returns-5 : tie.Need-returns-5
 returns-5 c =
-    let a = c .before .before .before .before .before .before .args in
-    let pre = c .before .before .before .before .before .before .pre in
-    let if1 = c .before .before .before .before .if1 in
-    let if2 = c .before .before .before .if2 in
-    let if4 = c .before .if4 in
-    toZ-pos w64 (c .be322 .result) (omega arith) ∙ ap pos
-    (c .be322 .ensures ∙ whole 4 (a .raw .now) (omega (arith, pre, size-plain (a .kind) (if4 .left)))) ∙ sym
-    (raw-plain _ _ (if1 .left) (if2 .left) (c .before .before .if3 .left) (if4 .left))
+    let s = c .before .before .before .before .before .before in
+    let if1 = c .before .before .before .before .if1 .left in
+    let if2 = c .before .before .before .if2 .left in
+    let if4 = c .before .if4 .left in
+    let e = c .be322 .ensures ∙ whole 4 (s .args .raw .now) (omega (arith, s .pre, size-plain (s .args .kind) if4)) in
+    toZ-pos w64 (c .be322 .result) (omega arith) ∙ ap pos e ∙ sym (raw-plain _ _ if1 if2 (c .before .before .if3 .left) if4)
 
 pub raw-of-spec : {M : Type 1} → statement M
 raw-of-spec =

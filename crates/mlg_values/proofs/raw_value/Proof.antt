@@ -7,7 +7,7 @@ use mir.Syntax.{w64}
 use mir.ValLaws.{toZ-ofZ}
 use Rattle.mlg_rules.specs.Raw.{rawOf, rawValueOf}
 use Rattle.wire.proofs.Answers.{refuses, stands}
-use Rattle.mlg_rules.proofs.Raws.{raw-means, sized}
+use Rattle.mlg_rules.proofs.RawLaws.{raw-means, sized}
 use Rattle.mlg_rules.specs.declared.RawValue.the-variants as R
 
 value-number-requires : tie.Need-value-number-requires

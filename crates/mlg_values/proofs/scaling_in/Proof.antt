@@ -3,7 +3,7 @@ use Rattle.mlg_values.proofs.scaling_in.Statement.{statement}
 use Rattle.mlg_values.proofs.scaling_in.Tie as tie
 use mathlib.Core.Path.{refl}
 use Rattle.mlg_rules.proofs.Finite.{no-nan}
-use Rattle.mlg_rules.proofs.Scalings.{parts-stand}
+use Rattle.mlg_rules.proofs.ShownLaws.{parts-stand}
 use Rattle.mlg_rules.specs.Shown.{scalingIn}
 
 be32-requires : tie.Need-be32-requires

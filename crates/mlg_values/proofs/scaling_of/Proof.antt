@@ -4,7 +4,7 @@ use Rattle.mlg_values.proofs.scaling_of.Tie as tie
 use mathlib.Core.Path.{sym, _∙_}
 use Rattle.mlg_rules.specs.Shown.{scalingOf}
 use Rattle.wire.proofs.Answers.{refuses, stands}
-use Rattle.mlg_rules.proofs.Scalings.{scaling-means, scaling-stands}
+use Rattle.mlg_rules.proofs.ShownLaws.{scaling-means, scaling-stands}
 use Rattle.mlg_rules.specs.declared.FieldScaling.the-variants as F
 
 scaling-number-requires : tie.Need-scaling-number-requires

@@ -8,9 +8,9 @@ use borrow.Author.Tests.{not-true, not-false}
 use lib.Ieee.{binary32, ofBits}
 use Rattle.mlg_rules.specs.Shown.{applyOf}
 use Rattle.wire.proofs.Answers.{refuses}
-use Rattle.mlg_rules.proofs.Raws.{whole}
+use Rattle.mlg_rules.proofs.RawLaws.{whole}
 use Rattle.mlg_rules.proofs.Finite.{no-nan}
-use Rattle.mlg_rules.proofs.Scalings.{by-raw}
+use Rattle.mlg_rules.proofs.ShownLaws.{by-raw}
 use Rattle.mlg_rules.specs.declared.ShownValue.the-variants as S
 
 be32-requires : tie.Need-be32-requires

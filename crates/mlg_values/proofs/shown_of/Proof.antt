@@ -6,8 +6,8 @@ use native.Mathlib.Omega.{arith}
 use Rattle.mlg_rules.specs.Types.{sizeOf}
 use Rattle.mlg_rules.specs.Field.{typeOf}
 use Rattle.mlg_rules.specs.Shown.{scalingIn, applyOf}
-use Rattle.mlg_rules.proofs.Types.{size-at}
-use Rattle.mlg_rules.proofs.Scalings.{parts-stand, float-bits, float-whole, shown-small}
+use Rattle.mlg_rules.proofs.TypeLaws.{size-at}
+use Rattle.mlg_rules.proofs.ShownLaws.{parts-stand, float-bits, float-whole, shown-small}
 
 scaling-in-requires : tie.Need-scaling-in-requires
 scaling-in-requires c κs = c .before .before .pre .1

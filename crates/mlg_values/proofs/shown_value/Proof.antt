@@ -6,8 +6,8 @@ use native.Mathlib.Omega.{arith}
 use Rattle.wire.proofs.Orders.{else-some}
 use Rattle.mlg_rules.specs.Shown.{shownValueOf, shownNumber}
 use Rattle.wire.proofs.Answers.{refuses}
-use Rattle.mlg_rules.proofs.Raws.{sized}
-use Rattle.mlg_rules.proofs.Scalings.{parts-stand, no-scaling, shown-applied, shown-means}
+use Rattle.mlg_rules.proofs.RawLaws.{sized}
+use Rattle.mlg_rules.proofs.ShownLaws.{parts-stand, no-scaling, shown-applied, shown-means}
 use Rattle.mlg_rules.specs.declared.ShownValue.the-variants as S
 
 value-number-requires : tie.Need-value-number-requires

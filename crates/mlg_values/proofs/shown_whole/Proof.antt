@@ -7,7 +7,7 @@ use lib.Ieee.{binary32, ofInt}
 use mir.Syntax.{w64}
 use mir.ValLaws.{toZ-ofZ}
 use Rattle.mlg_rules.specs.Shown.{applyOf}
-use Rattle.mlg_rules.proofs.Raws.{raw-small}
+use Rattle.mlg_rules.proofs.RawLaws.{raw-small}
 
 raw-of-requires : tie.Need-raw-of-requires
 raw-of-requires c κs = search needs
@@ -23,10 +23,10 @@ apply-requires c κs = search needs
 
 returns : tie.Need-returns
 returns c =
-    let a = c .before .before .before .before .args in
     let raw-of = c .before .before .raw-of in
-    c .apply .ensures .0 ∙ ap (applyOf (a .scaling))
-    (c .before .as-float .ensures ∙ ap (ofInt binary32) (toZ-ofZ w64 _ (record { sfits = raw-of .ok }) ∙ raw-of .ensures))
+    let raw = toZ-ofZ w64 _ (record { sfits = raw-of .ok }) ∙ raw-of .ensures in
+    c .apply .ensures .0
+    ∙ ap (applyOf (c .before .before .before .before .args .scaling)) (c .before .as-float .ensures ∙ ap (ofInt binary32) raw)
 
 pub shown-whole-spec : {M : Type 1} → statement M
 shown-whole-spec = tie.close (tie.spec raw-of-requires as-float-requires apply-requires returns)

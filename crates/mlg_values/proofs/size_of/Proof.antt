@@ -3,7 +3,7 @@ use Rattle.mlg_values.proofs.size_of.Statement.{statement}
 use Rattle.mlg_values.proofs.size_of.Tie as tie
 use mathlib.Core.Path.{refl}
 use Rattle.mlg_rules.specs.Types.{sizeOf}
-use Rattle.mlg_rules.proofs.Types.{size-none}
+use Rattle.mlg_rules.proofs.TypeLaws.{size-none}
 
 array-read-result : tie.Need-array-read-result
 array-read-result c = search needs

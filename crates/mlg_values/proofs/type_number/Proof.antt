@@ -4,7 +4,7 @@ use Rattle.mlg_values.proofs.type_number.Tie as tie
 use native.Mathlib.Omega.{arith}
 use Rattle.wire.proofs.Orders.{order}
 use Rattle.mlg_rules.specs.Field.{typeNumber}
-use Rattle.mlg_rules.proofs.Types.{size-most}
+use Rattle.mlg_rules.proofs.TypeLaws.{size-most}
 
 size-of-requires : tie.Need-size-of-requires
 size-of-requires c κs = search needs

@@ -2,7 +2,7 @@ use borrow.Author.Needs.{needs}
 use Rattle.mlg_values.proofs.value_field_number.Statement.{statement}
 use Rattle.mlg_values.proofs.value_field_number.Tie as tie
 use Rattle.wire.proofs.Orders.{order}
-use Rattle.mlg_rules.proofs.Layouts.{field-of}
+use Rattle.mlg_rules.proofs.LayoutLaws.{field-of}
 use Rattle.mlg_rules.specs.Raw.{valueFieldNumber}
 
 layout-of-requires : tie.Need-layout-of-requires

@@ -3,16 +3,21 @@ use Rattle.bus.proofs.holder.serve.Statement.{statement}
 use Rattle.bus.proofs.holder.serve.Tie as tie
 use mir.Val.{Fits}
 use mir.Syntax.{w8}
-use Prim.Native.Nat.{ℕ}
+use Prim.Native.Nat.{ℕ, _+_}
 use native.Mathlib.Omega.{arith}
-use mathlib.Core.Path.{_≡_, refl, sym, _∙_, ap}
+use mathlib.Core.Path.{_≡_, sym, _∙_, ap, ap₂}
+use mathlib.Core.Logic.{_≢_}
 use mathlib.Core.List.{List}
-use lib.ListN.{getD}
+use lib.ListN.{length, getD}
+use Rattle.wire.specs.Order.{_orElse_}
+use Rattle.wire.proofs.Orders.{order}
+use Rattle.bus_rules.specs.declared.Frame.{Frame}
 use Rattle.bus_rules.specs.declared.Served.{Served}
-use Rattle.bus_rules.specs.Device.{Device, device, sizeOf, rightOf}
-use Rattle.bus_rules.specs.Holder.{byteOf, placeOf, serveNumber, serveOf, deviceAfter}
+use Rattle.bus_rules.specs.Frames.{headNumber}
+use Rattle.bus_rules.specs.Device.{Device, device, ownOf, startOf, sizeOf, rightOf, memoryNumber}
+use Rattle.bus_rules.specs.Holder.{byteOf, placeOf, noAnswer, kindNumber, serveNumber, serveOf, deviceAfter}
 use Rattle.bus_rules.specs.Demand2.{Demand2}
-use Rattle.bus_rules.proofs.IdentLaws.{AreParts, are-parts, table-small}
+use Rattle.bus_rules.proofs.IdentLaws.{are-parts, table-small}
 use Rattle.bus_rules.proofs.Cases.{served-case, refused-case, device-after}
 use Rattle.bus_rules.proofs.Demand2.{IsFrame, demand2}
 
@@ -30,43 +35,74 @@ demanded s r m p q =
     record { eight = search needs; bytes = λ i l. let h : Fits w8 (getD (a .f .bytes) i 0) = search needs in omega arith } in
     demand2 (before s) (a .f) r (device (a .d) m) p (device-after (before s) (a .f) m q) w (search needs) (search needs)
 
-parts : (c : tie.After-parts-of) → AreParts (c .before .before .args .f .id) (c .parts-of .result)
-parts c = are-parts (c .before .before .args .f .id) (c .parts-of .result) (c .parts-of .ensures)
+-- 11 and 10, then the frame's
+first-number : (e : Device) (f : Frame) (n : ℕ) → n ≡ memoryNumber (e .directory) (length (e .memory)) → n ≢ 0 → n ≡ serveNumber e f
+unfolding serveNumber
+first-number e f n h k = search order depth 12
 
--- the number that the frame gets
-number : (c : tie.After-serve-number)
-    → c .serve-number .result ≡ serveNumber (before (c .before .before .before .before .before)) (c .before .before .before .before .before .args .f)
-number c = c .serve-number .ensures _ refl
+later-number : (e : Device) (f : Frame) (n k : ℕ) → n ≡ memoryNumber (e .directory) (length (e .memory)) → n ≡ 0
+    → k ≡ (headNumber (ownOf e) f orElse kindNumber e f) → k ≡ serveNumber e f
+unfolding serveNumber
+later-number e f n k h z l = search order depth 12
 
-parts-of-requires : tie.Need-parts-of-requires
-parts-of-requires c κs = search needs
+-- the number of a frame to a sound device
+abbrev start : tie.After-frame-number → tie.Start
+start c = c .before .before .before .before .before .before .before
+
+number : (c : tie.After-frame-number) → c .frame-number .result ≡ serveNumber (before (start c)) (start c .args .f)
+number c =
+    let s = start c in
+    let m = c .before .before in
+    let t = m .before .before .table-at .ensures in
+    let k = m .before .before .before .table-of .ensures in
+    later-number (before s) (s .args .f) (m .before .memory-number .result) (c .frame-number .result) (m .before .memory-number .ensures) (m .if1 .left)
+    (c .frame-number .ensures (before s) (t .1 ∙ ap (sizeOf (s .args .d)) k) (t .2 ∙ ap (rightOf (s .args .d)) k))
+
+-- a refusal
+refused : (s : tie.Start) (n : ℕ) (r : Served) → n ≡ serveNumber (before s) (s .args .f) → n ≢ 0 → r ≡ noAnswer n
+    → ((r ≡ serveOf (before s) (s .args .f)) × (s .args .memory .now ≡ deviceAfter (before s) (s .args .f) .memory))
+    × Demand2 (before s) (s .args .f) r (before s)
+refused s n r h k e =
+    let w = refused-case (before s) (s .args .f) n (sym h) k in
+    let p = e ∙ sym (w .0) in
+    let q = sym (ap (λ (v : Device). v .memory) (w .1)) in
+    ((p, q), demanded s r _ p q)
+
+table-of-requires : tie.Need-table-of-requires
+table-of-requires c κs = search needs
 
 cast-table-at : tie.Need-cast-table-at
 cast-table-at c = search needs
 
 table-at-requires : tie.Need-table-at-requires
-table-at-requires c κs =
-    let f = c .before .before .before .args .f in
-    omega (arith, parts (c .before) .table, table-small (f .id))
+table-at-requires c κs = omega (arith, c .table-of .ensures, table-small (c .before .before .args .f .id))
 
-serve-number-requires : tie.Need-serve-number-requires
-serve-number-requires c κs =
-    let d = c .before .before .before .before .args .d in
-    let t = c .table-at .ensures in
-    let p = c .before .before in
-    (t .1 ∙ ap (sizeOf d) (parts p .table), t .2 ∙ ap (rightOf d) (parts p .table), p .parts-of .ensures)
+memory-number-requires : tie.Need-memory-number-requires
+memory-number-requires c κs = search needs
 
 no-answer-requires : tie.Need-no-answer-requires
 no-answer-requires c κs = search needs
 
 returns : tie.Need-returns
 returns c =
+    let s = c .before .before .before .before .before .before in
+    let n = c .before .before .memory-number in
+    let k = c .before .if1 .taken in
+    refused s (n .result) _ (first-number (before s) (s .args .f) (n .result) (n .ensures) k) k (c .no-answer .ensures)
+
+parts-of-requires : tie.Need-parts-of-requires
+parts-of-requires c κs = search needs
+
+frame-number-requires : tie.Need-frame-number-requires
+frame-number-requires c κs = c .parts-of .ensures
+
+no-answer-requires-2 : tie.Need-no-answer-requires-2
+no-answer-requires-2 c κs = search needs
+
+returns-2 : tie.Need-returns-2
+returns-2 c =
     let n = c .before .before in
-    let s = n .before .before .before .before .before in
-    let e = refused-case (before s) (s .args .f) (n .serve-number .result) (sym (number n)) (c .before .if1 .taken) in
-    let p = c .no-answer .ensures ∙ sym (e .0) in
-    let q = sym (ap (λ (v : Device). v .memory) (e .1)) in
-    ((p, q), demanded s _ _ p q)
+    refused (start n) (n .frame-number .result) _ (number n) (c .before .if2 .taken) (c .no-answer2 .ensures)
 
 cast-act : tie.Need-cast-act
 cast-act c = search needs
@@ -81,20 +117,20 @@ act-requires : tie.Need-act-requires
 unfolding placeOf
 act-requires c κs =
     let n = c .before .before .before .before in
-    let p = parts (n .before .before .before) in (
-      sym (number n) ∙ c .before .before .before .if1 .left,
-      rw (p .offset, n .before .table-at .ensures .0, p .table),
-      n .before .before .before .parts-of .ensures,
-    )
+    let p = n .before .parts-of in
+    let t = n .before .before .before .before in
+    let o = are-parts (start n .args .f .id) (p .result) (p .ensures) .offset in
+    let b = t .table-at .ensures .0 ∙ ap (startOf (start n .args .d)) (t .before .table-of .ensures) in
+    (sym (number n) ∙ c .before .before .before .if2 .left, ap₂ (λ (x y : ℕ). x + y) b o, p .ensures)
 
 same-length : tie.Need-same-length
 same-length c = search needs
 
-returns-2 : tie.Need-returns-2
-returns-2 c =
+returns-3 : tie.Need-returns-3
+returns-3 c =
     let n = c .before .before .before .before .before .before .before in
-    let s = n .before .before .before .before .before in
-    let e = served-case (before s) (s .args .f) (sym (number n) ∙ c .before .before .before .before .before .before .if1 .left) in
+    let s = start n in
+    let e = served-case (before s) (s .args .f) (sym (number n) ∙ c .before .before .before .before .before .before .if2 .left) in
     let p = c .before .before .act .ensures .0 ∙ sym (e .0) in
     let q = c .before .before .act .ensures .1 ∙ sym (ap (λ (v : Device). v .memory) (e .1)) in
     ((p, q), demanded s _ _ p q)
@@ -103,15 +139,19 @@ pub serve-spec : {M : Type 1} → statement M
 serve-spec =
     tie.close
     (tie.spec
-    parts-of-requires
+    table-of-requires
     cast-table-at
     table-at-requires
-    serve-number-requires
+    memory-number-requires
     no-answer-requires
     returns
+    parts-of-requires
+    frame-number-requires
+    no-answer-requires-2
+    returns-2
     cast-act
     cast-act-2
     add-act
     act-requires
     same-length
-    returns-2)
+    returns-3)

@@ -17,9 +17,9 @@ returns : tie.Need-returns
 unfolding readRequestOf
 returns c =
     let a = c .before .before .args in
+    let w = row-theorems .writeAfterRead (a .a) (a .b) (a .c) (search needs) (search needs) (search needs) in
     let n = read-no (a .a) (a .c) (sym (c .before .is-reserved .ensures) ∙ c .if1 .taken) in
     let e = request-read-means _ _ _ (refuses A.Is A.Refused _ _ _ n (λ z. omega arith)) in
-    let w = row-theorems .writeAfterRead (a .a) (a .b) (a .c) (search needs) (search needs) (search needs) in
     (e, subst (WriteAfterRead (a .a) (a .b) (a .c)) (sym (e .0)) w)
 
 request-of-requires : tie.Need-request-of-requires
@@ -29,9 +29,9 @@ returns-2 : tie.Need-returns-2
 unfolding readRequestOf
 returns-2 c =
     let a = c .before .before .before .args in
+    let w = row-theorems .writeAfterRead (a .a) (a .b) (a .c) (search needs) (search needs) (search needs) in
     let n = read-yes (a .a) (a .c) (sym (c .before .before .is-reserved .ensures) ∙ c .before .if1 .left) in
     let e = request-read-means _ _ _ (stands A.Is A.Refused _ _ _ (sym n) (c .request-of .ensures .0)) in
-    let w = row-theorems .writeAfterRead (a .a) (a .b) (a .c) (search needs) (search needs) (search needs) in
     (e, subst (WriteAfterRead (a .a) (a .b) (a .c)) (sym (e .0)) w)
 
 pub read-request-spec : {M : Type 1} → statement M

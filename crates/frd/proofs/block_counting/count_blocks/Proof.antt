@@ -2,7 +2,6 @@ use borrow.Author.Needs.{needs}
 use Rattle.frd.proofs.block_counting.count_blocks.Statement.{statement}
 use Rattle.frd.proofs.block_counting.count_blocks.Tie as tie
 use mathlib.Core.Path.{sym, _∙_}
-use Rattle.frd_rules.proofs.HeaderLaws.{begins-in}
 use Rattle.frd_rules.proofs.TallyLaws.{count-is, count-none}
 use Rattle.frd_rules.proofs.LogPlaced.{log-placed}
 
@@ -27,9 +26,7 @@ cast-count-from : tie.Need-cast-count-from
 cast-count-from c = search needs
 
 count-from-requires : tie.Need-count-from-requires
-count-from-requires c κs =
-    let head = c .before .before in
-    begins-in _ _ (sym (head .before .before .read-header .ensures .0) ∙ head .head .given .1)
+count-from-requires c κs = search needs
 
 returns-2 : tie.Need-returns-2
 returns-2 c =

@@ -10,7 +10,7 @@ use Rattle.frd_rules.proofs.LogLaws.{block-fits}
 use Rattle.frd_rules.proofs.TallyLaws.{tag-block, tag-no-block, tallyFrom, tally-start, tally-more, tally-ends}
 
 abbrev Inv-loop : tie.InvT-loop
-Inv-loop file size begin at₀ n₀ at n = (at ≤ length file) × (n ≤ at) × (tallyFrom size n file at ≡ tallyOf (logOf size file begin))
+Inv-loop file size begin at₀ n₀ at n = (n ≤ at) × (tallyFrom size n file at ≡ tallyOf (logOf size file begin))
 
 abbrev μ-loop : tie.MeasureT-loop
 μ-loop file size begin at₀ n₀ at n = length file - at
@@ -25,7 +25,7 @@ inside c =
     block-fits _ _ _ _ _ (sym (read .ensures .0 .0)) (tag-block (read .result) (c .match .keys1))
 
 loop-holds : tie.Need-loop-holds Inv-loop μ-loop
-loop-holds c = let a = c .before .args in (omega arith, omega arith, tally-start (a .size) (a .file .now) (a .begin))
+loop-holds c = let a = c .before .args in (omega arith, tally-start (a .size) (a .file .now) (a .begin))
 
 read-block-requires : tie.Need-read-block-requires Inv-loop μ-loop
 read-block-requires c κs = tt
@@ -38,7 +38,7 @@ returns c =
     let match = c .before in
     let read = match .before .read-block in
     rw (c .stop-number .ensures)
-    (tally-ends _ _ _ _ _ (sym (read .ensures .0 .0)) (tag-no-block (read .result) (match .match .keys2)) ∙ match .before .before .loop .inv .2)
+    (tally-ends _ _ _ _ _ (sym (read .ensures .0 .0)) (tag-no-block (read .result) (match .match .keys2)) ∙ match .before .before .loop .inv .1)
 
 length-of-requires : tie.Need-length-of-requires Inv-loop μ-loop
 length-of-requires c κs = tt
@@ -47,7 +47,7 @@ add-at : tie.Need-add-at Inv-loop μ-loop
 add-at c = omega (arith, inside (c .before) .1)
 
 add-n : tie.Need-add-n Inv-loop μ-loop
-add-n c = omega arith
+add-n c = omega (arith, inside (c .before) .1)
 
 loop-less : tie.Need-loop-less Inv-loop μ-loop
 loop-less c = omega (arith, inside (c .before) .0, inside (c .before) .1)
@@ -58,9 +58,8 @@ loop-again c =
     let read = match .before .read-block in
     let inv = match .before .before .loop .inv in
     rw (c .length-of .ensures) (
-      inside match .1,
       omega (arith, inside match .0),
-      sym (tally-more _ _ _ _ _ (inv .0) (sym (read .ensures .0 .0)) (tag-block (read .result) (match .match .keys1))) ∙ inv .2,
+      sym (tally-more _ _ _ _ _ (sym (read .ensures .0 .0)) (tag-block (read .result) (match .match .keys1))) ∙ inv .1,
     )
 
 pub count-from-spec : {M : Type 1} → statement M

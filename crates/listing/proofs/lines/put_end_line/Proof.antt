@@ -6,9 +6,8 @@ use Rattle.listing.proofs.lines.put_end_line.Lts as lts
 use Rattle.listing.proofs.text.put_bytes.Reads as put-bytes-reads
 use Rattle.listing.proofs.text.put_decimal.Reads as put-decimal-reads
 use native.Mathlib.Omega.{arith}
-use mathlib.Core.Path.{_≡_, refl, sym, _∙_, ap}
-use Rattle.listing.specs.Lines.{headerLine, fieldLine, valueText, rightText, blockLine}
-use Rattle.listing.proofs.Putting.{puts-as, then, nothing}
+use Rattle.listing_rules.specs.Lines.{blockLine}
+use Rattle.listing_rules.proofs.PutsText.{_then_}
 
 slice-aggregate-put-bytes : tie.Need-slice-aggregate-put-bytes
 slice-aggregate-put-bytes c = search needs
@@ -30,7 +29,11 @@ same-length c = search needs
 
 returns : tie.Need-returns
 unfolding blockLine
-returns c = ((λ h f. then (then (c .before .before .before .before .before .before .before .before .before .before .before .put-bytes .ensures) (c .before .before .before .before .before .before .before .put-decimal .ensures .0)) (c .before .before .put-bytes2 .ensures)), omega arith)
+returns c =
+    let newline = c .before .before in
+    let number = newline .before .before .before .before .before in
+    let word = number .before .before .before .before in
+    (λ h f. word .put-bytes .ensures then number .put-decimal .ensures .0 then newline .put-bytes2 .ensures, omega arith)
 
 pub put-end-line-spec : {M : Type 1} → statement M
 put-end-line-spec =

@@ -7,9 +7,8 @@ use Rattle.listing.proofs.lines.put_name.Reads as put-name-reads
 use Rattle.listing.proofs.text.put_bytes.Reads as put-bytes-reads
 use Rattle.listing.proofs.text.put_decimal.Reads as put-decimal-reads
 use native.Mathlib.Omega.{arith}
-use mathlib.Core.Path.{_≡_, refl, sym, _∙_, ap}
-use Rattle.listing.specs.Lines.{headerLine, fieldLine, valueText, rightText, blockLine}
-use Rattle.listing.proofs.Putting.{puts-as, then, nothing}
+use Rattle.listing_rules.specs.Lines.{fieldLine}
+use Rattle.listing_rules.proofs.PutsText.{_then_}
 
 shared-slice-read-kind : tie.Need-shared-slice-read-kind
 shared-slice-read-kind c = search needs
@@ -48,14 +47,56 @@ slice-aggregate-put-bytes-4 : tie.Need-slice-aggregate-put-bytes-4
 slice-aggregate-put-bytes-4 c = search needs
 
 put-bytes-requires-4 : tie.Need-put-bytes-requires-4
-put-bytes-requires-4 c κs = omega (arith, c .before .before .before .before .before .before .before .before .before .before .before .before .before .before .before .before .before .before .before .before .before .before .before .before .before .before .before .before .before .before .before .before .pre .0, c .before .before .before .before .put-name .ensures .1, c .before .before .before .before .before .before .before .before .put-bytes3 .ensures .counted, c .before .before .before .before .before .before .before .before .before .before .before .before .before .put-decimal2 .ensures .1, c .before .before .before .before .before .before .before .before .before .before .before .before .before .before .before .before .before .put-bytes2 .ensures .counted, c .before .before .before .before .before .before .before .before .before .before .before .before .before .before .before .before .before .before .before .before .before .before .put-decimal .ensures .1, c .before .before .before .before .before .before .before .before .before .before .before .before .before .before .before .before .before .before .before .before .before .before .before .before .before .before .put-bytes .ensures .counted)
+put-bytes-requires-4 c κs =
+    let name = c .before .before .before .before in
+    let name-space = name .before .before .before .before in
+    let type = name-space .before .before .before .before .before in
+    let type-space = type .before .before .before .before in
+    let index = type-space .before .before .before .before .before in
+    let word = index .before .before .before .before in
+    let pre = word .before .before .before .before .before .before .pre in
+    omega (
+      arith,
+      pre .0,
+      word .put-bytes .ensures .counted,
+      index .put-decimal .ensures .1,
+      type-space .put-bytes2 .ensures .counted,
+      type .put-decimal2 .ensures .1,
+      name-space .put-bytes3 .ensures .counted,
+      name .put-name .ensures .1,
+    )
 
 same-length : tie.Need-same-length
 same-length c = search needs
 
 returns : tie.Need-returns
 unfolding fieldLine
-returns c = (then (then (then (then (then (then (c .before .before .before .before .before .before .before .before .before .before .before .before .before .before .before .before .before .before .before .before .before .before .before .before .before .before .before .before .before .put-bytes .ensures) (c .before .before .before .before .before .before .before .before .before .before .before .before .before .before .before .before .before .before .before .before .before .before .before .before .before .put-decimal .ensures .0)) (c .before .before .before .before .before .before .before .before .before .before .before .before .before .before .before .before .before .before .before .before .put-bytes2 .ensures)) (c .before .before .before .before .before .before .before .before .before .before .before .before .before .before .before .before .put-decimal2 .ensures .0)) (c .before .before .before .before .before .before .before .before .before .before .before .put-bytes3 .ensures)) (c .before .before .before .before .before .before .before .put-name .ensures .0)) (c .before .before .put-bytes4 .ensures), omega (arith, c .before .before .put-bytes4 .ensures .counted, c .before .before .before .before .before .before .before .put-name .ensures .1, c .before .before .before .before .before .before .before .before .before .before .before .put-bytes3 .ensures .counted, c .before .before .before .before .before .before .before .before .before .before .before .before .before .before .before .before .put-decimal2 .ensures .1, c .before .before .before .before .before .before .before .before .before .before .before .before .before .before .before .before .before .before .before .before .put-bytes2 .ensures .counted, c .before .before .before .before .before .before .before .before .before .before .before .before .before .before .before .before .before .before .before .before .before .before .before .before .before .put-decimal .ensures .1, c .before .before .before .before .before .before .before .before .before .before .before .before .before .before .before .before .before .before .before .before .before .before .before .before .before .before .before .before .before .put-bytes .ensures .counted))
+returns c =
+    let newline = c .before .before in
+    let name = newline .before .before .before .before .before in
+    let name-space = name .before .before .before .before in
+    let type = name-space .before .before .before .before .before in
+    let type-space = type .before .before .before .before in
+    let index = type-space .before .before .before .before .before in
+    let word = index .before .before .before .before in (
+      word .put-bytes .ensures
+          then index .put-decimal .ensures .0
+          then type-space .put-bytes2 .ensures
+          then type .put-decimal2 .ensures .0
+          then name-space .put-bytes3 .ensures
+          then name .put-name .ensures .0
+          then newline .put-bytes4 .ensures,
+      omega (
+        arith,
+        word .put-bytes .ensures .counted,
+        index .put-decimal .ensures .1,
+        type-space .put-bytes2 .ensures .counted,
+        type .put-decimal2 .ensures .1,
+        name-space .put-bytes3 .ensures .counted,
+        name .put-name .ensures .1,
+        newline .put-bytes4 .ensures .counted,
+      ),
+    )
 
 pub put-field-line-spec : {M : Type 1} → statement M
 put-field-line-spec =

@@ -6,9 +6,8 @@ use Rattle.listing.proofs.lines.put_header_line.Lts as lts
 use Rattle.listing.proofs.text.put_bytes.Reads as put-bytes-reads
 use Rattle.listing.proofs.text.put_decimal.Reads as put-decimal-reads
 use native.Mathlib.Omega.{arith}
-use mathlib.Core.Path.{_≡_, refl, sym, _∙_, ap}
-use Rattle.listing.specs.Lines.{headerLine, fieldLine, valueText, rightText, blockLine}
-use Rattle.listing.proofs.Putting.{puts-as, then, nothing}
+use Rattle.listing_rules.specs.Lines.{headerLine}
+use Rattle.listing_rules.proofs.PutsText.{_then_}
 
 slice-aggregate-put-bytes : tie.Need-slice-aggregate-put-bytes
 slice-aggregate-put-bytes c = search needs
@@ -45,7 +44,19 @@ same-length c = search needs
 
 returns : tie.Need-returns
 unfolding headerLine
-returns c = (then (then (then (then (c .before .before .before .before .before .before .before .before .before .before .before .before .before .before .before .before .before .before .before .before .before .before .put-bytes .ensures) (c .before .before .before .before .before .before .before .before .before .before .before .before .before .before .before .before .before .put-decimal .ensures .0)) (c .before .before .before .before .before .before .before .before .before .before .before .before .put-bytes2 .ensures)) (c .before .before .before .before .before .before .before .put-decimal2 .ensures .0)) (c .before .before .put-bytes3 .ensures), omega arith)
+returns c =
+    let newline = c .before .before in
+    let size = newline .before .before .before .before .before in
+    let record-word = size .before .before .before .before .before in
+    let count = record-word .before .before .before .before .before in
+    let word = count .before .before .before .before .before in (
+      word .put-bytes .ensures
+          then count .put-decimal .ensures .0
+          then record-word .put-bytes2 .ensures
+          then size .put-decimal2 .ensures .0
+          then newline .put-bytes3 .ensures,
+      omega arith,
+    )
 
 pub put-header-line-spec : {M : Type 1} → statement M
 put-header-line-spec =

@@ -3,15 +3,13 @@ use Rattle.listing.proofs.lines.put_name.Statement.{statement}
 use Rattle.listing.proofs.lines.put_name.Tie as tie
 use Rattle.listing.proofs.lines.put_name.Reads as reads
 use Rattle.listing.proofs.lines.put_name.Lts as lts
-use Rattle.listing.proofs.text.put_shown.Reads as put-shown-reads
+use Rattle.listing.proofs.text.put_printed.Reads as put-printed-reads
 use Rattle.wire.proofs.text_len.Reads as text-len-reads
 use native.Mathlib.Omega.{arith}
-use mathlib.Core.Path.{_≡_, refl, sym, _∙_, ap}
-use Rattle.listing.specs.Lines.{headerLine, fieldLine, valueText, rightText, blockLine}
-use Rattle.listing.proofs.Putting.{puts-as, then, nothing}
-use Rattle.listing.specs.Text.{shown}
-use lib.ListN.{length, take, drop}
-use Rattle.listing.proofs.Parts.{name-part, name-short, name-fits}
+use mathlib.Core.Path.{ap}
+use Rattle.listing_rules.specs.Text.{printed}
+use Rattle.listing_rules.proofs.PutsText.{puts-as}
+use Rattle.listing_rules.proofs.FieldNames.{name-part, name-short, name-fits}
 
 sub-text-len : tie.Need-sub-text-len
 sub-text-len c = search needs
@@ -25,26 +23,36 @@ part-text-len-end c = search needs
 text-len-requires : tie.Need-text-len-requires
 text-len-requires c κs = search needs
 
-add-put-shown : tie.Need-add-put-shown
-add-put-shown c = omega (arith, c .before .text-len .ensures, name-short (c .before .before .before .before .before .args .field .now))
+add-put-printed : tie.Need-add-put-printed
+add-put-printed c =
+    let field = c .before .before .before .before .before .args .field .now in
+    omega (arith, c .before .text-len .ensures, name-short field)
 
-sub-put-shown : tie.Need-sub-put-shown
-sub-put-shown c = search needs
+sub-put-printed : tie.Need-sub-put-printed
+sub-put-printed c = search needs
 
-part-put-shown-start : tie.Need-part-put-shown-start
-part-put-shown-start c = search needs
+part-put-printed-start : tie.Need-part-put-printed-start
+part-put-printed-start c = search needs
 
-part-put-shown-end : tie.Need-part-put-shown-end
-part-put-shown-end c = omega (arith, c .before .text-len .ensures, name-short (c .before .before .before .before .before .args .field .now))
+part-put-printed-end : tie.Need-part-put-printed-end
+part-put-printed-end c =
+    let field = c .before .before .before .before .before .args .field .now in
+    omega (arith, c .before .text-len .ensures, name-short field)
 
-put-shown-requires : tie.Need-put-shown-requires
-put-shown-requires c κs = (omega arith, name-fits (c .before .before .before .before .before .before .args .field .now) _ (c .before .before .text-len .ensures))
+put-printed-requires : tie.Need-put-printed-requires
+put-printed-requires c κs =
+    let field = c .before .before .before .before .before .before .args .field .now in
+    (omega arith, name-fits field _ (c .before .before .text-len .ensures))
 
 same-length : tie.Need-same-length
 same-length c = search needs
 
 returns : tie.Need-returns
-returns c = (puts-as _ (ap shown (name-part (c .before .before .before .before .before .before .before .before .before .args .field .now) _ (c .before .before .before .before .before .text-len .ensures))) (c .before .before .put-shown .ensures .0), c .before .before .put-shown .ensures .1)
+returns c =
+    let name = c .before .before .put-printed in
+    let len = c .before .before .before .before .before .text-len in
+    let field = c .before .before .before .before .before .before .before .before .before .args .field .now in
+    (puts-as _ (ap printed (name-part field _ (len .ensures))) (name .ensures .0), name .ensures .1)
 
 pub put-name-spec : {M : Type 1} → statement M
 put-name-spec =
@@ -54,10 +62,10 @@ put-name-spec =
     part-text-len-start
     part-text-len-end
     text-len-requires
-    add-put-shown
-    sub-put-shown
-    part-put-shown-start
-    part-put-shown-end
-    put-shown-requires
+    add-put-printed
+    sub-put-printed
+    part-put-printed-start
+    part-put-printed-end
+    put-printed-requires
     same-length
     returns)

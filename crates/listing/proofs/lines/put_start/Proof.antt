@@ -6,9 +6,7 @@ use Rattle.listing.proofs.lines.put_start.Lts as lts
 use Rattle.listing.proofs.text.put_bytes.Reads as put-bytes-reads
 use Rattle.listing.proofs.text.put_decimal.Reads as put-decimal-reads
 use native.Mathlib.Omega.{arith}
-use mathlib.Core.Path.{_≡_, refl, sym, _∙_, ap}
-use Rattle.listing.specs.Lines.{headerLine, fieldLine, valueText, rightText, blockLine}
-use Rattle.listing.proofs.Putting.{puts-as, then, nothing}
+use Rattle.listing_rules.proofs.PutsText.{_then_}
 
 put-decimal-requires : tie.Need-put-decimal-requires
 put-decimal-requires c κs = search needs
@@ -32,7 +30,19 @@ same-length : tie.Need-same-length
 same-length c = search needs
 
 returns : tie.Need-returns
-returns c = (then (then (then (then (c .before .before .before .before .before .before .before .before .before .before .before .before .before .before .before .before .before .before .before .put-decimal .ensures .0) (c .before .before .before .before .before .before .before .before .before .before .before .before .before .before .before .put-bytes .ensures)) (c .before .before .before .before .before .before .before .before .before .before .before .put-decimal2 .ensures .0)) (c .before .before .before .before .before .before .put-bytes2 .ensures)) (c .before .before .put-decimal3 .ensures .0), omega (arith, c .before .before .before .before .before .before .before .before .before .before .before .before .before .before .before .before .before .before .before .put-decimal .ensures .2 (omega arith), c .before .before .before .before .before .before .before .before .before .before .before .before .before .before .before .put-bytes .ensures .counted, c .before .before .before .before .before .before .before .before .before .before .before .put-decimal2 .ensures .2 (omega arith), c .before .before .before .before .before .before .put-bytes2 .ensures .counted, c .before .before .put-decimal3 .ensures .2 (omega arith)))
+returns c =
+    let time = c .before .before in
+    let time-space = time .before .before .before .before in
+    let counter = time-space .before .before .before .before .before in
+    let kind = counter .before .before .before .before in
+    let number = kind .before .before .before .before in (
+      number .put-decimal .ensures .0
+          then kind .put-bytes .ensures
+          then counter .put-decimal2 .ensures .0
+          then time-space .put-bytes2 .ensures
+          then time .put-decimal3 .ensures .0,
+      omega arith,
+    )
 
 pub put-start-spec : {M : Type 1} → statement M
 put-start-spec =

@@ -7,16 +7,15 @@ use Rattle.mlg_values.proofs.raw_value.Reads as raw-value-reads
 use Rattle.listing.proofs.text.put_bytes.Reads as put-bytes-reads
 use Rattle.listing.proofs.text.put_integer.Reads as put-integer-reads
 use native.Mathlib.Omega.{arith}
-use Rattle.listing.proofs.Lengths.{value-short}
-use mathlib.Core.Path.{_≡_, refl, sym, _∙_, ap}
-use Rattle.listing.specs.Lines.{headerLine, fieldLine, valueText, rightText, blockLine}
-use Rattle.listing.proofs.Putting.{puts-as, then, nothing}
-use Rattle.listing.proofs.Parts.{raw-is, raw-never}
+use mathlib.Core.Path.{_∙_, ap}
 use mir.Syntax.{w64}
 use mir.ValLaws.{toZ-ofZ}
-use Rattle.listing.specs.Text.{integer}
 use Rattle.mlg_rules.specs.Raw.{rawOf}
 use Rattle.mlg_rules.specs.Field.{typeOf}
+use Rattle.listing_rules.specs.Text.{integer}
+use Rattle.listing_rules.specs.Lines.{valueText}
+use Rattle.listing_rules.proofs.PutsText.{puts-as, _then_}
+use Rattle.listing_rules.proofs.RawValues.{raw-is, raw-not-refused}
 
 raw-value-requires : tie.Need-raw-value-requires
 raw-value-requires c κs = search needs
@@ -28,7 +27,11 @@ enum-told : tie.Need-enum-told
 enum-told c = search needs
 
 returns : tie.Need-returns
-returns c = absurd (raw-never 2 (c .before .before .before .before .before .before .args .field .now) (c .before .before .before .before .before .before .args .raw .now) (c .before .before .raw-value .result) (c .before .before .before .before .before .before .pre .1) (c .before .before .raw-value .ensures .0) (c .before .match .keys2))
+returns c =
+    let raw = c .before .before .raw-value in
+    let entry = c .before .before .before .before .before .before in
+    let a = entry .args in
+    absurd (raw-not-refused 2 (a .field .now) (a .raw .now) (raw .result) (entry .pre .1) (raw .ensures .0) (c .before .match .keys2))
 
 slice-aggregate-put-bytes : tie.Need-slice-aggregate-put-bytes
 slice-aggregate-put-bytes c = search needs
@@ -45,8 +48,15 @@ same-length c = search needs
 returns-2 : tie.Need-returns-2
 unfolding valueText
 returns-2 c =
-    let p = then (c .before .before .before .before .before .before .put-bytes .ensures) (puts-as (integer (rawOf (typeOf (c .before .before .before .before .before .before .before .before .before .before .before .before .before .before .before .before .args .field .now)) (c .before .before .before .before .before .before .before .before .before .before .before .before .before .before .before .before .args .raw .now))) (ap integer (toZ-ofZ w64 (c .before .before .before .before .before .before .before .before .before .before .value .given .0 .0) (search needs) ∙ raw-is 2 (c .before .before .before .before .before .before .before .before .before .before .before .before .before .before .before .before .args .field .now) (c .before .before .before .before .before .before .before .before .before .before .before .before .before .before .before .before .args .raw .now) (c .before .before .before .before .before .before .before .before .before .before .before .before .raw-value .result) _ (c .before .before .before .before .before .before .before .before .before .before .before .before .before .before .before .before .pre .1) (c .before .before .before .before .before .before .before .before .before .before .before .before .raw-value .ensures .0) (c .before .before .before .before .before .before .before .before .before .before .value .given .1))) (c .before .before .put-integer .ensures .0)) in
-    (p, omega arith, omega (arith, p .counted, value-short 2 (c .before .before .before .before .before .before .before .before .before .before .before .before .before .before .before .before .args .field .now) (c .before .before .before .before .before .before .before .before .before .before .before .before .before .before .before .before .args .raw .now) (c .before .before .before .before .before .before .before .before .before .before .before .before .before .before .before .before .pre .1) (λ i. omega (arith, c .before .before .before .before .before .before .before .before .before .before .before .before .before .shared-slice-known2 .given i))))
+    let space = c .before .before .before .before .before .before in
+    let is = space .before .before .before .before .value .given in
+    let raw = space .before .before .before .before .before .before .raw-value in
+    let entry = space .before .before .before .before .before .before .before .before .before .before in
+    let a = entry .args in
+    let z = raw-is 2 (a .field .now) (a .raw .now) (raw .result) _ (entry .pre .1) (raw .ensures .0) (is .1) in
+    let text = ap integer (toZ-ofZ w64 (is .0 .0) (search needs) ∙ z) in
+    let value = c .before .before .put-integer .ensures .0 in
+    (space .put-bytes .ensures then puts-as (integer (rawOf (typeOf (a .field .now)) (a .raw .now))) text value, omega arith)
 
 pub put-value-spec : {M : Type 1} → statement M
 put-value-spec =

@@ -6,34 +6,58 @@ use Rattle.mlg_values.proofs.layout_of.Reads as layout-of-reads
 use Rattle.mlg_values.proofs.size_of.Reads as size-of-reads
 use Rattle.listing.proofs.lines.put_value.Reads as put-value-reads
 use borrow.Author.Needs.{needs}
+use Prim.Native.Nat.{_≤_, _+_, _*_}
+use mathlib.Core.Path.{_≡_, refl, _∙_, ap}
 use native.Mathlib.Omega.{arith}
-use Rattle.wire.proofs.Parts.{take-length-le}
-use mathlib.Core.Path.{_≡_, refl, sym, _∙_, ap}
-use Rattle.listing.specs.Lines.{fieldLine, fieldLines, valueText, valuesText}
-use Rattle.listing.proofs.Putting.{Completes, whole, whole-as, onward, complete}
-use Rattle.mlg_rules.specs.declared.Layout.{Layout}
-use Prim.Native.Nat.{_≤_, _+_, _*_, _-_}
 use lib.ListN.{length, drop}
-use Rattle.mlg_rules.specs.Layout.{layoutOf, fieldLen}
-use Rattle.listing.specs.Stands.{Valued}
-use Rattle.listing.proofs.Rows.{value-asked, value-rest, value-then, field-within, raw-within, len-89, part-long, values-none}
+use Rattle.mlg_rules.specs.Layout.{fieldLen}
+use Rattle.mlg_rules.specs.declared.Layout.{Layout}
+use Rattle.listing_rules.specs.Lines.{valuesText}
+use Rattle.listing_rules.specs.BlockInFile.{ValuesNotRefused}
+use Rattle.listing_rules.proofs.PutsText.{Completes, completes-all, completes-next, completed}
+use Rattle.listing_rules.proofs.ValuesText.{ValuesLeft, field-within, field-long, value-not-refused, raw-within, rest-not-refused, value-then-rest, values-none}
 
 abbrev Inv-loop : tie.InvT-loop
 Inv-loop out₀ at version count fields bytes len place₀ start₀ left₀ next₀ out place start left next =
-    (len ≡ fieldLen version) × (place ≤ length fields) × (start ≤ length bytes) × (left ≤ count) × (next + 22 * left ≤ at + 22 * count) × (length out ≡ length out₀) × Valued version left (drop place fields) (drop start bytes) × Completes out₀ at (valuesText version count fields bytes) out next (valuesText version left (drop place fields) (drop start bytes)) × (next ≤ at + 5 * start)
+    (len ≡ fieldLen version)
+    × (place ≤ length fields)
+    × (start ≤ length bytes)
+    × (left ≤ count)
+    × (next + 22 * left ≤ at + 22 * count)
+    × (length out ≡ length out₀)
+    × ValuesNotRefused version left (drop place fields) (drop start bytes)
+    × Completes out₀ at (valuesText version count fields bytes) out next (valuesText version left (drop place fields) (drop start bytes))
 
 abbrev μ-loop : tie.MeasureT-loop
 μ-loop out₀ at version count fields bytes len place₀ start₀ left₀ next₀ out place start left next =
     left
 
+-- in the loop values are left
+left : (c : tie.In-loop Inv-loop μ-loop)
+    → let a = c .before .before .before .before .before .before .args in
+    let l = c .before .loop in
+    ValuesLeft (a .version) (l .left) (a .fields .now) (a .bytes .now) (l .place) (l .start) (c .before .before .layout-of .result .field)
+left c =
+    let inv = c .before .loop .inv in
+    record { some = c .loop-test .taken; length-is = inv .0; place-in = inv .1; start-in = inv .2; not-refused = inv .6 }
+
 layout-of-requires : tie.Need-layout-of-requires Inv-loop μ-loop
 layout-of-requires c κs = tt
 
 loop-holds : tie.Need-loop-holds Inv-loop μ-loop
-loop-holds c = (ap (λ (l : Layout). l .field) (c .layout-of .ensures), omega arith, omega arith, omega arith, omega arith, refl, c .before .before .before .before .pre .1, whole _ _ _, omega arith)
+loop-holds c = (
+  ap (λ (l : Layout). l .field) (c .layout-of .ensures),
+  omega arith,
+  omega arith,
+  omega arith,
+  omega arith,
+  refl,
+  c .before .before .before .before .pre .1,
+  completes-all _ _ _ _ refl,
+)
 
 add-d : tie.Need-add-d Inv-loop μ-loop
-add-d c = omega (arith, field-within (c .before .before .before .before .before .before .args .version) (c .before .loop .left) (c .before .before .before .before .before .before .args .fields .now) (c .before .before .before .before .before .before .args .bytes .now) (c .before .loop .place) (c .before .loop .start) _ (c .loop-test .taken) (c .before .loop .inv .0) (c .before .loop .inv .1) (c .before .loop .inv .6))
+add-d c = omega (arith, field-within (left c))
 
 sub-d : tie.Need-sub-d Inv-loop μ-loop
 sub-d c = search needs
@@ -42,10 +66,10 @@ part-d-start : tie.Need-part-d-start Inv-loop μ-loop
 part-d-start c = search needs
 
 part-d-end : tie.Need-part-d-end Inv-loop μ-loop
-part-d-end c = omega (arith, field-within (c .before .before .before .before .before .before .args .version) (c .before .loop .left) (c .before .before .before .before .before .before .args .fields .now) (c .before .before .before .before .before .before .args .bytes .now) (c .before .loop .place) (c .before .loop .start) _ (c .loop-test .taken) (c .before .loop .inv .0) (c .before .loop .inv .1) (c .before .loop .inv .6))
+part-d-end c = omega (arith, field-within (left c))
 
 shared-slice-read-size-of : tie.Need-shared-slice-read-size-of Inv-loop μ-loop
-shared-slice-read-size-of c = omega (arith, part-long (c .before .before .before .before .before .before .before .before .args .fields .now) (c .before .before .before .loop .place) _ (field-within (c .before .before .before .before .before .before .before .before .args .version) (c .before .before .before .loop .left) (c .before .before .before .before .before .before .before .before .args .fields .now) (c .before .before .before .before .before .before .before .before .args .bytes .now) (c .before .before .before .loop .place) (c .before .before .before .loop .start) _ (c .before .before .loop-test .taken) (c .before .before .before .loop .inv .0) (c .before .before .before .loop .inv .1) (c .before .before .before .loop .inv .6)), c .before .before .before .loop .inv .0, len-89 (c .before .before .before .before .before .before .before .before .args .version))
+shared-slice-read-size-of c = omega (arith, field-long (left (c .before .before)))
 
 size-of-requires : tie.Need-size-of-requires Inv-loop μ-loop
 size-of-requires c κs = tt
@@ -54,7 +78,7 @@ cast-size : tie.Need-cast-size Inv-loop μ-loop
 cast-size c = search needs
 
 add-put-value : tie.Need-add-put-value Inv-loop μ-loop
-add-put-value c = omega (arith, raw-within (c .before .before .before .before .before .before .before .before .before .before .args .version) (c .before .before .before .before .before .loop .left) (c .before .before .before .before .before .before .before .before .before .before .args .fields .now) (c .before .before .before .before .before .before .before .before .before .before .args .bytes .now) (c .before .before .before .before .before .loop .place) (c .before .before .before .before .before .loop .start) _ _ (c .before .before .before .before .loop-test .taken) (c .before .before .before .before .before .loop .inv .0) (c .before .size-of .ensures) (c .before .before .before .before .before .loop .inv .2) (c .before .before .before .before .before .loop .inv .6))
+add-put-value c = omega (arith, raw-within (left (c .before .before .before .before)) (c .before .size-of .ensures))
 
 sub-put-value : tie.Need-sub-put-value Inv-loop μ-loop
 sub-put-value c = search needs
@@ -63,16 +87,20 @@ part-put-value-start : tie.Need-part-put-value-start Inv-loop μ-loop
 part-put-value-start c = search needs
 
 part-put-value-end : tie.Need-part-put-value-end Inv-loop μ-loop
-part-put-value-end c = omega (arith, raw-within (c .before .before .before .before .before .before .before .before .before .before .args .version) (c .before .before .before .before .before .loop .left) (c .before .before .before .before .before .before .before .before .before .before .args .fields .now) (c .before .before .before .before .before .before .before .before .before .before .args .bytes .now) (c .before .before .before .before .before .loop .place) (c .before .before .before .before .before .loop .start) _ _ (c .before .before .before .before .loop-test .taken) (c .before .before .before .before .before .loop .inv .0) (c .before .size-of .ensures) (c .before .before .before .before .before .loop .inv .2) (c .before .before .before .before .before .loop .inv .6))
+part-put-value-end c = omega (arith, raw-within (left (c .before .before .before .before)) (c .before .size-of .ensures))
 
 put-value-requires : tie.Need-put-value-requires Inv-loop μ-loop
-put-value-requires c κs = (omega (arith, c .before .before .before .before .before .before .before .before .before .before .before .pre .0), value-asked (c .before .before .before .before .before .before .before .before .before .before .before .args .version) (c .before .before .before .before .before .before .loop .left) (c .before .before .before .before .before .before .before .before .before .before .before .args .fields .now) (c .before .before .before .before .before .before .before .before .before .before .before .args .bytes .now) (c .before .before .before .before .before .before .loop .place) (c .before .before .before .before .before .before .loop .start) _ _ (c .before .before .before .before .before .loop-test .taken) (c .before .before .before .before .before .before .loop .inv .0) (c .before .before .size-of .ensures) (c .before .before .before .before .before .before .loop .inv .6))
+put-value-requires c κs =
+    let pre = c .before .before .before .before .before .before .before .before .before .before .before .pre in
+    (omega (arith, pre .0), value-not-refused (left (c .before .before .before .before .before)) (c .before .before .size-of .ensures))
 
 add-place : tie.Need-add-place Inv-loop μ-loop
-add-place c = omega (arith, field-within (c .before .before .before .before .before .before .before .before .before .before .before .before .before .before .args .version) (c .before .before .before .before .before .before .before .before .before .loop .left) (c .before .before .before .before .before .before .before .before .before .before .before .before .before .before .args .fields .now) (c .before .before .before .before .before .before .before .before .before .before .before .before .before .before .args .bytes .now) (c .before .before .before .before .before .before .before .before .before .loop .place) (c .before .before .before .before .before .before .before .before .before .loop .start) _ (c .before .before .before .before .before .before .before .before .loop-test .taken) (c .before .before .before .before .before .before .before .before .before .loop .inv .0) (c .before .before .before .before .before .before .before .before .before .loop .inv .1) (c .before .before .before .before .before .before .before .before .before .loop .inv .6))
+add-place c = omega (arith, field-within (left (c .before .before .before .before .before .before .before .before)))
 
 add-start : tie.Need-add-start Inv-loop μ-loop
-add-start c = omega (arith, raw-within (c .before .before .before .before .before .before .before .before .before .before .before .before .before .before .args .version) (c .before .before .before .before .before .before .before .before .before .loop .left) (c .before .before .before .before .before .before .before .before .before .before .before .before .before .before .args .fields .now) (c .before .before .before .before .before .before .before .before .before .before .before .before .before .before .args .bytes .now) (c .before .before .before .before .before .before .before .before .before .loop .place) (c .before .before .before .before .before .before .before .before .before .loop .start) _ _ (c .before .before .before .before .before .before .before .before .loop-test .taken) (c .before .before .before .before .before .before .before .before .before .loop .inv .0) (c .before .before .before .before .before .size-of .ensures) (c .before .before .before .before .before .before .before .before .before .loop .inv .2) (c .before .before .before .before .before .before .before .before .before .loop .inv .6))
+add-start c =
+    let size = c .before .before .before .before .before .size-of .ensures in
+    omega (arith, raw-within (left (c .before .before .before .before .before .before .before .before)) size)
 
 sub-left : tie.Need-sub-left Inv-loop μ-loop
 sub-left c = search needs
@@ -81,13 +109,26 @@ loop-less : tie.Need-loop-less Inv-loop μ-loop
 loop-less c = search needs
 
 loop-again : tie.Need-loop-again Inv-loop μ-loop
-loop-again c = (c .before .before .before .before .before .before .before .before .before .loop .inv .0, field-within (c .before .before .before .before .before .before .before .before .before .before .before .before .before .before .args .version) (c .before .before .before .before .before .before .before .before .before .loop .left) (c .before .before .before .before .before .before .before .before .before .before .before .before .before .before .args .fields .now) (c .before .before .before .before .before .before .before .before .before .before .before .before .before .before .args .bytes .now) (c .before .before .before .before .before .before .before .before .before .loop .place) (c .before .before .before .before .before .before .before .before .before .loop .start) _ (c .before .before .before .before .before .before .before .before .loop-test .taken) (c .before .before .before .before .before .before .before .before .before .loop .inv .0) (c .before .before .before .before .before .before .before .before .before .loop .inv .1) (c .before .before .before .before .before .before .before .before .before .loop .inv .6), raw-within (c .before .before .before .before .before .before .before .before .before .before .before .before .before .before .args .version) (c .before .before .before .before .before .before .before .before .before .loop .left) (c .before .before .before .before .before .before .before .before .before .before .before .before .before .before .args .fields .now) (c .before .before .before .before .before .before .before .before .before .before .before .before .before .before .args .bytes .now) (c .before .before .before .before .before .before .before .before .before .loop .place) (c .before .before .before .before .before .before .before .before .before .loop .start) _ _ (c .before .before .before .before .before .before .before .before .loop-test .taken) (c .before .before .before .before .before .before .before .before .before .loop .inv .0) (c .before .before .before .before .before .size-of .ensures) (c .before .before .before .before .before .before .before .before .before .loop .inv .2) (c .before .before .before .before .before .before .before .before .before .loop .inv .6), omega arith, omega (arith, c .before .before .put-value .ensures .1), c .before .before .put-value .ensures .0 .same ∙ c .before .before .before .before .before .before .before .before .before .loop .inv .5, value-rest (c .before .before .before .before .before .before .before .before .before .before .before .before .before .before .args .version) (c .before .before .before .before .before .before .before .before .before .loop .left) (c .before .before .before .before .before .before .before .before .before .before .before .before .before .before .args .fields .now) (c .before .before .before .before .before .before .before .before .before .before .before .before .before .before .args .bytes .now) (c .before .before .before .before .before .before .before .before .before .loop .place) (c .before .before .before .before .before .before .before .before .before .loop .start) _ _ (c .before .before .before .before .before .before .before .before .loop-test .taken) (c .before .before .before .before .before .before .before .before .before .loop .inv .0) (c .before .before .before .before .before .size-of .ensures) (c .before .before .before .before .before .before .before .before .before .loop .inv .6), onward (c .before .before .before .before .before .before .before .before .before .loop .inv .7) (value-then (c .before .before .before .before .before .before .before .before .before .before .before .before .before .before .args .version) (c .before .before .before .before .before .before .before .before .before .loop .left) (c .before .before .before .before .before .before .before .before .before .before .before .before .before .before .args .fields .now) (c .before .before .before .before .before .before .before .before .before .before .before .before .before .before .args .bytes .now) (c .before .before .before .before .before .before .before .before .before .loop .place) (c .before .before .before .before .before .before .before .before .before .loop .start) _ _ (c .before .before .before .before .before .before .before .before .loop-test .taken) (c .before .before .before .before .before .before .before .before .before .loop .inv .0) (c .before .before .before .before .before .size-of .ensures)) (c .before .before .put-value .ensures .0), omega (arith, c .before .before .put-value .ensures .2, c .before .before .before .before .before .before .before .before .before .loop .inv .8, take-length-le (c .before .before .before .before .before .before .before .before .before .loop .start + c .before .before .before .before .before .size-of .result - c .before .before .before .before .before .before .before .before .before .loop .start) (drop (c .before .before .before .before .before .before .before .before .before .loop .start) (c .before .before .before .before .before .before .before .before .before .before .before .before .before .before .args .bytes .now))))
+loop-again c =
+    let value = c .before .before .put-value .ensures in
+    let size = c .before .before .before .before .before .size-of .ensures in
+    let g = left (c .before .before .before .before .before .before .before .before) in
+    let inv = c .before .before .before .before .before .before .before .before .before .loop .inv in (
+      inv .0,
+      field-within g,
+      raw-within g size,
+      omega arith,
+      omega (arith, value .1),
+      value .0 .same-length ∙ inv .5,
+      rest-not-refused g size,
+      completes-next (inv .7) (value-then-rest g size) (value .0),
+    )
 
 same-length : tie.Need-same-length Inv-loop μ-loop
 same-length c = search needs
 
 returns : tie.Need-returns Inv-loop μ-loop
-returns c = (complete (c .before .loop .inv .7) (values-none _ _ _ _ (c .loop-test .left)), omega arith, omega (arith, c .before .loop .inv .2, c .before .loop .inv .8))
+returns c = (completed (c .before .loop .inv .7) (values-none _ _ _ _ (c .loop-test .left)), omega arith)
 
 pub put-values-spec : {M : Type 1} → statement M
 put-values-spec =

@@ -2,28 +2,46 @@ use Rattle.listing.proofs.text.magnitude.Statement.{statement}
 use Rattle.listing.proofs.text.magnitude.Tie as tie
 use Rattle.listing.proofs.text.magnitude.Reads as reads
 use Rattle.listing.proofs.text.magnitude.Lts as lts
-use borrow.Author.Needs.{needs}
 use native.Mathlib.Omega.{arith}
-use mathlib.Core.Path.{_≡_, sym, _∙_, ap}
-use Rattle.listing.proofs.Integers.{negative, positive, difference-fits, difference-casts, size-of-negative, casts, size-of-positive, size-fits}
+use Rattle.listing_rules.proofs.Integers.{negative, positive, difference-fits, difference-casts, size-of-negative, casts, size-of-positive, size-fits}
 
 sub-result : tie.Need-sub-result
-sub-result c = difference-fits (c .before .args .z) (c .before .fits .z) (negative (c .before .args .z) (c .before .fits .z) (c .if1 .taken))
+sub-result c =
+    let z = c .before .args .z in
+    let fits = c .before .fits .z in
+    difference-fits z fits (negative z fits (c .if1 .taken))
 
 cast-result : tie.Need-cast-result
-cast-result c = difference-casts (c .before .args .z) (c .before .fits .z) (negative (c .before .args .z) (c .before .fits .z) (c .if1 .taken))
+cast-result c =
+    let z = c .before .args .z in
+    let fits = c .before .fits .z in
+    difference-casts z fits (negative z fits (c .if1 .taken))
 
 add-result : tie.Need-add-result
-add-result c = record { fits = omega (arith, size-of-negative (c .before .args .z) (c .before .fits .z) (negative (c .before .args .z) (c .before .fits .z) (c .if1 .taken)), size-fits (c .before .args .z) (c .before .fits .z)) }
+add-result c =
+    let z = c .before .args .z in
+    let fits = c .before .fits .z in
+    record { fits = omega (arith, size-of-negative z fits (negative z fits (c .if1 .taken)), size-fits z fits) }
 
 cast-result-2 : tie.Need-cast-result-2
-cast-result-2 c = casts (c .before .args .z) (c .before .fits .z) (positive (c .before .args .z) (c .before .fits .z) (c .if1 .left))
+cast-result-2 c =
+    let z = c .before .args .z in
+    let fits = c .before .fits .z in
+    casts z fits (positive z fits (c .if1 .left))
 
 returns : tie.Need-returns
-returns c = let e = size-of-negative (c .before .args .z) (c .before .fits .z) (negative (c .before .args .z) (c .before .fits .z) (c .if1 .taken)) in (e, omega (arith, e, size-fits (c .before .args .z) (c .before .fits .z)))
+returns c =
+    let z = c .before .args .z in
+    let fits = c .before .fits .z in
+    let e = size-of-negative z fits (negative z fits (c .if1 .taken)) in
+    (e, omega (arith, e, size-fits z fits))
 
 returns-2 : tie.Need-returns-2
-returns-2 c = let e = size-of-positive (c .before .args .z) (c .before .fits .z) (positive (c .before .args .z) (c .before .fits .z) (c .if1 .left)) in (e, omega (arith, e, size-fits (c .before .args .z) (c .before .fits .z)))
+returns-2 c =
+    let z = c .before .args .z in
+    let fits = c .before .fits .z in
+    let e = size-of-positive z fits (positive z fits (c .if1 .left)) in
+    (e, omega (arith, e, size-fits z fits))
 
 pub magnitude-spec : {M : Type 1} → statement M
 magnitude-spec =

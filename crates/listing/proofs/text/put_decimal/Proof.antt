@@ -4,15 +4,14 @@ use Rattle.listing.proofs.text.put_decimal.Reads as reads
 use Rattle.listing.proofs.text.put_decimal.Lts as lts
 use Rattle.listing.proofs.text.put_bytes.Reads as put-bytes-reads
 use borrow.Author.Needs.{needs}
-use Prim.Native.Nat.{_≤_, _<_, _+_, _^_, _/_}
-use mathlib.Core.Path.{_≡_, refl}
+use Prim.Native.Nat.{_≤_, _<_, _^_}
+use mathlib.Core.Path.{_≡_}
 use mathlib.Core.List.{_++_}
 use native.Mathlib.Omega.{arith}
-use Rattle.listing.proofs.Lengths.{decimal-short}
-use lib.ListN.{length, drop, length-drop}
-use Rattle.listing.specs.Text.{decimal}
-use Rattle.listing.proofs.Putting.{puts-as}
-use Rattle.listing.proofs.Digits.{allOf, more, decimal-all, done, fewer}
+use lib.ListN.{length, drop}
+use Rattle.listing_rules.specs.Text.{decimal}
+use Rattle.listing_rules.proofs.PutsText.{puts-as}
+use Rattle.listing_rules.proofs.Digits.{allOf, more, decimal-all, done, fewer}
 
 abbrev Inv-loop : tie.InvT-loop
 Inv-loop out at x d₀ i₀ rest₀ d i rest = (i ≤ 19) × (length d ≡ 20) × (rest < 10 ^ i) × (decimal x ≡ allOf rest ++ drop i d)
@@ -48,7 +47,10 @@ loop-less : tie.Need-loop-less Inv-loop μ-loop
 loop-less c = search needs
 
 loop-again : tie.Need-loop-again Inv-loop μ-loop
-loop-again c = (omega arith, search needs, fewer _ _ (c .before .loop .inv .2) (c .loop-test .taken) .1, more _ _ _ _ (c .before .loop .inv .3) (c .loop-test .taken) (c .before .loop .inv .2) (omega arith))
+loop-again c =
+    let inv = c .before .loop .inv in
+    let some = c .loop-test .taken in
+    (omega arith, search needs, fewer _ _ (inv .2) some .1, more _ _ _ _ (inv .3) some (inv .2) (omega arith))
 
 sub-put-bytes : tie.Need-sub-put-bytes Inv-loop μ-loop
 sub-put-bytes c = search needs
@@ -67,8 +69,10 @@ same-length c = search needs
 
 returns : tie.Need-returns Inv-loop μ-loop
 returns c =
-    let p = puts-as (decimal (c .before .before .before .before .before .before .before .before .before .args .x)) (done (c .before .before .before .before .before .before .before .before .before .args .x) (c .before .before .before .before .before .before .before .loop .rest) (c .before .before .before .before .before .before .before .loop .d) (c .before .before .before .before .before .before .before .loop .i) (c .before .before .before .before .before .before .before .loop .inv .1) (c .before .before .before .before .before .before .before .loop .inv .3) (c .before .before .before .before .before .before .loop-test .left)) (c .before .before .put-bytes .ensures) in
-    (p, omega arith, λ h. omega (arith, p .counted, decimal-short (c .before .before .before .before .before .before .before .before .before .args .x) 4 h))
+    let l = c .before .before .before .before .before .before .before .loop in
+    let x = c .before .before .before .before .before .before .before .before .before .args .x in
+    let digits = done x (l .rest) (l .d) (l .i) (l .inv .1) (l .inv .3) (c .before .before .before .before .before .before .loop-test .left) in
+    (puts-as (decimal x) digits (c .before .before .put-bytes .ensures), omega arith)
 
 pub put-decimal-spec : {M : Type 1} → statement M
 put-decimal-spec =

@@ -5,7 +5,7 @@ use mathlib.Core.Path.{_≡_, refl, sym, _∙_}
 use native.Mathlib.Omega.{arith}
 use lib.ListN.{length}
 use Rattle.mlg_rules.specs.Log.{logFrom, logOf, tallyOf}
-use Rattle.mlg_rules.proofs.Tallies.{from, tally-next, tally-stop, tally-none, tally-all, at-fits, goes-by}
+use Rattle.mlg_rules.proofs.TallyLaws.{from, tally-next, tally-stop, tally-none, tally-all, at-fits, tag-block}
 
 abbrev Inv-loop : tie.InvT-loop
 Inv-loop file size begin left₀ at₀ n₀ left at n =
@@ -44,7 +44,7 @@ add-at c =
     let a = c .before .before .before .before .before .before .args in
     let loop = c .before .before .before .before .loop in
     let b = c .before .before .read-block in
-    let goes = goes-by (b .result) (c .before .match .keys1) in
+    let goes = tag-block (b .result) (c .before .match .keys1) in
     omega (arith, c .length-of .ensures, at-fits (a .size) (loop .n) (a .file .now) (loop .at) (b .result) (sym (b .ensures .0 .0)) goes)
 
 add-n : tie.Need-add-n Inv-loop μ-loop
@@ -63,7 +63,7 @@ loop-again c =
     let some = c .before .before .before .loop-test .taken in
     let b = c .before .before .read-block in
     let e = sym (b .ensures .0 .0) in
-    let goes = goes-by (b .result) (c .before .match .keys1) in
+    let goes = tag-block (b .result) (c .before .match .keys1) in
     let t = tally-next (loop .left) (a .size) (loop .n) (a .file .now) (loop .at) (b .result) some e goes in (
       omega (arith, c .length-of .ensures, at-fits (a .size) (loop .n) (a .file .now) (loop .at) (b .result) e goes),
       omega arith,

@@ -2,7 +2,7 @@ use borrow.Author.Needs.{needs}
 use Rattle.mlg.proofs.block_reading.block_len.Statement.{statement}
 use Rattle.mlg.proofs.block_reading.block_len.Tie as tie
 use mathlib.Core.Path.{sym}
-use Rattle.mlg_rules.proofs.Cases.{len-data, len-mark, len-none}
+use Rattle.mlg_rules.proofs.BlockLaws.{len-data, len-mark, len-none}
 
 add-result : tie.Need-add-result
 add-result c = search needs

@@ -3,7 +3,7 @@ use Rattle.mlg.proofs.block_reading.block_of.Statement.{statement}
 use Rattle.mlg.proofs.block_reading.block_of.Tie as tie
 use mathlib.Core.Path.{sym, _∙_}
 use native.Mathlib.Omega.{arith}
-use Rattle.mlg_rules.proofs.Cases.{block-end, block-here, judged-no, judged-yes}
+use Rattle.mlg_rules.proofs.BlockLaws.{block-end, block-here, judged-no, judged-yes}
 
 returns : tie.Need-returns
 returns c = sym (block-end _ _ _ _ (c .if1 .taken))
@@ -19,9 +19,8 @@ block-parts-requires c κs = (omega arith, sym (c .before .rest-number .ensures)
 
 returns-3 : tie.Need-returns-3
 returns-3 c =
-    let if1 = c .before .before .before .if1 in
-    c .block-parts .ensures ∙ sym
-    (block-here _ _ _ _ (if1 .left) ∙ judged-yes _ _ _ (sym (c .before .before .rest-number .ensures) ∙ c .before .if2 .left))
+    let zero = sym (c .before .before .rest-number .ensures) ∙ c .before .if2 .left in
+    c .block-parts .ensures ∙ sym (block-here _ _ _ _ (c .before .before .before .if1 .left) ∙ judged-yes _ _ _ zero)
 
 pub block-of-spec : {M : Type 1} → statement M
 block-of-spec =

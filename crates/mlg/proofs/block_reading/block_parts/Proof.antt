@@ -3,7 +3,7 @@ use Rattle.mlg.proofs.block_reading.block_parts.Statement.{statement}
 use Rattle.mlg.proofs.block_reading.block_parts.Tie as tie
 use mathlib.Core.Path.{refl, sym}
 use native.Mathlib.Omega.{arith}
-use Rattle.mlg_rules.proofs.Cases.{parts-data, parts-mark, mark-whole, least}
+use Rattle.mlg_rules.proofs.BlockLaws.{parts-data, parts-mark, mark-whole, least}
 
 shared-slice-read-own : tie.Need-shared-slice-read-own
 shared-slice-read-own c = omega (arith, least _ _ _ refl (c .before .before .pre .1))

@@ -5,7 +5,7 @@ use mathlib.Core.Path.{_∙_}
 use native.Mathlib.Omega.{arith}
 use Rattle.wire.proofs.Orders.{order}
 use Rattle.mlg_rules.specs.Block.{restNumber}
-use Rattle.mlg_rules.proofs.Cases.{len-data, len-mark, known-mark}
+use Rattle.mlg_rules.proofs.BlockLaws.{len-data, len-mark, known-mark}
 
 shared-slice-read-kind : tie.Need-shared-slice-read-kind
 shared-slice-read-kind c = search needs

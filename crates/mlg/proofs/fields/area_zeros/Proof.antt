@@ -5,7 +5,7 @@ use Prim.Native.Nat.{_-_}
 use mathlib.Core.Path.{_∙_, ap}
 use native.Mathlib.Omega.{arith}
 use Rattle.wire.specs.Text.{zeros}
-use Rattle.mlg_rules.proofs.Areas.{counted, area-past, area-from}
+use Rattle.mlg_rules.proofs.AreaLaws.{counted, area-past, area-from}
 
 sub-ended-zeros : tie.Need-sub-ended-zeros
 sub-ended-zeros c = search needs

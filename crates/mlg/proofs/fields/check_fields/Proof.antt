@@ -8,8 +8,8 @@ use Rattle.mlg_rules.specs.Layout.{fieldLen}
 use Rattle.mlg_rules.specs.Area.{areaOf}
 use Rattle.mlg_rules.specs.Fields.{fieldsNumber, sizes}
 use Rattle.wire.proofs.Orders.{else-some}
-use Rattle.mlg_rules.proofs.Layouts.{field-least, one-of}
-use Rattle.mlg_rules.proofs.Types.{size-most}
+use Rattle.mlg_rules.proofs.LayoutLaws.{field-least, one-of}
+use Rattle.mlg_rules.proofs.TypeLaws.{size-most}
 use Rattle.mlg_rules.proofs.EachField.{fields-at, fields-next, sizes-next, fields-done, sizes-done}
 
 abbrev Inv-loop : tie.InvT-loop

@@ -5,7 +5,7 @@ use Prim.Native.Nat.{ℕ, _+_}
 use mathlib.Core.Path.{sym, _∙_, ap}
 use native.Mathlib.Omega.{arith}
 use Prim.Native.Nat.{_-_}
-use Rattle.mlg_rules.proofs.Areas.{counted, ended-from, ended-past, ended-empty}
+use Rattle.mlg_rules.proofs.AreaLaws.{counted, ended-from, ended-past, ended-empty}
 
 returns : tie.Need-returns
 returns c = (ended-empty (c .before .before .args .info .now) (c .before .before .args .at) (c .if1 .taken), omega arith)

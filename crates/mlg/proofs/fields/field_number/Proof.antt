@@ -4,7 +4,7 @@ use Rattle.mlg.proofs.fields.field_number.Tie as tie
 use native.Mathlib.Omega.{arith}
 use Rattle.mlg_rules.specs.Fields.{fieldNumber}
 use Rattle.wire.proofs.Orders.{order}
-use Rattle.mlg_rules.proofs.Layouts.{field-least}
+use Rattle.mlg_rules.proofs.LayoutLaws.{field-least}
 
 shared-slice-read-type-number : tie.Need-shared-slice-read-type-number
 shared-slice-read-type-number c = omega (arith, field-least (c .before .before .before .before .args .version))

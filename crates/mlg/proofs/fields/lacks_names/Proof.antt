@@ -2,7 +2,7 @@ use borrow.Author.Needs.{needs}
 use Prim.Native.Nat.{ℕ}
 use mathlib.Core.Path.{_∙_, sym, ap}
 use lib.Dec.{ltb}
-use Rattle.mlg_rules.proofs.Areas.{area-enough}
+use Rattle.mlg_rules.proofs.AreaLaws.{area-enough}
 use Rattle.mlg.proofs.fields.lacks_names.Statement.{statement}
 use Rattle.mlg.proofs.fields.lacks_names.Tie as tie
 

@@ -1,7 +1,7 @@
 use borrow.Author.Needs.{needs}
 use Rattle.mlg.proofs.fields.past_area.Statement.{statement}
 use Rattle.mlg.proofs.fields.past_area.Tie as tie
-use Rattle.mlg_rules.proofs.Areas.{area-end, area-none, area-within}
+use Rattle.mlg_rules.proofs.AreaLaws.{area-end, area-none, area-within}
 
 returns : tie.Need-returns
 returns c = area-within (c .before .args .names .now) (c .before .args .info .now) (c .before .args .at) (c .if1 .taken)

@@ -3,8 +3,8 @@ use Rattle.mlg.proofs.fields.texts_number.Tie as tie
 use native.Mathlib.Omega.{arith}
 use Rattle.mlg_rules.specs.Fields.{textsNumber}
 use Rattle.wire.proofs.Orders.{order}
-use Rattle.mlg_rules.proofs.Layouts.{field-least}
-use Rattle.mlg_rules.proofs.Layouts.{category-least}
+use Rattle.mlg_rules.proofs.LayoutLaws.{field-least}
+use Rattle.mlg_rules.proofs.LayoutLaws.{category-least}
 
 unended-requires : tie.Need-unended-requires
 unended-requires c κs = omega (arith, field-least (c .before .args .version))

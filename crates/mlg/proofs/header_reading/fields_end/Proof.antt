@@ -3,7 +3,7 @@ use Rattle.mlg.proofs.header_reading.fields_end.Statement.{statement}
 use Rattle.mlg.proofs.header_reading.fields_end.Tie as tie
 use native.Mathlib.Omega.{arith}
 use Rattle.mlg_rules.specs.Header.{fieldsEnd}
-use Rattle.mlg_rules.proofs.Layouts.{fields-most, header-most}
+use Rattle.mlg_rules.proofs.LayoutLaws.{fields-most, header-most}
 
 header-len-requires : tie.Need-header-len-requires
 header-len-requires c κs = search needs

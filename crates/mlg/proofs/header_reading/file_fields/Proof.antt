@@ -8,8 +8,8 @@ use lib.ListN.{length-drop}
 use Rattle.mlg_rules.specs.Header.{fieldsEnd}
 use Rattle.mlg_rules.specs.Layout.{headerLen}
 use Rattle.mlg_rules.specs.Fields.{sizes}
-use Rattle.mlg_rules.proofs.Places.{placed}
-use Rattle.mlg_rules.proofs.Areas.{file-area, file-rest, same-fields}
+use Rattle.mlg_rules.proofs.HeaderLaws.{placed}
+use Rattle.mlg_rules.proofs.AreaLaws.{file-area, file-rest, same-fields}
 
 fields-end-requires : tie.Need-fields-end-requires
 fields-end-requires c κs = search needs
@@ -34,21 +34,18 @@ part-check-fields-end c = omega (arith, c .header-len .ensures, placed _ _ (c .b
 
 sub-check-fields-2 : tie.Need-sub-check-fields-2
 sub-check-fields-2 c =
-    let pre = c .before .before .before .before .before .pre in
-    let fields-end = c .before .before .before .fields-end in
-    omega (arith, fields-end .ensures, placed _ _ pre .after-fields, placed _ _ pre .data-begins)
+    let p = placed _ _ (c .before .before .before .before .before .pre) in
+    omega (arith, c .before .before .before .fields-end .ensures, p .after-fields, p .data-begins)
 
 part-check-fields-start-2 : tie.Need-part-check-fields-start-2
 part-check-fields-start-2 c =
-    let pre = c .before .before .before .before .before .pre in
-    let fields-end = c .before .before .before .fields-end in
-    omega (arith, fields-end .ensures, placed _ _ pre .after-fields, placed _ _ pre .data-begins)
+    let p = placed _ _ (c .before .before .before .before .before .pre) in
+    omega (arith, c .before .before .before .fields-end .ensures, p .after-fields, p .data-begins)
 
 part-check-fields-end-2 : tie.Need-part-check-fields-end-2
 part-check-fields-end-2 c =
-    let pre = c .before .before .before .before .before .pre in
-    let fields-end = c .before .before .before .fields-end in
-    omega (arith, fields-end .ensures, placed _ _ pre .after-fields, placed _ _ pre .data-begins)
+    let p = placed _ _ (c .before .before .before .before .before .pre) in
+    omega (arith, c .before .before .before .fields-end .ensures, p .after-fields, p .data-begins)
 
 sub-check-fields-3 : tie.Need-sub-check-fields-3
 sub-check-fields-3 c = search needs

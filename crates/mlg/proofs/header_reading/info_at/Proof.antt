@@ -4,7 +4,7 @@ use Rattle.mlg.proofs.header_reading.info_at.Tie as tie
 use Prim.Native.Nat.{ℕ}
 use mathlib.Core.Path.{ap, _∙_}
 use Rattle.wire.specs.BigEndian.{beAt}
-use Rattle.mlg_rules.proofs.Layouts.{info-is}
+use Rattle.mlg_rules.proofs.LayoutLaws.{info-is}
 
 be32-requires : tie.Need-be32-requires
 be32-requires c κs = search needs

@@ -7,9 +7,9 @@ use mathlib.Core.Path.{_≡_, ap, _∙_}
 use lib.ListN.{drop}
 use Rattle.wire.specs.Text.{zeros}
 use Rattle.mlg_rules.specs.Header.{lastNumber, areaIn, fieldsEnd}
-use Rattle.mlg_rules.proofs.Areas.{area-part}
+use Rattle.mlg_rules.proofs.AreaLaws.{area-part}
 use Rattle.wire.proofs.Orders.{order}
-use Rattle.mlg_rules.proofs.Places.{placed}
+use Rattle.mlg_rules.proofs.HeaderLaws.{placed}
 
 cast-size : tie.Need-cast-size
 cast-size c = search needs

@@ -3,7 +3,7 @@ use Rattle.mlg.proofs.header_reading.numbers.Statement.{statement}
 use Rattle.mlg.proofs.header_reading.numbers.Tie as tie
 use native.Mathlib.Omega.{arith}
 use Rattle.mlg_rules.specs.Header.{numbersOf}
-use Rattle.mlg_rules.proofs.Layouts.{info-most}
+use Rattle.mlg_rules.proofs.LayoutLaws.{info-most}
 
 be16-requires : tie.Need-be16-requires
 be16-requires c κs = search needs

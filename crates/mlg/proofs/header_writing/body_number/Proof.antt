@@ -4,7 +4,7 @@ use Rattle.mlg.proofs.header_writing.body_number.Tie as tie
 use mathlib.Core.Path.{_∙_}
 use native.Mathlib.Omega.{arith}
 use Rattle.mlg_rules.proofs.Fits.{fit, body-is}
-use Rattle.mlg_rules.proofs.Layouts.{field-least, fields-fit, header-most, header-some}
+use Rattle.mlg_rules.proofs.LayoutLaws.{field-least, fields-fit, header-most, header-some}
 
 field-len-requires : tie.Need-field-len-requires
 field-len-requires c κs = search needs

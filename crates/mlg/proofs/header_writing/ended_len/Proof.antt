@@ -3,7 +3,7 @@ use Rattle.mlg.proofs.header_writing.ended_len.Statement.{statement}
 use Rattle.mlg.proofs.header_writing.ended_len.Tie as tie
 use mathlib.Core.Path.{sym, ap}
 use lib.ListN.{length}
-use Rattle.mlg_rules.proofs.Areas.{ended-none, ended-length}
+use Rattle.mlg_rules.proofs.AreaLaws.{ended-none, ended-length}
 
 returns : tie.Need-returns
 returns c = sym (ap length (ended-none (c .before .args .info .now) (c .if1 .taken)))

@@ -7,7 +7,7 @@ use lib.ListN.{length}
 use Rattle.mlg_rules.specs.Writing.{headerFor}
 use Rattle.mlg_rules.proofs.Fits.{fit, file-most}
 use Rattle.mlg_rules.proofs.HeaderBytes.{start-most}
-use Rattle.mlg_rules.proofs.Layouts.{field-least, fields-fit}
+use Rattle.mlg_rules.proofs.LayoutLaws.{field-least, fields-fit}
 
 field-len-requires : tie.Need-field-len-requires
 field-len-requires c κs = search needs

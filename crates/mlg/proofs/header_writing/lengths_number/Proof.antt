@@ -13,7 +13,7 @@ use Rattle.mlg_rules.specs.Layout.{headerLen, fieldLen}
 use Rattle.mlg_rules.specs.Area.{areaOf}
 use Rattle.mlg_rules.specs.Writing.{lengthsNumber}
 use Rattle.mlg_rules.proofs.Fits.{too-long, not-long, ended-most}
-use Rattle.mlg_rules.proofs.Layouts.{field-least, fields-fit, fields-few, header-most}
+use Rattle.mlg_rules.proofs.LayoutLaws.{field-least, fields-fit, fields-few, header-most}
 
 field-len-requires : tie.Need-field-len-requires
 field-len-requires c κs = search needs

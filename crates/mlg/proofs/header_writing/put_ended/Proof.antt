@@ -2,7 +2,7 @@ use borrow.Author.Needs.{needs}
 use Rattle.mlg.proofs.header_writing.put_ended.Statement.{statement}
 use Rattle.mlg.proofs.header_writing.put_ended.Tie as tie
 use native.Mathlib.Omega.{arith}
-use Rattle.mlg_rules.proofs.Areas.{ended-length}
+use Rattle.mlg_rules.proofs.AreaLaws.{ended-length}
 use Rattle.mlg_rules.proofs.HeaderBytes.{put-empty, put-zero}
 
 put-requires : tie.Need-put-requires

@@ -4,7 +4,7 @@ use Rattle.mlg.proofs.header_writing.put_header.Tie as tie
 use mathlib.Core.Path.{_∙_, ap}
 use native.Mathlib.Omega.{arith}
 use Rattle.mlg_rules.specs.Writing.{numberBytes}
-use Rattle.mlg_rules.proofs.Areas.{area-length}
+use Rattle.mlg_rules.proofs.AreaLaws.{area-length}
 use Rattle.mlg_rules.proofs.Fits.{file-most}
 use Rattle.mlg_rules.proofs.HeaderBytes.{header-length, header-put}
 

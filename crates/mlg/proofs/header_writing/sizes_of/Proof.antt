@@ -6,9 +6,9 @@ use native.Mathlib.Omega.{arith}
 use lib.ListN.{length, drop, getD}
 use Rattle.mlg_rules.specs.Layout.{fieldLen}
 use Rattle.mlg_rules.specs.Fields.{sizes}
-use Rattle.mlg_rules.proofs.Layouts.{field-least}
-use Rattle.mlg_rules.proofs.Types.{size-most}
-use Rattle.mlg_rules.proofs.Layouts.{one-of}
+use Rattle.mlg_rules.proofs.LayoutLaws.{field-least}
+use Rattle.mlg_rules.proofs.TypeLaws.{size-most}
+use Rattle.mlg_rules.proofs.LayoutLaws.{one-of}
 use Rattle.mlg_rules.proofs.EachField.{sizes-first, sizes-done}
 
 abbrev Inv-loop : tie.InvT-loop

@@ -2,7 +2,7 @@ use borrow.Author.Needs.{needs}
 use Rattle.mlg.proofs.header_writing.total_len.Statement.{statement}
 use Rattle.mlg.proofs.header_writing.total_len.Tie as tie
 use native.Mathlib.Omega.{arith}
-use Rattle.mlg_rules.proofs.Areas.{area-length}
+use Rattle.mlg_rules.proofs.AreaLaws.{area-length}
 use Rattle.mlg_rules.proofs.Fits.{file-most}
 
 header-len-requires : tie.Need-header-len-requires

@@ -1,7 +1,7 @@
 use Rattle.mlg.proofs.spans.span_of.Statement.{statement}
 use Rattle.mlg.proofs.spans.span_of.Tie as tie
 use mathlib.Core.Path.{refl}
-use Rattle.mlg_rules.proofs.Spans.{span-no, span-yes}
+use Rattle.mlg_rules.proofs.SpanLaws.{span-no, span-yes}
 
 returns : tie.Need-returns
 returns c = span-no _ _ _ _ refl (c .if1 .taken)
