@@ -95,20 +95,20 @@ module _ (s : Bridge) (f : Frame) (h : sound s ≡ true) (p : Parts) (e : p ≡ 
       let o : p .offset ≡ idOffset (f .id) = ap (λ (x : Parts). x .offset) e in
       omega (arith, a .place, w .partway .below, w .held .args .few)
 
-  pub awaited-there : k < 4 → takes (slot s k) k p (f .len) ≡ true → k ≡ orFour (awaiting s f)
+  pub awaited-there : k < 4 → takes (slot s k) k p (f .len) ≡ true → awaiting s f ≡ some k
   unfolding awaiting
   awaited-there l t = go (option-cases (awaiting s f))
     where
-      go : (awaiting s f ≡ none) ⊎ ((j : ℕ) × (awaiting s f ≡ some j)) → k ≡ orFour (awaiting s f)
+      go : (awaiting s f ≡ none) ⊎ ((j : ℕ) × (awaiting s f ≡ some j)) → awaiting s f ≡ some k
       go (inl z) = absurd (true≢false (sym t ∙ takes-of s f k p e ∙ lowest-none (awaits s f) z k l))
-      go (inr (j, z)) = let w = lowest-some (awaits s f) j z in sym (ap orFour z ∙ whose j (w .bound) (w .passes))
+      go (inr (j, z)) = let w = lowest-some (awaits s f) j z in z ∙ ap some (whose j (w .bound) (w .passes))
 
-  pub awaited-nowhere : (k < 4 → takes (slot s k) k p (f .len) ≡ false) → 4 ≡ orFour (awaiting s f)
+  pub awaited-nowhere : (k < 4 → takes (slot s k) k p (f .len) ≡ false) → awaiting s f ≡ none
   unfolding awaiting
   awaited-nowhere n = go (option-cases (awaiting s f))
     where
-      go : (awaiting s f ≡ none) ⊎ ((j : ℕ) × (awaiting s f ≡ some j)) → 4 ≡ orFour (awaiting s f)
-      go (inl z) = sym (ap orFour z)
+      go : (awaiting s f ≡ none) ⊎ ((j : ℕ) × (awaiting s f ≡ some j)) → awaiting s f ≡ none
+      go (inl z) = z
       go (inr (j, z)) =
           let w = lowest-some (awaits s f) j z in
           let g : j ≡ k = whose j (w .bound) (w .passes) in

@@ -33,31 +33,14 @@ fn awaits(x: Slot, k: usize, p: bus::Parts, len: u8) -> bool
         & (len == chunk_len(x.count, x.progress))
 }
 
-// The slot that awaits a frame of these parts, or 4. Slot k's part of the buffer begins at 128 k, so the reply's offset says which
-// slot to ask.
-fn awaiting(b: Bridge, f: bus::Frame, p: bus::Parts) -> usize
-    requires { ⌜ (sound b ≡ true) × (p ≡ partsOf (f .id)) ⌝ }
-    ensures { λ r. ⌜ r ≡ orFour (awaiting b f) ⌝ }
-{
-    let k = (p.offset / 128) as usize;
-    if 4 <= k {
-        return 4;
-    }
-    let slots = b.slots;
-    let x = slots[k];
-    if awaits(x, k, p, f.len) {
-        return k;
-    }
-    4
-}
-
 // A frame's number, and, where that is 0, the slot that awaits it.
 struct Judged {
     number: u8,
     slot: usize,
 }
 
-// 5 and 17, by which a frame of these parts is judged; else 0 and its slot.
+// 5 and 17, by which a frame of these parts is judged; else 0 and its slot. Slot k's part of the buffer begins at 128 k, so the
+// reply's offset says which slot to ask.
 fn judge_parts(b: Bridge, f: bus::Frame, p: bus::Parts) -> Judged
     requires { ⌜ (sound b ≡ true) × (p ≡ partsOf (f .id)) ⌝ }
     ensures { λ r. ⌜ (r .number ≡ (5 if not (eqb (p .kind) rsp) else 17 if isNone (awaiting b f) else 0))
@@ -66,11 +49,22 @@ fn judge_parts(b: Bridge, f: bus::Frame, p: bus::Parts) -> Judged
     if p.kind != bus::RSP {
         return Judged { number: 5, slot: 4 };
     }
-    let slot = awaiting(b, f, p);
-    if slot == 4 {
-        return Judged { number: 17, slot };
+    let k = (p.offset / 128) as usize;
+    if 4 <= k {
+        return Judged {
+            number: 17,
+            slot: 4,
+        };
     }
-    Judged { number: 0, slot }
+    let slots = b.slots;
+    let x = slots[k];
+    if awaits(x, k, p, f.len) {
+        return Judged { number: 0, slot: k };
+    }
+    Judged {
+        number: 17,
+        slot: k,
+    }
 }
 
 // 1 to 5 and 17, by which a sound bridge judges a frame; else 0 and its slot.
