@@ -24,7 +24,10 @@ same-length : tie.Need-same-length
 same-length c = search needs
 
 returns : tie.Need-returns
-returns c = puts-as (hexByte (c .before .before .before .before .before .before .before .before .args .b)) (rw (c .before .before .before .before .before .before .glyph .ensures, c .before .before .before .before .before .glyph2 .ensures)) (c .before .before .text .ensures)
+returns c =
+    puts-as (hexByte (c .before .before .before .before .before .before .before .before .args .b))
+    (rw (c .before .before .before .before .before .before .glyph .ensures, c .before .before .before .before .before .glyph2 .ensures))
+    (c .before .before .text .ensures)
 
 pub hex-byte-spec : {M : Type 1} → statement M
 hex-byte-spec =
