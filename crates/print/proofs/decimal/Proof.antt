@@ -24,7 +24,8 @@ same-length c = search needs
 
 returns : tie.Need-returns
 returns c =
-    record { count = c .before .before .before .before .before .decimal .result; fewest = c .before .before .before .before .before .decimal .ensures .1 .0; puts = puts-as _ (c .before .before .before .before .before .decimal .ensures .1 .1) (c .before .before .text .ensures) }
+    let d = c .before .before .before .before .before .decimal in
+    record { count = d .result; fewest = d .ensures .1 .0; puts = puts-as _ (d .ensures .1 .1) (c .before .before .text .ensures) }
 
 pub decimal-spec : {M : Type 1} → statement M
 decimal-spec =

@@ -24,7 +24,8 @@ same-length c = search needs
 
 returns : tie.Need-returns
 returns c =
-    record { count = c .before .before .before .before .before .hex .result; fewest = c .before .before .before .before .before .hex .ensures .1 .0; puts = puts-as _ (c .before .before .before .before .before .hex .ensures .1 .1) (c .before .before .text .ensures) }
+    let d = c .before .before .before .before .before .hex in
+    record { count = d .result; fewest = d .ensures .1 .0; puts = puts-as _ (d .ensures .1 .1) (c .before .before .text .ensures) }
 
 pub hex-spec : {M : Type 1} → statement M
 hex-spec =
