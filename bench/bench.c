@@ -151,7 +151,7 @@ static void make_bridge_inputs(void)
     int turns = 0, frames = 0;
     while (turns < BRIDGES || frames < BRIDGES) {
         for (int i = 0; i < 4; i++)
-            if (b.slots[i].phase == HG_FINISHED || b.slots[i].phase == HG_FAILED)
+            if (b.slots[i].phase == HG_PHASE_DONE || b.slots[i].phase == HG_PHASE_GAVE_UP)
                 b = hg_bridge_close(b, b.slots[i].ticket).bridge;
         open_some(&b);
         if (turns < BRIDGES)

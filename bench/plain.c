@@ -163,22 +163,22 @@ void PLAIN(serve)(const hg_directory *d, uint8_t *memory, size_t len, const hg_f
 static bool sound_slot(const hg_slot *s, uint32_t issued)
 {
     static const hg_slot none;
-    if (s->phase == HG_FREE)
+    if (s->phase == HG_PHASE_FREE)
         return memcmp(s, &none, offsetof(hg_slot, left) + 1) == 0;
     if (s->kind > 1 || s->ticket < 1 || s->ticket > issued || s->device > 15 || s->table > 31)
         return false;
     if (s->count < 1 || s->count > 128 || s->offset + s->count > 2048)
         return false;
-    if (s->phase == HG_FINISHED)
+    if (s->phase == HG_PHASE_DONE)
         return s->progress == s->count && s->sends == 0 && s->left == 0;
     if (s->progress % 8 != 0 || s->progress >= s->count)
         return false;
     switch (s->phase) {
-    case HG_READY:
+    case HG_PHASE_READY:
         return s->sends <= (s->kind == HG_READ ? 2 : 0) && s->left == 0;
-    case HG_WAITING:
+    case HG_PHASE_WAITING:
         return s->kind == HG_READ && s->sends >= 1 && s->sends <= 3 && s->left >= 1 && s->left <= 20;
-    case HG_FAILED:
+    case HG_PHASE_GAVE_UP:
         return s->kind == HG_READ && s->sends == 3 && s->left == 0;
     }
     return false;
@@ -211,20 +211,20 @@ static void advance(hg_slot *s)
     s->left = 0;
     if (s->progress + 8 < s->count) {
         s->progress += 8;
-        s->phase = HG_READY;
+        s->phase = HG_PHASE_READY;
     } else {
         s->progress = s->count;
-        s->phase = HG_FINISHED;
+        s->phase = HG_PHASE_DONE;
     }
 }
 
 static void age(hg_slot *s)
 {
-    if (s->phase != HG_WAITING)
+    if (s->phase != HG_PHASE_WAITING)
         return;
     s->left--;
     if (s->left == 0)
-        s->phase = s->sends < 3 ? HG_READY : HG_FAILED;
+        s->phase = s->sends < 3 ? HG_PHASE_READY : HG_PHASE_GAVE_UP;
 }
 
 static void no_yield(hg_yielded *out, uint8_t number)
@@ -250,7 +250,7 @@ static void send(hg_bridge *b, unsigned k, const uint8_t *buffer, hg_yielded *ou
         const uint8_t bytes[8] = {6, (uint8_t)(16 * k + s->progress / 8), (uint8_t)count, 0, 0, 0, 0, 0};
         out->frame.len = 3;
         memcpy(out->frame.bytes, bytes, 8);
-        s->phase = HG_WAITING;
+        s->phase = HG_PHASE_WAITING;
         s->sends++;
         s->left = 20;
     }
@@ -267,7 +267,7 @@ void PLAIN(turn)(hg_bridge *b, const uint8_t *buffer, size_t len, hg_yielded *ou
         age(&b->slots[i]);
     for (unsigned i = 1; i <= 4; i++) {
         unsigned k = (b->last + i) % 4;
-        if (b->slots[k].phase == HG_READY) {
+        if (b->slots[k].phase == HG_PHASE_READY) {
             send(b, k, buffer, out);
             return;
         }
@@ -284,7 +284,7 @@ static uint8_t take(hg_bridge *b, uint8_t *buffer, const hg_frame *f)
     if (table_of(f->id) != 6 || k > 3)
         return 17;
     hg_slot *s = &b->slots[k];
-    if (s->phase != HG_WAITING || s->device != from_of(f->id) || s->progress != offset % 128 || next_len(s) != f->len)
+    if (s->phase != HG_PHASE_WAITING || s->device != from_of(f->id) || s->progress != offset % 128 || next_len(s) != f->len)
         return 17;
     memcpy(buffer + offset, f->bytes, f->len);
     advance(s);

@@ -156,7 +156,7 @@ hg_served hg_bus_serve(hg_directory directory, uint8_t *memory, size_t len, hg_f
 /* ---- Bridge ---- */
 
 /* Phases of a slot, and kinds of transfers. */
-enum { HG_FREE = 0, HG_READY = 1, HG_WAITING = 2, HG_FINISHED = 3, HG_FAILED = 4 };
+enum { HG_PHASE_FREE = 0, HG_PHASE_READY = 1, HG_PHASE_WAITING = 2, HG_PHASE_DONE = 3, HG_PHASE_GAVE_UP = 4 };
 enum { HG_READ = 0, HG_WRITE = 1 };
 
 /* A slot: free (all 0), or held by a transfer. Only the calls write it; a state that they cannot make is refused with 11. */

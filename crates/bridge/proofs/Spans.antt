@@ -10,7 +10,6 @@ use borrow.Author.Tests.{eq-eqb, ne-eqb, eqb-true, not-false}
 use Rattle.wire.specs.declared.Span.{Span}
 use Rattle.wire.proofs.Orders.{if-zero}
 use Rattle.bridge_rules.specs.declared.Bridge.{Bridge}
-use Rattle.bridge_rules.specs.declared.Slot.{Slot}
 use Rattle.bridge_rules.specs.State.{slot, heldSlot, isNone, orZero, orFour, sound, asks}
 use Rattle.bridge_rules.specs.Ending.{ticketNumber, bytesNumber, slotSpan, spanOf, noSpan, partOf, bytesOf}
 use Rattle.bridge_rules.proofs.SlotOk.{count-few}

@@ -15,7 +15,7 @@ use Rattle.bus_rules.specs.Ident.{idOf, idFrom}
 use Rattle.bus_rules.specs.Frames.{frameWith, content, req, rsp}
 use Rattle.bus_rules.specs.Holder.{serveOf, answerWith}
 use Rattle.bus_rules.specs.declared.Served.{Served}
-use Rattle.bus_rules.specs.Device.{Device, SameTables}
+use Rattle.bus_rules.specs.Device.{Device}
 use Rattle.bus_rules.proofs.Replies.{answerer-unchanged}
 use Rattle.bridge_rules.specs.State.{Frame}
 use Rattle.bridge_rules.specs.Opening.{read, isWrite, askDevice}
@@ -275,13 +275,9 @@ alone-call4 : run alone .calls 4 ≡ frame itsOwn (reply 5 8 (114 ∷ 115 ∷ []
 unfolding alone
 alone-call4 = refl
 
-alone-replied : Replied (run alone) alone-x 0 2
+alone-replied : Replied (run alone) alone-x 1 4
 unfolding everything alone reply alone-x
-alone-replied = replied-next alone alone-x 0 1 alone-stands (omega arith) refl (omega arith) refl refl (omega arith) refl
-
-alone-replied′ : Replied (run alone) alone-x 1 4
-unfolding everything alone reply alone-x
-alone-replied′ = replied-next alone alone-x 1 3 alone-stands (omega arith) refl (omega arith) refl refl (omega arith) refl
+alone-replied = replied-next alone alone-x 1 3 alone-stands (omega arith) refl (omega arith) refl refl (omega arith) refl
 
 alone-read : DoneRead alone 0 5 (106 ∷ 107 ∷ 108 ∷ 109 ∷ 110 ∷ 111 ∷ 112 ∷ 113 ∷ 114 ∷ 115 ∷ [])
 unfolding everything every shaped shapedLent alone reply alone-x
@@ -301,7 +297,7 @@ alone-shows = record {
       first = not-after alone 2 3 unchanging refl (λ m l. omega arith) alone-x 5;
       unwritten = record { sameTables = λ τ τ′ a b. refl; unchanged = λ τ τ′ a b. refl };
     };
-    meanwhile = until (run alone) alone-x 5 unchanging 3 5 1 4 (omega arith) (omega arith) alone-replied′ (omega arith);
+    meanwhile = until (run alone) alone-x 5 unchanging 3 5 1 4 (omega arith) (omega arith) alone-replied (omega arith);
     same = refl;
   };
   asked = refl;
@@ -350,13 +346,9 @@ together-same τ w =
     let u : τ < 33 = omega (arith, w .until, w .before) in
     rw (le-ltb τ 4 l, lt-ltb τ 33 u)
 
-together-replied : Replied (run together) together-x 0 28
+together-replied : Replied (run together) together-x 1 30
 unfolding everything together reply together-x
-together-replied = replied-next together together-x 0 27 together-stands (omega arith) refl (omega arith) refl refl (omega arith) refl
-
-together-replied′ : Replied (run together) together-x 1 30
-unfolding everything together reply together-x
-together-replied′ = replied-next together together-x 1 29 together-stands (omega arith) refl (omega arith) refl refl (omega arith) refl
+together-replied = replied-next together together-x 1 29 together-stands (omega arith) refl (omega arith) refl refl (omega arith) refl
 
 together-lawful : Lawful (run together)
 unfolding everything every shaped shapedLent together reply
@@ -383,7 +375,7 @@ together-shows = record {
         unchanged = λ τ τ′ a b. ap (range (run together) together-x) (together-same τ a ∙ sym (together-same τ′ b));
       };
     };
-    meanwhile = until (run together) together-x 33 written 5 29 1 30 (omega arith) (omega arith) together-replied′ (omega arith);
+    meanwhile = until (run together) together-x 33 written 5 29 1 30 (omega arith) (omega arith) together-replied (omega arith);
     same = refl;
   };
   earlier = refl;
@@ -618,10 +610,6 @@ late-own5 = own-reply (run late) slow 5 (frameWith (idOf 0 req 0 5 7) (6 ∷ 0 �
 late-call5 : run late .calls 5 ≡ frame itsOwn (reply 5 0 (100 ∷ 101 ∷ 102 ∷ 103 ∷ 104 ∷ 105 ∷ 106 ∷ 107 ∷ []))
 unfolding late
 late-call5 = refl
-
-late-replied : Replied (run late) late-x 0 5
-unfolding everything late reply late-x
-late-replied = replied-next late late-x 0 4 late-stands (omega arith) refl (omega arith) refl refl (omega arith) refl
 
 late-lawful : Lawful (run late)
 unfolding everything every shaped shapedLent late reply

@@ -1,6 +1,5 @@
 pub mod Search
 pub mod NumberLaws
-pub mod RefusalChains
 pub mod KindTests
 pub mod FrameLaws
 pub mod BufferParts

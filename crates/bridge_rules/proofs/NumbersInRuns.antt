@@ -13,7 +13,7 @@ use Rattle.bus_rules.specs.Frames.{rsp, headNumber}
 use Rattle.bus_rules.specs.Ident.{idSpare, idTo, idKind}
 use Rattle.wire.specs.Order.{_if_else_, _orElse_}
 use Rattle.wire.specs.First.{First, Zero}
-use Rattle.wire.proofs.Orders.{if-zero, else-zero}
+use Rattle.wire.proofs.Orders.{if-zero, else-zero, if-orElse, zero-orElse, orElse-orElse}
 use Rattle.bridge_rules.specs.State.{Frame, Bridge, waiting, nextReady, heldSlot, slot, sound, isFree, isNone, lowestFree}
 use Rattle.bridge_rules.specs.Answers.{lentNumber, plain}
 use Rattle.bridge_rules.specs.Opening.{isWrite, Ask, openOf}
@@ -26,7 +26,7 @@ use Rattle.bridge_rules.specs.Replies.{Replied}
 use Rattle.bridge_rules.specs.Calls.{FrameInRun, NumbersInRun, NumbersInRuns, OpeningInRun}
 use Rattle.bridge_rules.proofs.KindTests.{read-of}
 use Rattle.bridge_rules.proofs.NumberLaws.{lent-clear, lent-ten, open-later, open-ten, reply-later, reply-ten}
-use Rattle.bridge_rules.proofs.RefusalChains.{first-if, not-test, leb-test, ltb-test, eqb-test, if-orElse, zero-orElse, orElse-orElse}
+use Rattle.wire.proofs.RefusalChains.{first-if, not-test, leb-test, ltb-test, eqb-test}
 use Rattle.bridge_rules.proofs.OpeningNumbers.{afterLent, AfterLent, chain, full, unless-number, number-is}
 use Rattle.bridge_rules.proofs.RefusalsKeep.{sends-zero}
 use Rattle.bridge_rules.proofs.Search.{contradiction, Lowest, lowest-some, lowest-none, option-cases}

@@ -17,8 +17,8 @@ use Rattle.bridge_rules.specs.Opening.{roomNumber, Ask, askDevice, askTa
 use Rattle.bridge_rules.specs.Call.{step}
 use Rattle.bridge_rules.specs.Calls.{OpeningNumber, OpeningNumbers, Acceptable, OpensExactly}
 use Rattle.bridge_rules.proofs.NumberLaws.{OpenFacts, open-facts, open-lent}
-use Rattle.bridge_rules.proofs.RefusalChains.{first-if, not-test, ltb-test, eqb-test, sound-test, if-orElse, zero-orElse, either, or-test, over-test}
-use Rattle.bridge_rules.proofs.RefusalChains.{none-test, some-of}
+use Rattle.wire.proofs.Orders.{if-orElse, zero-orElse}
+use Rattle.wire.proofs.RefusalChains.{first-if, not-test, ltb-test, eqb-test, sound-test, either, or-test, over-test, none-test, some-of}
 use Rattle.bridge_rules.proofs.Search.{cases, contradiction, Lowest, lowest-some, lowest-none, option-cases}
 use Rattle.bridge_rules.proofs.CallCases.{freeAt}
 

@@ -48,11 +48,6 @@ join-all g count l h =
     let z : min (8 * ((count + 7) / 8)) count ≡ count = omega arith in
     join-take g count l h ((count + 7) / 8) (omega arith) ∙ ap (λ (k : ℕ). take k l) z
 
-pub join-same : (g g′ : ℕ → List ℕ) (p : ℕ) → ((c : ℕ) → c < p → g c ≡ g′ c) → join g p ≡ join g′ p
-unfolding join
-join-same g g′ zero h = refl
-join-same g g′ (suc p) h = ap₂ (λ (a b : List ℕ). a ++ b) (join-same g g′ p (λ c l. h c (omega arith))) (h p (omega arith))
-
 -- a part that agrees byte by byte
 pub part-is : (bs b : List ℕ) (base n : ℕ) → length bs ≡ n → base + n ≤ length b → ((i : ℕ) → i < n → getD b (base + i) 0 ≡ getD bs i 0)
     → bs ≡ take n (drop base b)

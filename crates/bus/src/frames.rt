@@ -1,56 +1,59 @@
 // Frames of parts and bytes, and the bytes of frames.
 use crate::Frame;
 use crate::Parts;
-use crate::rows::id_of;
-use crate::rows::in_rows;
+use crate::rows::id_in_rows;
 ghost use mathlib.Core.Path.{_≡_};
-ghost use Prim.Native.Nat.{_+_, _≤_, min};
+ghost use Prim.Native.Nat.{_+_, _≤_};
 ghost use lib.ListN.{length};
 ghost use lib.Seq.{sets};
 ghost use Rattle.wire.specs.Put.{putOf};
 ghost use Rattle.bus_rules.specs.Frames.{padded, buildOf, content};
 ghost use Rattle.bus_rules.specs.Rows.{Built};
 
-// The first eight bytes given, and zeros where there are fewer.
-pub fn padded(bytes: &[u8]) -> [u8; 8]
-    ensures { λ r. ⌜ r ≡ padded (now (bytes .entry)) ⌝ }
-{
-    let mut out = [0u8; 8];
-    let mut i = 0;
-    while i < 8 {
-        if i < bytes.len() {
-            out[i] = bytes[i];
-        }
-        i += 1;
-    }
-    out
-}
-
-fn at_most_eight(n: usize) -> usize
-    ensures { λ r. ⌜ r ≡ min n 8 ⌝ }
-{
-    if n < 8 { n } else { 8 }
-}
-
 // The frame of these parts, each modulo its row's width, and of the first eight bytes: of parts that pack and at most eight bytes the
-// frame that they make.
+// frame that they make. One loop copies and counts: so it is short enough to be inlined.
 pub fn build(p: Parts, bytes: &[u8]) -> Frame
     ensures { λ r. ⌜ r ≡ buildOf p (now (bytes .entry)) ⌝ }
     ensures built { λ r. ⌜ Built p (now (bytes .entry)) r ⌝ }
 {
-    let id = id_of(in_rows(p));
-    Frame {
-        id: id as u32,
-        len: at_most_eight(bytes.len()) as u8,
-        bytes: padded(bytes),
+    let id = id_in_rows(p);
+    let mut first = [0u8; 8];
+    let mut len: u8 = 0;
+    let mut i = 0;
+    while i < 8 {
+        if i < bytes.len() {
+            first[i] = bytes[i];
+            len += 1;
+        }
+        i += 1;
     }
+    Frame {
+        id,
+        len,
+        bytes: first,
+    }
+}
+
+// The first eight bytes given, and zeros where there are fewer: the bytes of a frame, whatever its parts.
+pub fn padded(bytes: &[u8]) -> [u8; 8]
+    ensures { λ r. ⌜ r ≡ padded (now (bytes .entry)) ⌝ }
+{
+    let parts = Parts {
+        offset: 0,
+        kind: 0,
+        from: 0,
+        to: 0,
+        table: 0,
+    };
+    let frame = build(parts, bytes);
+    frame.bytes
 }
 
 // How many bytes of a frame count.
 fn content_len(f: Frame) -> usize
     ensures { λ r. ⌜ r ≡ length (content f) ⌝ }
 {
-    at_most_eight(f.len as usize)
+    if f.len < 8 { f.len as usize } else { 8 }
 }
 
 // The bytes of a frame that count, copied to a place. Eight tests of the length are quicker than a call of memcpy.

@@ -16,14 +16,13 @@ use crate::requests::request_of;
 use crate::rows::parts_of;
 use crate::rows::table_of;
 ghost use mathlib.Core.Path.{_≡_};
-ghost use mathlib.Core.List.{List};
-ghost use Prim.Native.Nat.{ℕ, _+_, _*_, _≤_, _<_};
+ghost use Prim.Native.Nat.{_+_, _*_, _≤_, _<_};
 ghost use lib.ListN.{length, take, drop};
 ghost use Rattle.wire.specs.Order.{_orElse_};
 ghost use Rattle.bus_rules.specs.Ident.{partsOf};
 ghost use Rattle.bus_rules.specs.Frames.{headNumber};
 ghost use Rattle.bus_rules.specs.Device.{Device, device, startOf, sizeOf, rightOf, totalOf, soundTables, directoryNumber, memoryNumber};
-ghost use Rattle.bus_rules.specs.Holder.{commandNumber, requestNumber, queryNumber, kindNumber, serveNumber, requestAt, tableOf, sizeAt, rightAt};
+ghost use Rattle.bus_rules.specs.Holder.{commandNumber, requestNumber, queryNumber, kindNumber, serveNumber, requestAt, sizeAt, rightAt};
 ghost use Rattle.bus_rules.specs.Holder.{noAnswer, replyTo, placeOf, protocol, actOf, actAfter, serveOf, deviceAfter};
 ghost use Rattle.bus_rules.specs.Demand2.{Demand2};
 

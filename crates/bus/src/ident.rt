@@ -3,7 +3,7 @@ use crate::Frame;
 use crate::Packed;
 use crate::Parts;
 use crate::Unpacked;
-use crate::rows::id_of;
+use crate::rows::id_in_rows;
 use crate::rows::parts_of;
 ghost use mathlib.Core.Path.{_≡_};
 ghost use Rattle.wire.specs.Answer.{result};
@@ -41,7 +41,7 @@ pub fn pack(p: Parts) -> Packed
     if number != 0 {
         return Packed::Refused(number);
     }
-    Packed::Is(id_of(p) as u32)
+    Packed::Is(id_in_rows(p))
 }
 
 // 1 or 2 for an identifier that is not lawful, else 0.

@@ -21,27 +21,12 @@ pub(crate) fn parts_of(id: u32) -> Parts
     }
 }
 
-// The sum of the rows.
-pub(crate) fn id_of(p: Parts) -> u64
-    ensures { λ r. ⌜ r ≡ idIn p ⌝ }
+// The sum of the rows, each part modulo its row's width; sender and receiver make a byte together.
+pub(crate) fn id_in_rows(p: Parts) -> u32
+    ensures { λ r. ⌜ r ≡ idIn (inRows p) ⌝ }
 {
-    (p.table / 16) as u64 * 4
-        + (p.table % 16) as u64 * 8
-        + p.to as u64 * 128
-        + p.from as u64 * 2048
-        + p.kind as u64 * 32768
-        + p.offset as u64 * 262144
-}
-
-// Each part modulo its row's width.
-pub(crate) fn in_rows(p: Parts) -> Parts
-    ensures { λ r. ⌜ r ≡ inRows p ⌝ }
-{
-    Parts {
-        offset: p.offset % 2048,
-        kind: p.kind % 8,
-        from: p.from % 16,
-        to: p.to % 16,
-        table: p.table % 32,
-    }
+    (p.table / 16 % 2 * 4 + p.table % 16 * 8) as u32
+        + (p.from % 16 * 16 + p.to % 16) as u32 * 128
+        + (p.kind % 8) as u32 * 32768
+        + (p.offset % 2048) as u32 * 262144
 }

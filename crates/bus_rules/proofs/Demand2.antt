@@ -7,12 +7,12 @@ use lib.Dec.{eqb}
 use Prim.Native.Nat.{ℕ, zero, suc, _+_, _/_, _%_, _≤_, _<_}
 use native.Mathlib.Omega.{arith}
 use lib.ListN.{length, getD, take, drop}
-use lib.Seq.{sets, length-sets, getD-take, getD-drop, length-take-le}
+use lib.Seq.{length-sets, getD-take, getD-drop, length-take-le}
 use Rattle.wire.proofs.Puts.{sets-in, sets-outside}
 use Rattle.bus_rules.specs.Ident.{idFrom, idKind, idOffset}
 use Rattle.bus_rules.specs.Frames.{Frame, cmd, req, rsp, xtnd, padded, content, frameWith}
 use Rattle.bus_rules.specs.Request.{Request, requestOf}
-use Rattle.bus_rules.specs.Device.{Device, device, ownOf, rangeOf, startOf, sizeOf}
+use Rattle.bus_rules.specs.Device.{Device, ownOf, rangeOf, startOf, sizeOf}
 use Rattle.bus_rules.specs.Holder.{Served, serveNumber, byteOf, requestAt, tableOf, sizeAt, noAnswer, answerWith, replyTo, placeOf, protocol}
 use Rattle.bus_rules.specs.Holder.{byKind, actOf, storing, servedBy, serveOf, deviceAfter}
 use Rattle.bus_rules.specs.Demand2.{CommandServed, Replied, RequestServed, QueryServed, ServeNumber, Demand2}

@@ -1,9 +1,8 @@
 -- What a device that keeps the holder's rules replies, for a layer that hears only the bus: a CMD gets no reply; a REQ's reply goes to
 -- the asked table and offset, and its bytes are the range; a device that replies has an own number of at most 15 and is unchanged.
-use Prim.Native.Nat.{ℕ, zero, suc, _+_, _*_, _≤_}
+use Prim.Native.Nat.{ℕ, zero, suc, _*_, _≤_}
 use mathlib.Core.Path.{_≡_, refl, sym, _∙_, ap}
 use mathlib.Core.Bool.{Bool, true, false}
-use mathlib.Core.List.{List}
 use native.Mathlib.Omega.{arith}
 use lib.Dec.{eqb}
 use borrow.Author.Tests.{eqb-true}

@@ -6,7 +6,7 @@ use lib.ListN.{length, take}
 use lib.Seq.{take-all}
 use Rattle.wire.proofs.Parts.{take-length-le}
 use Rattle.bus_rules.specs.Ident.{Parts, idIn, packOf}
-use Rattle.bus_rules.specs.Frames.{Frame, frameWith, buildOf}
+use Rattle.bus_rules.specs.Frames.{frameWith, buildOf}
 use Rattle.bus_rules.specs.Rows.{Built, RowTheorems}
 use Rattle.bus_rules.proofs.IdentLaws.{unpack-after-pack, pack-after-unpack, row-law, unpack-id, in-rows-lawful, same-in-rows}
 use Rattle.bus_rules.proofs.IdentLaws.{Lawful, zero-lawful, packed-is}

@@ -4,10 +4,10 @@ use Prim.Native.Nat.{ℕ, _+_, _≤_, _<_, _^_, _/_, _%_}
 use mathlib.Core.Path.{_≡_}
 use mathlib.Core.Logic.{_⊎_, _≢_}
 use mathlib.Core.Bool.{false}
-use mathlib.Core.List.{List, [], _∷_}
+use mathlib.Core.List.{[], _∷_}
 use lib.ListN.{length, getD}
 use Rattle.wire.specs.First.{First, Unless, Zero}
-use Rattle.bus_rules.specs.Ident.{idSpare, idTable, idTo, idFrom, idKind, idOffset, unpackOf}
+use Rattle.bus_rules.specs.Ident.{idSpare, idTo, idFrom, idKind, idOffset, unpackOf}
 use Rattle.bus_rules.specs.Frames.{Frame, cmd, req, rsp, xtnd, content}
 use Rattle.bus_rules.specs.Request.{Request}
 use Rattle.bus_rules.specs.Device.{Directory, Device, SameTables, ownOf, sizeOf, rightOf, startOf, totalOf}

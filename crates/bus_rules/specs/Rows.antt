@@ -5,7 +5,7 @@ use mathlib.Core.List.{List, [], _∷_}
 use lib.ListN.{length, getD, take}
 use Rattle.bus_rules.specs.Ident.{Parts, row, inRows, packOf, unpackOf}
 use Rattle.bus_rules.specs.Frames.{Frame, content, frameWith, buildOf}
-use Rattle.bus_rules.specs.Request.{Request, readRequestOf, requestBytesOf, request}
+use Rattle.bus_rules.specs.Request.{Request, readRequestOf, requestBytesOf}
 use Rattle.bus_rules.specs.declared.Packed.{Packed}
 use Rattle.bus_rules.specs.declared.Packed.the-variants as P
 use Rattle.bus_rules.specs.declared.Unpacked.{Unpacked}

@@ -13,7 +13,7 @@ pub(crate) fn counter_of(earlier: u64) -> u8
     (earlier % 256) as u8
 }
 
-// The length of a block by its type, 0 for an unknown type.
+// The length of a block by its type, here `kind`; 0 for an unknown type.
 fn block_len(size: u16, kind: u8) -> usize
     ensures { λ r. ⌜ r ≡ blockLen size kind ⌝ }
 {

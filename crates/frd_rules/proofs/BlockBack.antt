@@ -10,7 +10,7 @@ use lib.Seq.{take-at, drop-at, drop-append-add}
 use Rattle.wire.specs.BigEndian.{beBytes}
 use Rattle.wire.proofs.Numbers.{be-back}
 use Rattle.wire.proofs.Orders.{if-no, not-no}
-use Rattle.frd_rules.specs.Block.{counterAfter, blockLen, kindIn, timeIn, recordPlace, foundOf, blockOf, readBlockOf}
+use Rattle.frd_rules.specs.Block.{counterAfter, blockLen, typeIn, timeIn, recordPlace, foundOf, blockOf, readBlockOf}
 use Rattle.frd_rules.specs.Writing.{dataBytes, writeDataNumber, timeBytes, writeTimeNumber}
 use Rattle.frd_rules.specs.RoundTrip.{DataBack, TimeBack}
 use Rattle.frd_rules.specs.declared.Block.{Block}
@@ -19,7 +19,7 @@ use Rattle.frd_rules.proofs.BlockLaws.{block-stands, rest-whole, data-l
 use Rattle.frd_rules.proofs.WritingLaws.{room-left}
 
 -- a whole block of a known type stands
-block-whole : (l c at : ℕ) (t : List ℕ) → (length t ≡ 0 → ⊥) → (blockLen l (kindIn t) ≡ 0 → ⊥) → blockLen l (kindIn t) ≤ length t → (b : Block)
+block-whole : (l c at : ℕ) (t : List ℕ) → (length t ≡ 0 → ⊥) → (blockLen l (typeIn t) ≡ 0 → ⊥) → blockLen l (typeIn t) ≤ length t → (b : Block)
     → foundOf c at t ≡ b → blockOf l c at t ≡ b
 unfolding blockOf
 block-whole l c at t s k h b e = block-stands _ at _ (sym (rest-whole l t s k h)) ∙ e

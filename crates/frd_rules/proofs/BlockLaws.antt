@@ -7,9 +7,9 @@ use native.Mathlib.Omega.{arith}
 use borrow.Author.Tests.{eq-eqb, ne-eqb, eqb-true, eqb-false, lt-ltb, le-ltb, ltb-true, ltb-false}
 use lib.Dec.{eqb, ltb}
 use lib.ListN.{length, drop, length-drop}
-use Rattle.wire.specs.Log.{judged}
+use Rattle.wire.specs.Log.{judged, endKind, refusedKind}
 use Rattle.wire.proofs.Orders.{order, if-yes, if-no, if-zero, if-skip}
-use Rattle.frd_rules.specs.Block.{counterAfter, blockLen, kindIn, counterIn, timeIn, recordPlace}
+use Rattle.frd_rules.specs.Block.{counterAfter, blockLen, typeIn, counterIn, timeIn, recordPlace}
 use Rattle.frd_rules.specs.Block.{restNumber, foundOf, blockOf, readBlockNumber, readBlockOf}
 use Rattle.frd_rules.specs.Block.{BlockAnswer, noBlock, blockAnswer, dataValues, timeValues, foundValues, blockResult}
 use Rattle.frd_rules.specs.declared.Block.{Block}
@@ -40,18 +40,18 @@ unfolding blockLen
 no-len l k a b = sym (if-no (l + 2) (eqb k 1) _ 0 (ne-eqb k 1 a) (if-no 6 (eqb k 2) 0 0 (ne-eqb k 2 b) refl))
 
 -- the type of a block that has a length
-pub data Kind (k : ℕ) : Type 0 where
-  is-data : k ≡ 1 → Kind k
-  is-time : k ≡ 2 → Kind k
-  is-none : (k ≡ 1 → ⊥) → (k ≡ 2 → ⊥) → Kind k
+pub data BlockType (k : ℕ) : Type 0 where
+  is-data : k ≡ 1 → BlockType k
+  is-time : k ≡ 2 → BlockType k
+  is-none : (k ≡ 1 → ⊥) → (k ≡ 2 → ⊥) → BlockType k
 
-kind-by : (k : ℕ) (a b : Bool) → eqb k 1 ≡ a → eqb k 2 ≡ b → Kind k
-kind-by k true b p q = is-data (eqb-true _ _ p)
-kind-by k false true p q = is-time (eqb-true _ _ q)
-kind-by k false false p q = is-none (eqb-false _ _ p) (eqb-false _ _ q)
+block-type-by : (k : ℕ) (a b : Bool) → eqb k 1 ≡ a → eqb k 2 ≡ b → BlockType k
+block-type-by k true b p q = is-data (eqb-true _ _ p)
+block-type-by k false true p q = is-time (eqb-true _ _ q)
+block-type-by k false false p q = is-none (eqb-false _ _ p) (eqb-false _ _ q)
 
-pub kind-of : (k : ℕ) → Kind k
-kind-of k = kind-by k _ _ refl refl
+pub block-type : (k : ℕ) → BlockType k
+block-type k = block-type-by k _ _ refl refl
 
 -- what is found in the rest of the file
 module _ (c at : ℕ) (t : List ℕ) where
@@ -59,13 +59,13 @@ module _ (c at : ℕ) (t : List ℕ) where
   unfolding foundOf
   found-end h = rw (eq-eqb (length t) 0 h)
 
-  pub found-data : (length t ≡ 0 → ⊥) → kindIn t ≡ 1 → foundOf c at t ≡ Data (counterIn t) (recordPlace at) (eqb (counterIn t) c)
+  pub found-data : (length t ≡ 0 → ⊥) → typeIn t ≡ 1 → foundOf c at t ≡ Data (counterIn t) (recordPlace at) (eqb (counterIn t) c)
   unfolding foundOf
-  found-data h e = rw (ne-eqb (length t) 0 h, eq-eqb (kindIn t) 1 e)
+  found-data h e = rw (ne-eqb (length t) 0 h, eq-eqb (typeIn t) 1 e)
 
-  pub found-time : (length t ≡ 0 → ⊥) → (kindIn t ≡ 1 → ⊥) → foundOf c at t ≡ Time (counterIn t) (timeIn t) (eqb (counterIn t) c)
+  pub found-time : (length t ≡ 0 → ⊥) → (typeIn t ≡ 1 → ⊥) → foundOf c at t ≡ Time (counterIn t) (timeIn t) (eqb (counterIn t) c)
   unfolding foundOf
-  found-time h e = rw (ne-eqb (length t) 0 h, ne-eqb (kindIn t) 1 e)
+  found-time h e = rw (ne-eqb (length t) 0 h, ne-eqb (typeIn t) 1 e)
 
 -- the number of the rest of the file, and what follows where it is 0
 module _ (l : ℕ) (t : List ℕ) where
@@ -73,15 +73,15 @@ module _ (l : ℕ) (t : List ℕ) where
   unfolding restNumber
   rest-none h = search order depth 9
 
-  pub rest-unknown : (length t ≡ 0 → ⊥) → blockLen l (kindIn t) ≡ 0 → 25 ≡ restNumber l t
+  pub rest-unknown : (length t ≡ 0 → ⊥) → blockLen l (typeIn t) ≡ 0 → 25 ≡ restNumber l t
   unfolding restNumber
   rest-unknown h e = search order depth 9
 
-  pub rest-whole : (length t ≡ 0 → ⊥) → (blockLen l (kindIn t) ≡ 0 → ⊥) → blockLen l (kindIn t) ≤ length t → 0 ≡ restNumber l t
+  pub rest-whole : (length t ≡ 0 → ⊥) → (blockLen l (typeIn t) ≡ 0 → ⊥) → blockLen l (typeIn t) ≤ length t → 0 ≡ restNumber l t
   unfolding restNumber
   rest-whole h a b = search order depth 12
 
-  rest-known : (length t ≡ 0 → ⊥) → restNumber l t ≡ 0 → (blockLen l (kindIn t) ≡ 0 → ⊥) × (blockLen l (kindIn t) ≤ length t)
+  rest-known : (length t ≡ 0 → ⊥) → restNumber l t ≡ 0 → (blockLen l (typeIn t) ≡ 0 → ⊥) × (blockLen l (typeIn t) ≤ length t)
   unfolding restNumber
   rest-known h e =
       let a = if-zero 24 _ _ (if-skip 0 _ _ (ne-eqb (length t) 0 h) e) in
@@ -95,16 +95,16 @@ block-end l c at t h = block-stands _ at _ (sym (rest-none l t h)) ∙ found-end
 
 -- known blocks have two bytes at least
 two-bytes : (l k : ℕ) → (blockLen l k ≡ 0 → ⊥) → 2 ≤ blockLen l k
-two-bytes l k h = by (kind-of k)
+two-bytes l k h = by (block-type k)
   where
-    by : Kind k → 2 ≤ blockLen l k
+    by : BlockType k → 2 ≤ blockLen l k
     by (is-data e) = omega (arith, data-len l k e)
     by (is-time e) = omega (arith, time-len l k e)
     by (is-none a b) = absurd (h (no-len l k a b))
 
 -- so the rest of a file that no number refuses is not one byte
 pub rest-two : (l : ℕ) (t : List ℕ) → restNumber l t ≡ 0 → length t ≡ 1 → ⊥
-rest-two l t e h = let k = rest-known l t (λ z. omega arith) e in omega (arith, two-bytes l (kindIn t) (k .0), k .1)
+rest-two l t e h = let k = rest-known l t (λ z. omega arith) e in omega (arith, two-bytes l (typeIn t) (k .0), k .1)
 
 -- a place of a file
 module _ (l n : ℕ) (f : List ℕ) (at : ℕ) where
@@ -123,18 +123,18 @@ module _ (l n : ℕ) (f : List ℕ) (at : ℕ) where
   at-end-of h = at-within (omega arith) ∙ block-end l _ at (drop at f) (omega (arith, length-drop at f))
 
 -- what a block's answer says
-judged-values : (n at : ℕ) (b : Block) (v : BlockAnswer) → blockAnswer b ≡ v → blockAnswer (judged Refused n at b) ≡ judged noBlock n at v
+judged-values : (n at : ℕ) (b : Block) (v : BlockAnswer) → blockAnswer b ≡ v → blockAnswer (judged Refused n at b) ≡ judged (noBlock refusedKind) n at v
 unfolding judged blockAnswer
 judged-values zero at b v e = e
 judged-values (suc n) at b v e = refl
 
 found-values : (c at : ℕ) (t : List ℕ) → blockAnswer (foundOf c at t) ≡ foundValues c at t
 unfolding foundOf foundValues blockAnswer
-found-values c at t = by (eqb (length t) 0) (eqb (kindIn t) 1)
+found-values c at t = by (eqb (length t) 0) (eqb (typeIn t) 1)
   where
     by : (a b : Bool)
         → blockAnswer (cond a End (cond b (Data (counterIn t) (recordPlace at) (eqb (counterIn t) c)) (Time (counterIn t) (timeIn t) (eqb (counterIn t) c))))
-        ≡ cond a (noBlock 0 0) (cond b (dataValues c at t) (timeValues c t))
+        ≡ cond a (noBlock endKind 0 0) (cond b (dataValues c at t) (timeValues c t))
     by true b = refl
     by false true = refl
     by false false = refl
@@ -148,9 +148,9 @@ block-means l n f at r e =
 -- what stands at a place of a file after n blocks, and the facts of each case; t is the rest of the file from there on
 pub data View (l n : ℕ) (f : List ℕ) (at : ℕ) (t : List ℕ) : Type 0 where
   at-end : at ≡ length f → readBlockOf l n f at ≡ End → View l n f at t
-  of-data : kindIn t ≡ 1 → at + (l + 2) ≤ length f
+  of-data : typeIn t ≡ 1 → at + (l + 2) ≤ length f
       → readBlockOf l n f at ≡ Data (counterIn t) (recordPlace at) (eqb (counterIn t) (counterAfter n)) → View l n f at t
-  of-time : kindIn t ≡ 2 → at + 6 ≤ length f
+  of-time : typeIn t ≡ 2 → at + 6 ≤ length f
       → readBlockOf l n f at ≡ Time (counterIn t) (timeIn t) (eqb (counterIn t) (counterAfter n)) → View l n f at t
   of-refusal : (m : ℕ) → (m ≡ 0 → ⊥) → readBlockOf l n f at ≡ Refused m at → View l n f at t
 
@@ -167,16 +167,16 @@ module _ (l n : ℕ) (f : List ℕ) (at : ℕ) where
     unfolding blockOf
     whole z = at-within l n f at within ∙ block-stands _ at _ z
 
-    view-whole : Kind (kindIn t) → (length t ≡ 0 → ⊥) → restNumber l t ≡ 0 → View l n f at t
+    view-whole : BlockType (typeIn t) → (length t ≡ 0 → ⊥) → restNumber l t ≡ 0 → View l n f at t
     view-whole (is-data e) h z =
-        of-data e (omega (arith, rest-known l t h z .1, data-len l (kindIn t) e, length-drop at f)) (whole z ∙ found-data c at t h e)
+        of-data e (omega (arith, rest-known l t h z .1, data-len l (typeIn t) e, length-drop at f)) (whole z ∙ found-data c at t h e)
     view-whole (is-time e) h z =
-        of-time e (omega (arith, rest-known l t h z .1, time-len l (kindIn t) e, length-drop at f)) (whole z ∙ found-time c at t h (λ w. omega arith))
-    view-whole (is-none a b) h z = absurd (rest-known l t h z .0 (no-len l (kindIn t) a b))
+        of-time e (omega (arith, rest-known l t h z .1, time-len l (typeIn t) e, length-drop at f)) (whole z ∙ found-time c at t h (λ w. omega arith))
+    view-whole (is-none a b) h z = absurd (rest-known l t h z .0 (no-len l (typeIn t) a b))
 
     view-some : (m : ℕ) → restNumber l t ≡ m → (length t ≡ 0 → ⊥) → View l n f at t
     unfolding blockOf
-    view-some zero z h = view-whole (kind-of (kindIn t)) h z
+    view-some zero z h = view-whole (block-type (typeIn t)) h z
     view-some (suc m) z h =
         of-refusal (suc m) (λ w. omega arith)
         (at-within l n f at within ∙ sym (block-refused _ at _ (suc m) (sym z) (λ w. omega arith)))

@@ -7,7 +7,7 @@ use native.Mathlib.Omega.{arith}
 use lib.ListN.{length, length-append}
 use Rattle.frd_rules.specs.Header.{headerLen}
 use Rattle.frd_rules.specs.Block.{counterAfter, recordPlace, readBlockOf, blockAnswer, lengthOf}
-use Rattle.frd_rules.specs.Log.{Log, more, logFrom}
+use Rattle.frd_rules.specs.Log.{Log, logFrom}
 use Rattle.frd_rules.specs.Writing.{headerBytes, dataBytes, timeBytes}
 use Rattle.frd_rules.specs.RoundTrip.{HeaderBack, DataBack, TimeBack, LogBack}
 use Rattle.frd_rules.specs.RoundTrip.{Entry, aRecord, aTime, Writable, entriesBytes, logBytes, entryIn, entriesIn, AsExpected, AllAsExpected}

@@ -9,7 +9,7 @@ use lib.Seq.{drop-drop, length-take-le}
 use Rattle.wire.specs.BigEndian.{beOf, beAt, beBytes}
 use Rattle.wire.proofs.Numbers.{Bytes, bytes-take, bytes-drop, be-below, below-part, part-back}
 use Rattle.frd_rules.specs.Header.{headerLen, signaturePlace, signatureLen, name, version, numbersOf, signatureIn}
-use Rattle.frd_rules.specs.Block.{counterAfter, kindIn, counterIn, timeIn, readBlockOf, blockAnswer, lengthOf}
+use Rattle.frd_rules.specs.Block.{counterAfter, typeIn, counterIn, timeIn, readBlockOf, blockAnswer, lengthOf}
 use Rattle.frd_rules.specs.Log.{Log, logFrom}
 use Rattle.frd_rules.specs.Writing.{headerBytes, dataBytes, timeBytes}
 use Rattle.frd_rules.specs.RoundTrip.{Entry, Writable, entriesBytes, logBytes, entryIn, entriesIn, AsExpected, AllAsExpected, LogSame}
@@ -42,7 +42,7 @@ header-same f h k =
     (join 2 79 f _ _ (number-same 2 79 _ f h (omega arith) refl) refl)))))
 
 -- a block of either kind
-data-same : (l c : ℕ) (t : List ℕ) → kindIn t ≡ 1 → l + 2 ≤ length t → counterIn t ≡ c → dataBytes c (take l (drop 2 t)) ++ drop (l + 2) t ≡ t
+data-same : (l c : ℕ) (t : List ℕ) → typeIn t ≡ 1 → l + 2 ≤ length t → counterIn t ≡ c → dataBytes c (take l (drop 2 t)) ++ drop (l + 2) t ≡ t
 unfolding dataBytes
 data-same l c [] e h k = absurd (omega arith)
 data-same l c (a ∷ []) e h k = absurd (omega arith)
@@ -50,7 +50,7 @@ data-same l c (a ∷ b ∷ t) e h k =
     let z : l + 2 ≡ suc (suc l) = omega arith in
     rw (z, e, k, take-append-drop l t)
 
-time-same : (c : ℕ) (t : List ℕ) → kindIn t ≡ 2 → 6 ≤ length t → counterIn t ≡ c → Bytes t → timeBytes c (timeIn t) ++ drop 6 t ≡ t
+time-same : (c : ℕ) (t : List ℕ) → typeIn t ≡ 2 → 6 ≤ length t → counterIn t ≡ c → Bytes t → timeBytes c (timeIn t) ++ drop 6 t ≡ t
 unfolding timeBytes
 time-same c [] e h k w = absurd (omega arith)
 time-same c (a ∷ []) e h k w = absurd (omega arith)

@@ -8,7 +8,7 @@ use lib.Dec.{eqb, ltb}
 use lib.ListN.{length, getD, drop}
 use Rattle.wire.specs.Order.{_if_else_}
 use Rattle.wire.specs.BigEndian.{beAt}
-use Rattle.wire.specs.Log.{counterOf, judged}
+use Rattle.wire.specs.Log.{counterOf, judged, dataKind, timeKind, endKind, refusedKind}
 use Rattle.frd_rules.specs.declared.Block.{Block}
 use Rattle.frd_rules.specs.declared.Block.the-variants.{Data, Time, End, Refused}
 
@@ -21,12 +21,12 @@ abbrev pub counterAfter : ℕ → ℕ
 counterAfter n = counterOf counterModulus n
 
 -- the length of a block by its type, 0 for an unknown type
-unfoldable pub blockLen : (l kind : ℕ) → ℕ
-blockLen l kind = (l + 2) if eqb kind 1 else 6 if eqb kind 2 else 0
+unfoldable pub blockLen : (l type : ℕ) → ℕ
+blockLen l type = (l + 2) if eqb type 1 else 6 if eqb type 2 else 0
 
 -- type, counter and time of the block that t begins with
-abbrev pub kindIn : List ℕ → ℕ
-kindIn t = getD t 0 0
+abbrev pub typeIn : List ℕ → ℕ
+typeIn t = getD t 0 0
 
 abbrev pub counterIn : List ℕ → ℕ
 counterIn t = getD t 1 0
@@ -42,15 +42,15 @@ recordPlace at = at + 2
 unfoldable pub restNumber : ℕ → List ℕ → ℕ
 restNumber l t =
     0 if eqb (length t) 0
-    else 25 if eqb (blockLen l (kindIn t)) 0
-    else 20 if ltb (length t) (blockLen l (kindIn t))
+    else 25 if eqb (blockLen l (typeIn t)) 0
+    else 20 if ltb (length t) (blockLen l (typeIn t))
     else 0
 
 -- what t begins with where no number refuses it, and whether its counter is as expected
 unfoldable pub foundOf : (c at : ℕ) → List ℕ → Block
 foundOf c at t =
     cond (eqb (length t) 0) End
-    (cond (eqb (kindIn t) 1)
+    (cond (eqb (typeIn t) 1)
     (Data (counterIn t) (recordPlace at) (eqb (counterIn t) c))
     (Time (counterIn t) (timeIn t) (eqb (counterIn t) c)))
 
@@ -68,43 +68,43 @@ readBlockNumber l f at =
 unfoldable pub readBlockOf : (l n : ℕ) → List ℕ → ℕ → Block
 readBlockOf l n f at = judged Refused (readBlockNumber l f at) at (foundOf (counterAfter n) at (drop at f))
 
--- the paper's number and values of each case; `kind` is the block's type, and 0 where there is no block
+-- the kind, and the paper's number and values of each case
 pub record BlockAnswer : Type 0 where
-  pub number : ℕ
   pub kind : ℕ
+  pub number : ℕ
   pub counter : ℕ
   pub time : ℕ
   pub start : ℕ
   pub asExpected : Bool
   pub place : ℕ
 
--- no block: the end, whose number and place are 0, or a refusal, in which "every other number .. is 0, save that a block reader's refusal
--- names the block's place"
-abbrev pub noBlock : (number place : ℕ) → BlockAnswer
-noBlock n p = record { number = n; kind = 0; counter = 0; time = 0; start = 0; asExpected = false; place = p }
+-- no block, beside its kind: the end, whose number and place are 0, or a refusal, in which "every other number .. is 0, save that a block
+-- reader's refusal names the block's place"
+abbrev pub noBlock : (kind number place : ℕ) → BlockAnswer
+noBlock kind n p = record { kind = kind; number = n; counter = 0; time = 0; start = 0; asExpected = false; place = p }
 
 unfoldable pub blockAnswer : Block → BlockAnswer
-blockAnswer (Data c s e) = record { number = 0; kind = 1; counter = c; time = 0; start = s; asExpected = e; place = 0 }
-blockAnswer (Time c m e) = record { number = 0; kind = 2; counter = c; time = m; start = 0; asExpected = e; place = 0 }
-blockAnswer End = noBlock 0 0
-blockAnswer (Refused n p) = noBlock n p
+blockAnswer (Data c s e) = record { kind = dataKind; number = 0; counter = c; time = 0; start = s; asExpected = e; place = 0 }
+blockAnswer (Time c m e) = record { kind = timeKind; number = 0; counter = c; time = m; start = 0; asExpected = e; place = 0 }
+blockAnswer End = noBlock endKind 0 0
+blockAnswer (Refused n p) = noBlock refusedKind n p
 
 -- the same of a place of a file, by its bytes
 abbrev pub dataValues : (c at : ℕ) → List ℕ → BlockAnswer
 dataValues c at t =
-    record { number = 0; kind = 1; counter = counterIn t; time = 0; start = recordPlace at; asExpected = eqb (counterIn t) c; place = 0 }
+    record { kind = dataKind; number = 0; counter = counterIn t; time = 0; start = recordPlace at; asExpected = eqb (counterIn t) c; place = 0 }
 
 abbrev pub timeValues : ℕ → List ℕ → BlockAnswer
 timeValues c t =
-    record { number = 0; kind = 2; counter = counterIn t; time = timeIn t; start = 0; asExpected = eqb (counterIn t) c; place = 0 }
+    record { kind = timeKind; number = 0; counter = counterIn t; time = timeIn t; start = 0; asExpected = eqb (counterIn t) c; place = 0 }
 
 unfoldable pub foundValues : (c at : ℕ) → List ℕ → BlockAnswer
 foundValues c at t =
-    cond (eqb (length t) 0) (noBlock 0 0)
-    (cond (eqb (kindIn t) 1) (dataValues c at t) (timeValues c t))
+    cond (eqb (length t) 0) (noBlock endKind 0 0)
+    (cond (eqb (typeIn t) 1) (dataValues c at t) (timeValues c t))
 
 unfoldable pub blockResult : (l n : ℕ) → List ℕ → ℕ → BlockAnswer
-blockResult l n f at = judged noBlock (readBlockNumber l f at) at (foundValues (counterAfter n) at (drop at f))
+blockResult l n f at = judged (noBlock refusedKind) (readBlockNumber l f at) at (foundValues (counterAfter n) at (drop at f))
 
 -- how many bytes a block takes
 unfoldable pub lengthOf : ℕ → Block → ℕ

@@ -7,7 +7,7 @@ use mathlib.Core.List.{List, [], _∷_, _++_}
 use lib.ListN.{length, getD, take, drop}
 use Rattle.wire.specs.Log.{judged}
 use Rattle.frd_rules.specs.Header.{headerLen, signatureLen, version, numbersOf, signatureIn, readHeaderNumber, readHeaderOf}
-use Rattle.frd_rules.specs.Block.{counterAfter, blockLen, kindIn, recordPlace, blockOf, readBlockOf, lengthOf}
+use Rattle.frd_rules.specs.Block.{counterAfter, blockLen, typeIn, recordPlace, blockOf, readBlockOf, lengthOf}
 use Rattle.frd_rules.specs.Log.{Placed, Log, logOf}
 use Rattle.frd_rules.specs.Writing.{headerBytes, writeHeaderNumber, dataBytes, writeDataNumber, timeBytes, writeTimeNumber}
 use Rattle.frd_rules.specs.declared.Header.{Header}
@@ -51,7 +51,7 @@ TimeBack n time =
 -- a whole block does not depend on what follows it
 unfoldable pub BlockAlone : Type 0
 BlockAlone =
-    (l c at : ℕ) (t rest : List ℕ) → 0 < length t → blockLen l (kindIn t) ≤ length t
+    (l c at : ℕ) (t rest : List ℕ) → 0 < length t → blockLen l (typeIn t) ≤ length t
     → blockOf l c at (t ++ rest) ≡ blockOf l c at t
 
 -- ── What a log is written from, and what is read of it ──────────────────────────────────────────────────────────────

@@ -1,4 +1,5 @@
--- What the C structs hold: the paper's number and values of each case of an answer; in a refusal every other number is 0.
+-- What the C structs hold: the paper's number and values of each case of an answer; in a refusal every other number is 0, save a block's kind and
+-- place.
 use Prim.Native.Nat.{ℕ}
 use mathlib.Core.Bool.{Bool, true, false}
 use lib.IntN.{pos}
@@ -10,7 +11,7 @@ use Rattle.bus_rules.specs.declared.RequestRead.{RequestRead as RequestEnum}
 use Rattle.bus_rules.specs.declared.RequestRead.the-variants as A
 use Rattle.bus_rules.specs.Ident.{noParts}
 use Rattle.bus_rules.specs.Request.{noRequest}
-use Rattle.mlg_rules.specs.Block.{dataKind, markKind, endKind, refusedKind}
+use Rattle.wire.specs.Log.{dataKind, markKind, timeKind, endKind, refusedKind}
 use Rattle.mlg_rules.specs.declared.Head.{Head as MlgHead}
 use Rattle.mlg_rules.specs.declared.Head.the-variants as MH
 use Rattle.mlg_rules.specs.declared.Block.{Block as MlgEnum}
@@ -75,15 +76,13 @@ abbrev pub frdHeader : FrdHead → FrdHeader
 frdHeader (FH.Is h) = record { time = h .time; size = h .size; number = 0 }
 frdHeader (FH.Refused n) = record { time = 0; size = 0; number = n }
 
--- as of an MLG; a time block has a mark's kind
+-- no block: the end, or a refusal, which names the block's place
 abbrev pub noFrdBlock : (kind number place : ℕ) → FrdBlock
 noFrdBlock k n p = record { place = p; start = 0; len = 0; time = 0; number = n; kind = k; counter = 0; «as_expected» = 0 }
 
+-- a data block or a time
 abbrev pub foundFrdBlock : (kind counter time start len : ℕ) → Bool → FrdBlock
 foundFrdBlock k c m s n r = record { place = 0; start = s; len = n; time = m; number = 0; kind = k; counter = c; «as_expected» = flagOf r }
-
-abbrev pub timeKind : ℕ
-timeKind = markKind
 
 abbrev pub frdBlock : ℕ → FrdEnum → FrdBlock
 frdBlock l (FB.Data c s r) = foundFrdBlock dataKind c 0 s l r

@@ -10,7 +10,7 @@ use lib.ListN.{length, drop, length-append}
 use Rattle.wire.proofs.Numbers.{Bytes, bytes-drop}
 use Rattle.mlg_rules.specs.Layout.{layoutOf, headerLen}
 use Rattle.mlg_rules.specs.Header.{numbersOf, fieldsFrom, noHeader, readHeaderOf}
-use Rattle.mlg_rules.specs.Block.{counterAfter, kindIn, readBlockOf}
+use Rattle.mlg_rules.specs.Block.{counterAfter, typeIn, readBlockOf}
 use Rattle.mlg_rules.specs.Log.{lengthOf, logFrom, logOf}
 use Rattle.mlg_rules.specs.declared.Header.{Header}
 use Rattle.mlg_rules.specs.declared.Head.{Head}
@@ -53,9 +53,9 @@ module _ (h : Header) (f : List ℕ) (e : readHeaderOf f ≡ head.Is h) (g : Byt
   log-by : (k n at : ℕ) (b : Block) → readBlockOf (h .size) n f at ≡ b → Stands (h .size) n f at b → at ≤ length f → n + suc k ≤ 65537
       → ((to : ℕ) → to ≤ length f → Within k (n + 1) to) → Within (suc k) n at
   log-by k n at b q (a-block p some num r) i j next =
-      let go : IsBlock b = rw r (parts-block (kindIn (drop at f)) (counterAfter n) at (drop at f)) in
+      let go : IsBlock b = rw r (parts-block (typeIn (drop at f)) (counterAfter n) at (drop at f)) in
       let within = block-in-file h f e n at b q go in
-      let line = parts-line-length h f n (omega arith) (kindIn (drop at f)) (counterAfter n) at g (rw r at within) in
+      let line = parts-line-length h f n (omega arith) (typeIn (drop at f)) (counterAfter n) at g (rw r at within) in
       block-then k n at b q go (rw r line) (next (at + lengthOf (h .size) b) (at-fits (h .size) n f at b q go))
   log-by k n at b q (the-end p r) i j next =
       omega (arith, i, ap length (block-end h f k n at (q ∙ r)), end-line-length h f n (omega arith))

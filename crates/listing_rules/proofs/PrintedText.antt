@@ -25,9 +25,6 @@ printed-dot-high b h = let k : 32 ≤ b = omega arith in rw (le-leb 32 b k, lt-l
 abbrev pub Printed : List ℕ → List ℕ → ℕ → Type 0
 Printed text d i = take i d ++ printed (drop i text) ≡ printed text
 
-pub printed-none : (text d : List ℕ) → Printed text d 0
-printed-none text d = refl
-
 pub printed-more : (text d : List ℕ) (i v : ℕ) → i < length text → i < length d → v ≡ printedByte (getD text i 0) → Printed text d i
     → Printed text (set d i v) (i + 1)
 unfolding printed

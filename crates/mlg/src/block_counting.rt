@@ -1,14 +1,14 @@
 // The blocks of a log, one after the other.
-ghost use mathlib.Core.Path.{_≡_};
-ghost use Prim.Native.Nat.{ℕ};
-ghost use Rattle.mlg_rules.specs.Header.{headAnswer};
-ghost use Rattle.mlg_rules.specs.Block.{blockAnswer};
-ghost use Rattle.mlg_rules.specs.Log.{logOf, tallyOf};
 use crate::Block;
 use crate::Head;
 use crate::Tally;
 use crate::length_of;
 use crate::read_block;
+ghost use mathlib.Core.Path.{_≡_};
+ghost use Prim.Native.Nat.{ℕ};
+ghost use Rattle.mlg_rules.specs.Header.{headAnswer};
+ghost use Rattle.mlg_rules.specs.Block.{blockAnswer};
+ghost use Rattle.mlg_rules.specs.Log.{logOf, tallyOf};
 
 pub(crate) fn stop_number(b: Block) -> u8
     ensures { λ r. ⌜ ((l : ℕ) → r ≡ blockAnswer l b .number) ⌝ }

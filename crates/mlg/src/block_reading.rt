@@ -1,10 +1,10 @@
 // A block's number and parts.
+use crate::Block;
 ghost use mathlib.Core.Path.{_≡_};
 ghost use Prim.Native.Nat.{_+_, _<_, _≤_, _^_};
 ghost use lib.ListN.{length, getD};
 ghost use Rattle.wire.specs.Text.{textLen};
 ghost use Rattle.mlg_rules.specs.Block.{counterAfter, blockLen, textIn, lastOf, restNumber, partsOf, blockOf};
-use crate::Block;
 
 // A block's counter is the number of earlier blocks, modulo this.
 const COUNTER_MODULUS: u64 = 255;
@@ -16,7 +16,7 @@ pub(crate) fn counter_of(earlier: u64) -> u8
     (earlier % COUNTER_MODULUS) as u8
 }
 
-// Bytes of a block of a type, 0 for a type that is unknown.
+// Bytes of a block by its type, here `kind`; 0 for a type that is unknown.
 pub(crate) fn block_len(kind: u8, size: u16) -> usize
     ensures { λ r. ⌜ r ≡ blockLen size kind ⌝ }
 {

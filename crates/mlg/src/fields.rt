@@ -1,4 +1,5 @@
 // What a reader checks of the fields.
+use crate::layout::field_len;
 ghost use mathlib.Core.Path.{_≡_};
 ghost use Prim.Native.Nat.{_+_, _*_, _<_, _≤_, _^_};
 ghost use lib.ListN.{length, take, drop};
@@ -8,7 +9,6 @@ ghost use Rattle.mlg_rules.specs.Layout.{fieldLen};
 ghost use Rattle.mlg_rules.specs.Field.{fieldSize};
 ghost use Rattle.mlg_rules.specs.Area.{ended, areaOf};
 ghost use Rattle.mlg_rules.specs.Fields.{unended, textsNumber, namesNumber, fieldNumber, fieldsNumber, sizes};
-use crate::layout::field_len;
 
 pub(crate) fn unended(d: &[u8], at: usize, n: usize) -> bool
     requires { ⌜ (at + n ≤ length (now d)) × (at + n < 2 ^ 64) ⌝ }

@@ -1,16 +1,16 @@
 // A header's numbers, and the number that refuses it.
-ghost use mathlib.Core.Path.{_≡_};
-ghost use lib.ListN.{length};
-ghost use Rattle.wire.specs.BigEndian.{beAt};
-ghost use Rattle.mlg_rules.specs.Layout.{infoLen};
-ghost use Rattle.mlg_rules.specs.Fields.{fieldsNumber, sizes};
-ghost use Rattle.mlg_rules.specs.Header.{numbersOf, fieldsEnd, nameNumber, placesNumber, lastNumber, fieldsFrom, areaIn, readHeaderNumber};
 use crate::Header;
 use crate::fields::Checked;
 use crate::fields::check_fields;
 use crate::layout::field_len;
 use crate::layout::header_len;
 use crate::layout::info_len;
+ghost use mathlib.Core.Path.{_≡_};
+ghost use lib.ListN.{length};
+ghost use Rattle.wire.specs.BigEndian.{beAt};
+ghost use Rattle.mlg_rules.specs.Layout.{infoLen};
+ghost use Rattle.mlg_rules.specs.Fields.{fieldsNumber, sizes};
+ghost use Rattle.mlg_rules.specs.Header.{numbersOf, fieldsEnd, nameNumber, placesNumber, lastNumber, fieldsFrom, areaIn, readHeaderNumber};
 
 pub(crate) fn info_at(file: &[u8], version: u16) -> u32
     ensures { λ r. ⌜ r ≡ beAt (infoLen version) (now (file .entry)) 12 ⌝ }

@@ -1,4 +1,8 @@
 // The bytes of a header.
+use crate::Header;
+use crate::fields::check_fields;
+use crate::layout::field_len;
+use crate::layout::header_len;
 ghost use mathlib.Core.Path.{_≡_};
 ghost use Prim.Native.Nat.{_+_, _*_, _≤_};
 ghost use lib.ListN.{length};
@@ -9,10 +13,6 @@ ghost use Rattle.wire.specs.Put.{putOf};
 ghost use Rattle.wire.specs.Writer.{leaves};
 ghost use Rattle.mlg_rules.specs.Header.{bodyNumber};
 ghost use Rattle.mlg_rules.specs.Writing.{numberBytes, headerFor, headerBytes, lengthsNumber, writeHeaderNumber};
-use crate::Header;
-use crate::fields::check_fields;
-use crate::layout::field_len;
-use crate::layout::header_len;
 
 pub(crate) fn info_start(at: usize, info: &[u8]) -> usize
     ensures { λ r. ⌜ r ≡ infoStart at (now (info .entry)) ⌝ }

@@ -1,9 +1,9 @@
 // Parts of a file as places and lengths.
+use crate::Header;
+use crate::Span;
 ghost use mathlib.Core.Path.{_≡_};
 ghost use Rattle.wire.specs.Log.{spanWith};
 ghost use Rattle.mlg_rules.specs.Parts.{namesEnd};
-use crate::Header;
-use crate::Span;
 
 pub(crate) fn span_of(number: u8, start: usize, len: usize) -> Span
     ensures { λ r. ⌜ r ≡ spanWith number start len ⌝ }

@@ -1,5 +1,5 @@
 -- A whole block does not depend on what follows it.
-use Prim.Native.Nat.{ℕ, zero, suc, _+_, _-_, _≤_}
+use Prim.Native.Nat.{ℕ, zero, suc, _+_, _≤_}
 use mathlib.Core.Path.{_≡_, refl, sym, ap, _∙_}
 use mathlib.Core.List.{List, _++_}
 use native.Mathlib.Omega.{arith}
@@ -9,7 +9,7 @@ use lib.ListN.{length, length-append, List·getD-append}
 use Rattle.wire.proofs.Orders.{if-yes}
 use Rattle.wire.proofs.Parts.{part-append}
 use Rattle.wire.specs.Log.{judged}
-use Rattle.mlg_rules.specs.Block.{blockLen, kindIn, lastOf, restNumber, partsOf}
+use Rattle.mlg_rules.specs.Block.{blockLen, typeIn, lastOf, restNumber, partsOf}
 use Rattle.mlg_rules.specs.RoundTrip.{BlockAlone}
 use Rattle.mlg_rules.specs.declared.Block.the-variants.{Refused}
 use Rattle.mlg_rules.proofs.BlockLaws.{block-here}
@@ -31,23 +31,23 @@ module _ (l : ℕ) (t r : List ℕ) where
   parts-alone (suc (suc k)) c at e h = absurd (e refl)
 
   -- a type that is unknown
-  unknown : (s : List ℕ) (n : ℕ) → blockLen l (kindIn s) ≡ n → n ≡ 0 → restNumber l s ≡ 25
+  unknown : (s : List ℕ) (n : ℕ) → blockLen l (typeIn s) ≡ n → n ≡ 0 → restNumber l s ≡ 25
   unfolding restNumber
   unknown s n e z = sym (if-yes 25 _ _ (eq-eqb _ _ (e ∙ z)))
 
-  module _ (first : kindIn (t ++ r) ≡ kindIn t) where
-    number-alone : (blockLen l (kindIn t) ≡ 0 → ⊥) → blockLen l (kindIn t) ≤ length t → restNumber l (t ++ r) ≡ restNumber l t
+  module _ (first : typeIn (t ++ r) ≡ typeIn t) where
+    number-alone : (blockLen l (typeIn t) ≡ 0 → ⊥) → blockLen l (typeIn t) ≤ length t → restNumber l (t ++ r) ≡ restNumber l t
     unfolding restNumber
     number-alone e h =
-        rw (first, last-alone (kindIn t) e h, le-ltb (length (t ++ r)) (blockLen l (kindIn t)) (le-trans h longer), le-ltb (length t) (blockLen l (kindIn t)) h)
+        rw (first, last-alone (typeIn t) e h, le-ltb (length (t ++ r)) (blockLen l (typeIn t)) (le-trans h longer), le-ltb (length t) (blockLen l (typeIn t)) h)
 
-    judged-alone : (n c at : ℕ) → blockLen l (kindIn t) ≡ n → blockLen l (kindIn t) ≤ length t
-        → judged Refused (restNumber l (t ++ r)) at (partsOf (kindIn (t ++ r)) c at (t ++ r)) ≡ judged Refused (restNumber l t) at (partsOf (kindIn t) c at t)
+    judged-alone : (n c at : ℕ) → blockLen l (typeIn t) ≡ n → blockLen l (typeIn t) ≤ length t
+        → judged Refused (restNumber l (t ++ r)) at (partsOf (typeIn (t ++ r)) c at (t ++ r)) ≡ judged Refused (restNumber l t) at (partsOf (typeIn t) c at t)
     unfolding judged
     judged-alone zero c at e h = rw (unknown (t ++ r) 0 (ap (blockLen l) first ∙ e) refl, unknown t 0 e refl)
     judged-alone (suc n) c at e h =
-        let k : blockLen l (kindIn t) ≡ 0 → ⊥ = λ z. omega arith in
-        rw (number-alone k h, first, parts-alone (kindIn t) c at k h)
+        let k : blockLen l (typeIn t) ≡ 0 → ⊥ = λ z. omega arith in
+        rw (number-alone k h, first, parts-alone (typeIn t) c at k h)
 
 pub block-alone : BlockAlone
 unfolding BlockAlone

@@ -10,10 +10,10 @@ use lib.ListN.{length, drop}
 use Rattle.wire.specs.Sum.{sumOf}
 use Rattle.wire.specs.Text.{textLen}
 use Rattle.wire.proofs.Orders.{if-yes, if-no, if-zero, not-no, not-false}
-use Rattle.wire.specs.Log.{judged}
-use Rattle.mlg_rules.specs.Block.{counterAfter, blockLen, kindIn, counterIn, timeIn, recordIn, sumIn, textIn, lastOf}
+use Rattle.wire.specs.Log.{judged, refusedKind}
+use Rattle.mlg_rules.specs.Block.{counterAfter, blockLen, typeIn, counterIn, timeIn, recordIn, sumIn, textIn, lastOf}
 use Rattle.mlg_rules.specs.Block.{restNumber, partsOf, blockOf, placeNumber, readBlockOf}
-use Rattle.mlg_rules.specs.Block.{BlockAnswer, refusedKind, noBlock, blockAnswer, partValues, restResult, blockResult}
+use Rattle.mlg_rules.specs.Block.{BlockAnswer, noBlock, blockAnswer, partValues, restResult, blockResult}
 use Rattle.mlg_rules.specs.declared.Block.{Block}
 use Rattle.mlg_rules.specs.declared.Block.the-variants.{Data, Mark, End, Refused}
 
@@ -59,7 +59,7 @@ module _ (l c at : ℕ) where
   block-end [] h = refl
   block-end (b ∷ t) h = absurd (omega arith)
 
-  pub block-here : (t : List ℕ) → (length t ≡ 0 → ⊥) → blockOf l c at t ≡ judged Refused (restNumber l t) at (partsOf (kindIn t) c at t)
+  pub block-here : (t : List ℕ) → (length t ≡ 0 → ⊥) → blockOf l c at t ≡ judged Refused (restNumber l t) at (partsOf (typeIn t) c at t)
   unfolding blockOf
   block-here [] h = absurd (h refl)
   block-here (b ∷ t) h = refl
@@ -93,7 +93,7 @@ unfolding readBlockOf blockResult
 block-means l n f at e = (e, ap (blockAnswer l) e ∙ judged-values l _ at _ _ (rest-values l (counterAfter n) at (drop at f)))
 
 -- what a block that no number refuses keeps to
-pub whole : (l : ℕ) (t : List ℕ) → restNumber l t ≡ 0 → (blockLen l (kindIn t) ≡ 0 → ⊥) × (blockLen l (kindIn t) ≤ length t) × (lastOf (kindIn t) l t ≡ 0)
+pub whole : (l : ℕ) (t : List ℕ) → restNumber l t ≡ 0 → (blockLen l (typeIn t) ≡ 0 → ⊥) × (blockLen l (typeIn t) ≤ length t) × (lastOf (typeIn t) l t ≡ 0)
 unfolding restNumber
 whole l t e =
     let a = if-zero 24 _ _ e in
@@ -112,14 +112,14 @@ parts-mark zero c at t e = absurd (e refl)
 parts-mark (suc k) c at t e = refl
 
 -- how long a block that no number refuses is, by its type
-pub data-whole : (l : ℕ) (t : List ℕ) → restNumber l t ≡ 0 → kindIn t ≡ 0 → l + 5 ≤ length t
-data-whole l t e k = rw (← len-data l (kindIn t) k) (whole l t e .1)
+pub data-whole : (l : ℕ) (t : List ℕ) → restNumber l t ≡ 0 → typeIn t ≡ 0 → l + 5 ≤ length t
+data-whole l t e k = rw (← len-data l (typeIn t) k) (whole l t e .1)
 
-pub mark-whole : (l : ℕ) (t : List ℕ) → restNumber l t ≡ 0 → (kindIn t ≡ 0 → ⊥) → 54 ≤ length t
-mark-whole l t e k = rw (← len-mark l (kindIn t) (known-mark l (kindIn t) (whole l t e .0) k)) (whole l t e .1)
+pub mark-whole : (l : ℕ) (t : List ℕ) → restNumber l t ≡ 0 → (typeIn t ≡ 0 → ⊥) → 54 ≤ length t
+mark-whole l t e k = rw (← len-mark l (typeIn t) (known-mark l (typeIn t) (whole l t e .0) k)) (whole l t e .1)
 
 -- five bytes at least
-pub least : (l : ℕ) (t : List ℕ) (b : Bool) → eqb (kindIn t) 0 ≡ b → restNumber l t ≡ 0 → 5 ≤ length t
+pub least : (l : ℕ) (t : List ℕ) (b : Bool) → eqb (typeIn t) 0 ≡ b → restNumber l t ≡ 0 → 5 ≤ length t
 least l t true k e = omega (arith, data-whole l t e (eqb-true _ _ k))
 least l t false k e = omega (arith, mark-whole l t e (eqb-false _ _ k))
 
@@ -135,21 +135,21 @@ last-mark zero l t e s = absurd (omega arith)
 last-mark (suc k) l t e s = if-no _ _ 0 0 (lt-leb _ _ s) refl
 
 -- a block that stands
-pub data-stands : (l : ℕ) (t : List ℕ) → kindIn t ≡ 0 → l + 5 ≤ length t → sumOf (recordIn l t) ≡ sumIn l t → restNumber l t ≡ 0
+pub data-stands : (l : ℕ) (t : List ℕ) → typeIn t ≡ 0 → l + 5 ≤ length t → sumOf (recordIn l t) ≡ sumIn l t → restNumber l t ≡ 0
 unfolding restNumber
 data-stands l t k h s =
-    let e = len-data l (kindIn t) k in
-    sym (if-no 25 _ _ 0 (ne-eqb _ _ (λ (z : blockLen l (kindIn t) ≡ 0). omega arith))
-    (if-no 20 _ _ 0 (le-ltb (length t) (blockLen l (kindIn t)) (rw e h)) (last-data (kindIn t) l t k s)))
+    let e = len-data l (typeIn t) k in
+    sym (if-no 25 _ _ 0 (ne-eqb _ _ (λ (z : blockLen l (typeIn t) ≡ 0). omega arith))
+    (if-no 20 _ _ 0 (le-ltb (length t) (blockLen l (typeIn t)) (rw e h)) (last-data (typeIn t) l t k s)))
 
-pub mark-stands : (l : ℕ) (t : List ℕ) → kindIn t ≡ 1 → 54 ≤ length t → textLen (textIn t) < 50 → restNumber l t ≡ 0
+pub mark-stands : (l : ℕ) (t : List ℕ) → typeIn t ≡ 1 → 54 ≤ length t → textLen (textIn t) < 50 → restNumber l t ≡ 0
 unfolding restNumber
 mark-stands l t k h s =
-    let e = len-mark l (kindIn t) k in
-    sym (if-no 25 _ _ 0 (ne-eqb _ _ (λ (z : blockLen l (kindIn t) ≡ 0). omega arith))
-    (if-no 20 _ _ 0 (le-ltb (length t) (blockLen l (kindIn t)) (rw e h)) (last-mark (kindIn t) l t k s)))
+    let e = len-mark l (typeIn t) k in
+    sym (if-no 25 _ _ 0 (ne-eqb _ _ (λ (z : blockLen l (typeIn t) ≡ 0). omega arith))
+    (if-no 20 _ _ 0 (le-ltb (length t) (blockLen l (typeIn t)) (rw e h)) (last-mark (typeIn t) l t k s)))
 
-pub here-stands : (l c at : ℕ) (t : List ℕ) → (length t ≡ 0 → ⊥) → restNumber l t ≡ 0 → blockOf l c at t ≡ partsOf (kindIn t) c at t
+pub here-stands : (l c at : ℕ) (t : List ℕ) → (length t ≡ 0 → ⊥) → restNumber l t ≡ 0 → blockOf l c at t ≡ partsOf (typeIn t) c at t
 here-stands l c at t h z = block-here l c at t h ∙ judged-yes _ at _ z
 
 -- and what then holds of it

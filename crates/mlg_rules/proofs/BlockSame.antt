@@ -1,5 +1,5 @@
 -- A block rewritten from what was read.
-use Prim.Native.Nat.{ℕ, zero, suc, _+_, _*_, _-_, _/_, _%_, _<_}
+use Prim.Native.Nat.{ℕ, zero, suc, _+_, _*_, _/_, _%_, _<_}
 use mathlib.Core.Path.{_≡_, refl, sym, ap, _∙_}
 use mathlib.Core.List.{List, [], _∷_, _++_}
 use native.Mathlib.Omega.{arith}
@@ -8,7 +8,7 @@ use lib.Seq.{take-suc}
 use Rattle.wire.specs.BigEndian.{beBytes}
 use Rattle.wire.specs.Sum.{sumOf}
 use Rattle.wire.specs.Text.{textLen}
-use Rattle.mlg_rules.specs.Block.{blockLen, kindIn, counterIn, sumIn}
+use Rattle.mlg_rules.specs.Block.{blockLen, typeIn, counterIn, sumIn}
 use Rattle.mlg_rules.specs.Writing.{startBytes, dataBytes, paddedText, markBytes}
 use Rattle.mlg_rules.specs.Entries.{rewritten, PaddedHere}
 use Rattle.mlg_rules.specs.RoundTrip.{BlockSame}
@@ -43,8 +43,8 @@ second p q e = ap (λ (l : List ℕ). getD l 1 0) e
 
 abbrev Same : ℕ → ℕ → List ℕ → Type 0
 Same l c t =
-    (((counterIn t ≡ c) × PaddedHere (kindIn t) t) → rewritten (kindIn t) l c t ≡ take (blockLen l (kindIn t)) t)
-    × (rewritten (kindIn t) l c t ≡ take (blockLen l (kindIn t)) t → (counterIn t ≡ c) × PaddedHere (kindIn t) t)
+    (((counterIn t ≡ c) × PaddedHere (typeIn t) t) → rewritten (typeIn t) l c t ≡ take (blockLen l (typeIn t)) t)
+    × (rewritten (typeIn t) l c t ≡ take (blockLen l (typeIn t)) t → (counterIn t ≡ c) × PaddedHere (typeIn t) t)
 
 module _ (l c b x y : ℕ) (u : List ℕ) (hx : x < 256) (hy : y < 256) where
   data-same : l < length u → sumOf (take l u) ≡ getD u l 0 → Same l c (0 ∷ b ∷ x ∷ y ∷ u)

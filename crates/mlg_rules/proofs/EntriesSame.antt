@@ -10,7 +10,7 @@ use Rattle.wire.specs.Text.{textLen}
 use Rattle.wire.proofs.Numbers.{bytes-drop}
 use Rattle.wire.proofs.Parts.{take-length-le}
 use Rattle.wire.proofs.Texts.{text-most}
-use Rattle.mlg_rules.specs.Block.{counterAfter, blockLen, kindIn, counterIn, timeIn, textIn, restNumber, partsOf, readBlockOf}
+use Rattle.mlg_rules.specs.Block.{counterAfter, blockLen, typeIn, counterIn, timeIn, textIn, restNumber, partsOf, readBlockOf}
 use Rattle.mlg_rules.specs.Writing.{dataBytes, paddedText, markBytes, writeMarkNumber}
 use Rattle.mlg_rules.specs.Log.{Log, lengthOf, logFrom}
 use Rattle.mlg_rules.specs.Entries.{Entry, Writable, entriesBytes, entryIn, entriesIn}
@@ -64,12 +64,12 @@ module _ (l : ℕ) (f : List ℕ) (bytes : (i : ℕ) → getD f i 0 < 256) where
   time-below : (at : ℕ) → timeIn (drop at f) < 2 ^ 16
   time-below at = two-below (drop 2 (drop at f)) (bytes-drop 2 (drop at f) (bytes-from at f bytes))
 
-  accepted : (k c at : ℕ) (es : List Entry) → kindIn (drop at f) ≡ k → restNumber l (drop at f) ≡ 0
+  accepted : (k c at : ℕ) (es : List Entry) → typeIn (drop at f) ≡ k → restNumber l (drop at f) ≡ 0
       → Writable l es → Writable l (entryIn l f (partsOf k c at (drop at f)) ++ es)
   unfolding partsOf
   accepted zero c at es e num ws = (data-accepted l _ (record-length at (data-whole l (drop at f) num e)), time-below at, ws)
   accepted (suc k) c at es e num ws =
-      (text-accepted at (text-ends (kindIn (drop at f)) l (drop at f) (λ z. omega arith) (whole l (drop at f) num .2)), time-below at, ws)
+      (text-accepted at (text-ends (typeIn (drop at f)) l (drop at f) (λ z. omega arith) (whole l (drop at f) num .2)), time-below at, ws)
 
   abbrev Same : Log → ℕ → ℕ → Type 0
   Same log n at = log .ending ≡ End → AllAsExpected (log .blocks) → AllPadded f (log .blocks)
@@ -86,27 +86,27 @@ module _ (l : ℕ) (f : List ℕ) (bytes : (i : ℕ) → getD f i 0 < 256) where
   -- one block
   module _ (n at : ℕ) (num : restNumber l (drop at f) ≡ 0) where
     abbrev b : Block
-    b = partsOf (kindIn (drop at f)) (counterAfter n) at (drop at f)
+    b = partsOf (typeIn (drop at f)) (counterAfter n) at (drop at f)
 
-    len : lengthOf l b ≡ blockLen l (kindIn (drop at f))
-    len = parts-length (kindIn (drop at f)) l (counterAfter n) at (drop at f) (whole l (drop at f) num .0)
+    len : lengthOf l b ≡ blockLen l (typeIn (drop at f))
+    len = parts-length (typeIn (drop at f)) l (counterAfter n) at (drop at f) (whole l (drop at f) num .0)
 
-    here : AsExpected b → Padded f b → rewritten (kindIn (drop at f)) l (counterAfter n) (drop at f) ≡ take (blockLen l (kindIn (drop at f))) (drop at f)
+    here : AsExpected b → Padded f b → rewritten (typeIn (drop at f)) l (counterAfter n) (drop at f) ≡ take (blockLen l (typeIn (drop at f))) (drop at f)
     unfolding BlockSame
     here r p =
         block-same l (counterAfter n) (drop at f) (bytes-from at f bytes) num .0
-        (as-expected-here (kindIn (drop at f)) (counterAfter n) at (drop at f) r, padded-here (kindIn (drop at f)) (counterAfter n) at f p)
+        (as-expected-here (typeIn (drop at f)) (counterAfter n) at (drop at f) r, padded-here (typeIn (drop at f)) (counterAfter n) at f p)
 
     same-more : (log next : Log) → Next log at b next → Same next (n + 1) (at + lengthOf l b) → Same log n at
     same-more log next g ih = λ z r p.
         let r′ = rw (g .0) at r in
         let p′ = rw (g .0) at p in
         let rest = ih (sym (g .1) ∙ z) (r′ .1) (p′ .1) in (
-          rw (g .0) (accepted (kindIn (drop at f)) (counterAfter n) at (entriesIn l f (next .blocks)) refl num (rest .0)),
+          rw (g .0) (accepted (typeIn (drop at f)) (counterAfter n) at (entriesIn l f (next .blocks)) refl num (rest .0)),
           ap (λ (bs : List (ℕ × Block)). entriesBytes n (entriesIn l f bs)) (g .0)
-              ∙ entry-bytes (kindIn (drop at f)) l n at f (entriesIn l f (next .blocks))
-              ∙ rw (rest .1, here (r′ .0) (p′ .0), len, ← drop-drop (blockLen l (kindIn (drop at f))) at f)
-              (take-append-drop (blockLen l (kindIn (drop at f))) (drop at f)),
+              ∙ entry-bytes (typeIn (drop at f)) l n at f (entriesIn l f (next .blocks))
+              ∙ rw (rest .1, here (r′ .0) (p′ .0), len, ← drop-drop (blockLen l (typeIn (drop at f))) at f)
+              (take-append-drop (blockLen l (typeIn (drop at f))) (drop at f)),
         )
 
   same-by : (k n at : ℕ) → Stands l n f at (readBlockOf l n f at) → length f - at < suc k
@@ -116,7 +116,7 @@ module _ (l : ℕ) (f : List ℕ) (bytes : (i : ℕ) → getD f i 0 < 256) where
   same-by k n at (a-block h some num e) fuel ih =
       let s = step l n f at h num in
       let w = len n at num in
-      same-more n at num _ _ (log-more k l n f at (b n at num) e (parts-block (kindIn (drop at f)) (counterAfter n) at (drop at f)))
+      same-more n at num _ _ (log-more k l n f at (b n at num) e (parts-block (typeIn (drop at f)) (counterAfter n) at (drop at f)))
       (ih (n + 1) (at + lengthOf l (b n at num)) (omega arith) (omega arith))
 
   pub same-from : (k n at : ℕ) → at ≤ length f → length f - at < k → Same (logFrom k l n f at) n at

@@ -1,5 +1,5 @@
 -- A header that was written, followed by any bytes, reads back as given.
-use Prim.Native.Nat.{ℕ, _+_, _*_, _-_, _/_, _%_, _^_, _≤_, _<_}
+use Prim.Native.Nat.{ℕ, _+_, _*_, _-_, _%_, _^_, _≤_, _<_}
 use mathlib.Core.Path.{_≡_, refl, sym, ap, _∙_}
 use mathlib.Core.Bool.{Bool, true, false}
 use mathlib.Core.List.{List, [], _∷_, _++_, append-assoc}
@@ -15,8 +15,7 @@ use Rattle.wire.proofs.Answers.{stands}
 use Rattle.wire.proofs.Orders.{if-yes, if-no, not-no, else-none}
 use Rattle.wire.proofs.Texts.{text-back, text-most}
 use Rattle.mlg_rules.specs.Layout.{served, layoutOf, headerLen, fieldLen}
-use Rattle.mlg_rules.specs.Area.{ended, areaOf, infoStart}
-use Rattle.mlg_rules.specs.Fields.{sizes}
+use Rattle.mlg_rules.specs.Area.{ended, areaOf}
 use Rattle.mlg_rules.specs.Header.{numbersOf, fieldsEnd, nameNumber, placesNumber, lastNumber, bodyNumber, areaIn, readHeaderNumber, readHeaderOf}
 use Rattle.mlg_rules.specs.Writing.{numberBytes, headerFor, headerBytes}
 use Rattle.mlg_rules.specs.Parts.{fieldsIn, namesEnd, namesIn, infoLength, infoIn}

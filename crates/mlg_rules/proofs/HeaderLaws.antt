@@ -1,5 +1,5 @@
 -- What a header's places keep to where no number refuses them.
-use Prim.Native.Nat.{ℕ, _-_, _≤_, _<_}
+use Prim.Native.Nat.{ℕ, _≤_, _<_}
 use mathlib.Core.Path.{_≡_, refl}
 use mathlib.Core.List.{List}
 use borrow.Author.Tests.{ltb-false, leb-false, ne-eqb}

@@ -1,5 +1,4 @@
 pub mod Computing
-pub mod ShownExample
 pub mod LayoutLaws
 pub mod TypeLaws
 pub mod RawLaws
@@ -25,4 +24,4 @@ pub mod HeaderSame
 pub mod LogSame
 pub mod TallyLaws
 pub mod SpanLaws
-pub mod Example
+pub mod Examples

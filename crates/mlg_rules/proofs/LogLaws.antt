@@ -1,5 +1,5 @@
 -- A log, block by block.
-use Prim.Native.Nat.{ℕ, zero, suc, _+_, _-_, _≤_, _<_}
+use Prim.Native.Nat.{ℕ, zero, suc, _+_, _≤_, _<_}
 use mathlib.Core.Path.{_≡_, refl, sym, ap, _∙_}
 use mathlib.Core.Bool.{Bool, true, false}
 use mathlib.Core.List.{List, [], _∷_}
@@ -7,7 +7,7 @@ use native.Mathlib.Omega.{arith}
 use borrow.Author.Tests.{ltb-true, ltb-false}
 use lib.Dec.{ltb}
 use lib.ListN.{length, drop, length-drop}
-use Rattle.mlg_rules.specs.Block.{counterAfter, blockLen, kindIn, restNumber, partsOf, readBlockOf}
+use Rattle.mlg_rules.specs.Block.{counterAfter, blockLen, typeIn, restNumber, partsOf, readBlockOf}
 use Rattle.mlg_rules.specs.Log.{Log, lengthOf, followedBy, logFrom}
 use Rattle.mlg_rules.specs.declared.Block.{Block}
 use Rattle.mlg_rules.specs.declared.Block.the-variants.{Data, Mark, End, Refused}
@@ -35,7 +35,7 @@ parts-length (suc (suc k)) l c at t h = absurd (h refl)
 -- what can stand at a place: a whole block, or what ends the log
 pub data Stands (l n : ℕ) (f : List ℕ) (at : ℕ) (b : Block) : Type 0 where
   a-block : at ≤ length f → (length (drop at f) ≡ 0 → ⊥) → restNumber l (drop at f) ≡ 0
-      → b ≡ partsOf (kindIn (drop at f)) (counterAfter n) at (drop at f) → Stands l n f at b
+      → b ≡ partsOf (typeIn (drop at f)) (counterAfter n) at (drop at f) → Stands l n f at b
   the-end : at ≡ length f → b ≡ End → Stands l n f at b
   refused : (m : ℕ) → b ≡ Refused (suc m) at → Stands l n f at b
 
@@ -60,7 +60,7 @@ module _ (l n : ℕ) (f : List ℕ) (at : ℕ) where
 
 -- a block that goes on has its length within the file
 pub step : (l n : ℕ) (f : List ℕ) (at : ℕ) → at ≤ length f → restNumber l (drop at f) ≡ 0
-    → (0 < blockLen l (kindIn (drop at f))) × (at + blockLen l (kindIn (drop at f)) ≤ length f)
+    → (0 < blockLen l (typeIn (drop at f))) × (at + blockLen l (typeIn (drop at f)) ≤ length f)
 step l n f at h z =
     let w = whole l (drop at f) z in
     (positive _ (w .0), omega (arith, w .1, length-drop at f, positive _ (w .0)))

@@ -4,7 +4,7 @@ use mathlib.Core.Path.{_≡_, refl}
 use mathlib.Core.List.{List}
 use native.Mathlib.Omega.{arith}
 use lib.ListN.{length, drop}
-use Rattle.mlg_rules.specs.Block.{counterAfter, kindIn, partsOf, readBlockOf}
+use Rattle.mlg_rules.specs.Block.{counterAfter, typeIn, partsOf, readBlockOf}
 use Rattle.mlg_rules.specs.Log.{Log, lengthOf, logFrom, logOf}
 use Rattle.mlg_rules.specs.RoundTrip.{AllAt, Ends, LogPlaced}
 use Rattle.mlg_rules.specs.declared.Block.{Block}
@@ -24,10 +24,10 @@ placed-by : (k l n : ℕ) (f : List ℕ) (at : ℕ) → Stands l n f at (readBlo
 placed-by k l n f at (the-end h e) fuel ih = rw (log-end k l n f at e) ((refl, e), h)
 placed-by k l n f at (refused m e) fuel ih = rw (log-refused k l n f at (suc m) at e) ((refl, e), refl)
 placed-by k l n f at (a-block h some num e) fuel ih =
-    let b : Block = partsOf (kindIn (drop at f)) (counterAfter n) at (drop at f) in
+    let b : Block = partsOf (typeIn (drop at f)) (counterAfter n) at (drop at f) in
     let s = step l n f at h num in
-    let len = parts-length (kindIn (drop at f)) l (counterAfter n) at (drop at f) (whole l (drop at f) num .0) in
-    follow-more l n f at b _ _ (log-more k l n f at b e (parts-block (kindIn (drop at f)) (counterAfter n) at (drop at f))) e (omega arith)
+    let len = parts-length (typeIn (drop at f)) l (counterAfter n) at (drop at f) (whole l (drop at f) num .0) in
+    follow-more l n f at b _ _ (log-more k l n f at b e (parts-block (typeIn (drop at f)) (counterAfter n) at (drop at f))) e (omega arith)
     (ih (n + 1) (at + lengthOf l b) (omega arith))
 
 placed-from : (k l n : ℕ) (f : List ℕ) (at : ℕ) → length f - at < k → Follow l n f at (logFrom k l n f at)

@@ -1,5 +1,5 @@
 -- A file in the writer's layout, rewritten from what was read.
-use Prim.Native.Nat.{zero, suc, _<_}
+use Prim.Native.Nat.{suc}
 use mathlib.Core.Path.{_∙_}
 use native.Mathlib.Omega.{arith}
 use lib.ListN.{length, take-append-drop}

@@ -2,13 +2,13 @@
 use Prim.Native.Nat.{ℕ, zero, suc, _+_, _-_, _≤_}
 use mathlib.Core.Path.{_≡_, refl, ap}
 use mathlib.Core.List.{List, [], _∷_}
-use mathlib.Core.Logic.{_⊎_, ⊎-elim}
+use mathlib.Core.Logic.{⊎-elim}
 use native.Mathlib.Omega.{arith}
 use types.Run.{OneOf}
 use denote.Enum.Declared.{tagOf}
 use lib.ListN.{length}
 use Rattle.mlg_rules.specs.Header.{readHeaderOf, headAnswer}
-use Rattle.mlg_rules.specs.Block.{counterAfter, kindIn, readBlockOf, blockAnswer}
+use Rattle.mlg_rules.specs.Block.{counterAfter, typeIn, readBlockOf, blockAnswer}
 use Rattle.mlg_rules.specs.Log.{Log, lengthOf, logFrom, logOf, tallyOf, tallyHead, countBlocksOf}
 use Rattle.mlg_rules.specs.declared.Block.{Block}
 use Rattle.mlg_rules.specs.declared.Head.{Head}
@@ -63,7 +63,7 @@ tally-all k l f at e =
 -- a block that is passed over lies within the file
 fits-by : (l n : ℕ) (f : List ℕ) (at : ℕ) (b : Block) → Stands l n f at b → IsBlock b → at + lengthOf l b ≤ length f
 fits-by l n f at b (a-block h some num e) g =
-    rw (e, parts-length (kindIn _) l (counterAfter n) at _ (whole l _ num .0)) (step l n f at h num .1)
+    rw (e, parts-length (typeIn _) l (counterAfter n) at _ (whole l _ num .0)) (step l n f at h num .1)
 fits-by l n f at b (the-end h e) g = absurd (rw e at g)
 fits-by l n f at b (refused m e) g = absurd (rw e at g)
 

@@ -10,7 +10,7 @@ use Rattle.wire.specs.Order.{_if_else_}
 use Rattle.wire.specs.BigEndian.{beAt}
 use Rattle.wire.specs.Sum.{sumOf}
 use Rattle.wire.specs.Text.{textLen}
-use Rattle.wire.specs.Log.{counterOf, judged}
+use Rattle.wire.specs.Log.{counterOf, judged, dataKind, markKind, endKind, refusedKind}
 use Rattle.mlg_rules.specs.declared.Block.{Block}
 use Rattle.mlg_rules.specs.declared.Block.the-variants.{Data, Mark, End, Refused}
 
@@ -29,8 +29,8 @@ blockLen l (suc zero) = 54
 blockLen l (suc (suc k)) = 0
 
 -- a block's parts
-abbrev pub kindIn : List ℕ → ℕ
-kindIn t = getD t 0 0
+abbrev pub typeIn : List ℕ → ℕ
+typeIn t = getD t 0 0
 
 abbrev pub counterIn : List ℕ → ℕ
 counterIn t = getD t 1 0
@@ -55,9 +55,9 @@ lastOf (suc k) l t = 28 if leb 50 (textLen (textIn t)) else 0
 -- "Order: .. 25, 20, 28 or 26."
 unfoldable pub restNumber : ℕ → List ℕ → ℕ
 restNumber l t =
-    25 if eqb (blockLen l (kindIn t)) 0 else
-    20 if ltb (length t) (blockLen l (kindIn t)) else
-    lastOf (kindIn t) l t
+    25 if eqb (blockLen l (typeIn t)) 0 else
+    20 if ltb (length t) (blockLen l (typeIn t)) else
+    lastOf (typeIn t) l t
 
 -- a block that stands, at the place at: its counter and time, where its record or text starts, how long the text is, and whether the counter
 -- is the expected one, c. "A wrong counter is reported with the block, not refused."
@@ -78,19 +78,6 @@ placeNumber n at = 23 if ltb n at else 0
 unfoldable pub readBlockOf : ℕ → ℕ → List ℕ → ℕ → Block
 readBlockOf l n f at = judged Refused (placeNumber (length f) at) at (blockOf l (counterAfter n) at (drop at f))
 
--- "A block is either data, a mark, the end, or a refusal": the kind of an answer
-abbrev pub dataKind : ℕ
-dataKind = 0
-
-abbrev pub markKind : ℕ
-markKind = 1
-
-abbrev pub endKind : ℕ
-endKind = 2
-
-abbrev pub refusedKind : ℕ
-refusedKind = 3
-
 -- the kind, and the paper's number and values of each case, where records have l bytes
 pub record BlockAnswer : Type 0 where
   pub kind : ℕ
@@ -102,9 +89,9 @@ pub record BlockAnswer : Type 0 where
   pub asExpected : Bool
   pub place : ℕ
 
--- no block: the end, whose number and place are 0, or a refusal, in which "every other number .. is 0, save that a block reader's refusal names
--- the block's place"
-abbrev pub noBlock : ℕ → ℕ → ℕ → BlockAnswer
+-- no block, beside its kind: the end, whose number and place are 0, or a refusal, in which "every other number .. is 0, save that a block
+-- reader's refusal names the block's place"
+abbrev pub noBlock : (kind number place : ℕ) → BlockAnswer
 noBlock kind n p = record { kind = kind; number = n; counter = 0; time = 0; start = 0; len = 0; asExpected = false; place = p }
 
 unfoldable pub blockAnswer : ℕ → Block → BlockAnswer

@@ -12,3 +12,4 @@ pub mod Parts
 pub mod Log
 pub mod Entries
 pub mod RoundTrip
+pub mod Examples

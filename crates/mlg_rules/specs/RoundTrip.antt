@@ -1,5 +1,5 @@
 -- What the writers promise together with the readers. Each statement is a type; the writers' contracts name it, and proofs/ proves it.
-use Prim.Native.Nat.{ℕ, _+_, _-_, _^_, _≤_, _<_}
+use Prim.Native.Nat.{ℕ, _+_, _^_, _≤_, _<_}
 use mathlib.Core.Path.{_≡_}
 use mathlib.Core.Bool.{true}
 use mathlib.Core.Logic.{_⊎_}
@@ -7,7 +7,7 @@ use mathlib.Core.List.{List, [], _∷_, _++_}
 use lib.ListN.{length, getD, take, drop}
 use Rattle.wire.specs.Text.{textLen}
 use Rattle.mlg_rules.specs.Header.{readHeaderOf}
-use Rattle.mlg_rules.specs.Block.{counterAfter, blockLen, kindIn, counterIn, restNumber, blockOf, readBlockOf}
+use Rattle.mlg_rules.specs.Block.{counterAfter, blockLen, typeIn, counterIn, restNumber, blockOf, readBlockOf}
 use Rattle.mlg_rules.specs.Writing.{headerFor, headerBytes, writeHeaderNumber, dataBytes, writeDataNumber, markBytes, writeMarkNumber}
 use Rattle.mlg_rules.specs.Parts.{fieldsIn, namesIn, infoIn}
 use Rattle.mlg_rules.specs.Log.{Log, lengthOf, logOf}
@@ -34,7 +34,7 @@ MarkBack =
 
 -- A whole block does not depend on what follows it.
 unfoldable pub BlockAlone : Type 0
-BlockAlone = (l c at : ℕ) (t rest : List ℕ) → 0 < length t → blockLen l (kindIn t) ≤ length t → blockOf l c at (t ++ rest) ≡ blockOf l c at t
+BlockAlone = (l c at : ℕ) (t rest : List ℕ) → 0 < length t → blockLen l (typeIn t) ≤ length t → blockOf l c at (t ++ rest) ≡ blockOf l c at t
 
 -- A log's blocks follow each other from the place at on. Each is what stands at its place, after as many blocks as stand before it in the
 -- list, and takes bytes; the ending is what stands after the last.
@@ -62,8 +62,8 @@ LogPlaced =
 unfoldable pub BlockSame : Type 0
 BlockSame =
     (l c : ℕ) (t : List ℕ) → ((i : ℕ) → getD t i 0 < 256) → restNumber l t ≡ 0
-    → (((counterIn t ≡ c) × PaddedHere (kindIn t) t) → rewritten (kindIn t) l c t ≡ take (blockLen l (kindIn t)) t)
-    × (rewritten (kindIn t) l c t ≡ take (blockLen l (kindIn t)) t → (counterIn t ≡ c) × PaddedHere (kindIn t) t)
+    → (((counterIn t ≡ c) × PaddedHere (typeIn t) t) → rewritten (typeIn t) l c t ≡ take (blockLen l (typeIn t)) t)
+    × (rewritten (typeIn t) l c t ≡ take (blockLen l (typeIn t)) t → (counterIn t ≡ c) × PaddedHere (typeIn t) t)
 
 -- A header that was written reads back as given, whatever follows: its numbers, fields, names area and info.
 pub record HeaderReads (time : ℕ) (fields names info file : List ℕ) : Type 0 where

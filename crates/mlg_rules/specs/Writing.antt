@@ -63,7 +63,7 @@ writeHeaderNumber v time fields names info room =
 
 -- "Data block: type 0, counter, time (16), record, then the sum of the record's bytes, modulo 256." Here c is the counter.
 unfoldable pub startBytes : ℕ → ℕ → ℕ → List ℕ
-startBytes kind c time = kind ∷ c ∷ beBytes 2 time
+startBytes type c time = type ∷ c ∷ beBytes 2 time
 
 unfoldable pub dataBytes : ℕ → ℕ → List ℕ → List ℕ
 dataBytes c time rec = (startBytes 0 c time ++ rec) ++ (sumOf rec ∷ [])

@@ -1,13 +1,11 @@
 -- Laws of pieces put one after another.
 use Prim.Native.Nat.{ℕ, _+_, _≤_, _<_}
-use mathlib.Core.Path.{_≡_, sym, ap, _∙_}
+use mathlib.Core.Path.{_≡_, sym}
 use mathlib.Core.List.{List, [], _∷_}
-use native.Mathlib.Omega.{arith}
 use native.Mathlib.Numerals.{add-one}
 use borrow.Author.Tests.{le-leb, lt-leb}
 use lib.ListN.{length, getD, drop}
 use lib.Seq.{drop-cons, drop-length}
-use Rattle.wire.specs.Put.{putOf}
 use Rattle.wire.proofs.Puts.{put-over}
 use Rattle.print.specs.Print.{nextOf, Puts, hexByte, putBytes, nextBytes}
 

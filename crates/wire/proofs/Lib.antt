@@ -1,9 +1,9 @@
 pub mod Orders
 pub mod Firsts
+pub mod RefusalChains
 pub mod Answers
 pub mod Numbers
 pub mod Signs
-pub mod Sums
 pub mod Texts
 pub mod Parts
 pub mod Puts

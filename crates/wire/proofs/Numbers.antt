@@ -1,10 +1,10 @@
 -- A number written in n bytes, high byte first, reads back, and so do bytes read as a number; at every width.
-use Prim.Native.Nat.{ℕ, zero, suc, _+_, _*_, _-_, _/_, _%_, _^_, _≤_, _<_}
+use Prim.Native.Nat.{ℕ, zero, suc, _+_, _*_, _/_, _%_, _^_, _≤_, _<_}
 use mathlib.Core.Path.{_≡_, refl, sym, ap, _∙_}
 use mathlib.Core.List.{List, [], _∷_, _++_, append-assoc, append-nil}
 use native.Mathlib.Omega.{arith}
 use native.Mathlib.Nat.{pow-suc, lt-of-lt-of-le}
-use lib.ListN.{length, getD, take, drop, length-append, length-drop}
+use lib.ListN.{length, getD, take, drop, length-drop}
 use lib.Seq.{getD-drop, length-take-le}
 use lib.Pow.{pow-add, pow-mono}
 use Rattle.wire.proofs.Parts.{take-length-le}
@@ -19,10 +19,6 @@ be-back zero x h = omega arith
 be-back (suc n) x h =
     let k : x / 256 < 256 ^ n = omega (arith, pow-suc 256 n) in
     from-snoc 0 (beBytes n (x / 256)) (x % 256) ∙ rw (be-back n (x / 256) k) (omega arith)
-
-pub bytes-length : (n x : ℕ) → length (beBytes n x) ≡ n
-bytes-length zero x = refl
-bytes-length (suc n) x = length-append (beBytes n (x / 256)) (x % 256 ∷ []) ∙ rw (bytes-length n (x / 256)) (omega arith)
 
 -- a byte after i bytes keeps a number below 2 ^ (8 * (i + 1)), and so within 64 bits where i is below 8
 pub more-bytes : (a b i : ℕ) → a < 2 ^ (8 * i) → b < 256 → a * 256 + b < 2 ^ (8 * (i + 1))

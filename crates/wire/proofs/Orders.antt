@@ -68,6 +68,11 @@ pub zero-orElse : (s : ℕ) → (0 orElse s) ≡ s
 unfolding _orElse_
 zero-orElse s = refl
 
+pub orElse-orElse : (a b c : ℕ) → ((a orElse b) orElse c) ≡ (a orElse (b orElse c))
+unfolding _orElse_
+orElse-orElse zero b c = refl
+orElse-orElse (suc a) b c = refl
+
 -- a test that does not hold is passed over, whatever its number
 pub if-skip : (n : ℕ) (b : Bool) (r : ℕ) → b ≡ false → (n if b else r) ≡ 0 → r ≡ 0
 unfolding _if_else_

@@ -34,18 +34,6 @@ text-back [] r h = refl
 text-back (zero ∷ t) r h = absurd (omega arith)
 text-back (suc b ∷ t) r h = ap suc (text-back t r (omega arith))
 
--- a text that ends in the first list
-pub text-more : (t r : List ℕ) → textLen t < length t → textLen (t ++ r) ≡ textLen t
-text-more [] r h = absurd (omega arith)
-text-more (zero ∷ t) r h = refl
-text-more (suc b ∷ t) r h = ap suc (text-more t r (omega arith))
-
--- a text that goes on into the second
-pub text-on : (t r : List ℕ) → textLen t ≡ length t → textLen (t ++ r) ≡ length t + textLen r
-text-on [] r h = omega arith
-text-on (zero ∷ t) r h = absurd (omega arith)
-text-on (suc b ∷ t) r h = omega (arith, text-on t r (omega arith))
-
 pub zeros-append : (a b : List ℕ) → zeros (a ++ b) ≡ zeros a + zeros b
 zeros-append [] b = omega arith
 zeros-append (zero ∷ a) b = omega (arith, zeros-append a b)

@@ -7,6 +7,22 @@ pub use Rattle.wire.specs.declared.Tally.{Tally}
 unfoldable pub counterOf : (modulus earlier : ℕ) → ℕ
 counterOf modulus earlier = earlier % modulus
 
+-- "A block is either data, a mark, the end, or a refusal", and of an FRD a time in place of a mark: the kind of an answer
+abbrev pub dataKind : ℕ
+dataKind = 0
+
+abbrev pub markKind : ℕ
+markKind = 1
+
+abbrev pub timeKind : ℕ
+timeKind = 1
+
+abbrev pub endKind : ℕ
+endKind = 2
+
+abbrev pub refusedKind : ℕ
+refusedKind = 3
+
 -- what is found where the number is 0, else a refusal, which holds the number and the block's place
 unfoldable pub judged : {A : Type 0} → (ℕ → ℕ → A) → ℕ → ℕ → A → A
 judged refused zero place x = x

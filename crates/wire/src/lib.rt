@@ -1,6 +1,6 @@
 // What every layer shares: refusals in an order (specs/), numbers in bytes, signed numbers, sums, texts, copying into lent memory.
 ghost use mathlib.Core.Path.{_≡_};
-ghost use Prim.Native.Nat.{ℕ, _+_, _*_, _≤_, _<_, _^_};
+ghost use Prim.Native.Nat.{_+_, _*_, _≤_, _<_, _^_};
 ghost use lib.ListN.{length, take};
 ghost use Rattle.wire.specs.BigEndian.{beOf, beAt, beBytes};
 ghost use Rattle.wire.specs.Sign.{signedOf, twos};

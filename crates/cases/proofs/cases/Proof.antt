@@ -7,11 +7,10 @@ use Rattle.cases.proofs.bridges.fresh.Reads as fresh-reads
 use Rattle.cases.proofs.case.Reads as case-reads
 use Rattle.cases.proofs.lines.find.Reads as find-reads
 use Rattle.print.proofs.text.Reads as text-reads
-use Prim.Native.Nat.{_≤_, _-_}
+use Prim.Native.Nat.{_-_}
 use mathlib.Core.Path.{_≡_}
 use lib.ListN.{length}
 use borrow.Author.Needs.{needs}
-use native.Mathlib.Omega.{arith}
 
 abbrev Inv-loop : tie.InvT-loop
 Inv-loop out₀ s memory₀ w₀ at₀ put₀ out memory w at put = length out ≡ length out₀

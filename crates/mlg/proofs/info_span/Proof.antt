@@ -2,7 +2,6 @@ use borrow.Author.Needs.{needs}
 use Rattle.mlg.proofs.info_span.Statement.{statement}
 use Rattle.mlg.proofs.info_span.Tie as tie
 use mathlib.Core.Path.{_≡_, sym, _∙_, ap}
-use Prim.Native.Nat.{_-_}
 use native.Mathlib.Omega.{arith}
 use lib.ListN.{length}
 use Rattle.wire.specs.Text.{textLen}

@@ -4,7 +4,6 @@ use Rattle.print.proofs.text.Tie as tie
 use Rattle.print.proofs.text.Reads as reads
 use Rattle.print.proofs.text.Lts as lts
 use Rattle.wire.proofs.put.Reads as put-reads
-use mathlib.Core.Path.{_≡_}
 use native.Mathlib.Omega.{arith}
 use Rattle.print.proofs.Pieces.{piece-fits, left-out}
 

@@ -4,14 +4,14 @@ use Rattle.bus.proofs.frames.content_len.Tie as tie
 use native.Mathlib.Omega.{arith}
 use Rattle.bus_rules.proofs.FrameLaws.{content-min}
 
-cast-at-most-eight : tie.Need-cast-at-most-eight
-cast-at-most-eight c = search needs
-
-at-most-eight-requires : tie.Need-at-most-eight-requires
-at-most-eight-requires c κs = search needs
+cast-result : tie.Need-cast-result
+cast-result c = search needs
 
 returns : tie.Need-returns
-returns c = omega (arith, c .at-most-eight .ensures, content-min (c .before .before .args .f) (search needs))
+returns c = omega (arith, c .before .if1 .taken, content-min (c .before .before .before .args .f) (search needs))
+
+returns-2 : tie.Need-returns-2
+returns-2 c = omega (arith, c .if1 .left, content-min (c .before .before .args .f) (search needs))
 
 pub content-len-spec : {M : Type 1} → statement M
-content-len-spec = tie.close (tie.spec cast-at-most-eight at-most-eight-requires returns)
+content-len-spec = tie.close (tie.spec cast-result returns returns-2)

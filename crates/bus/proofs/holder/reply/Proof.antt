@@ -4,7 +4,6 @@ use Rattle.bus.proofs.holder.reply.Tie as tie
 use mathlib.Core.Path.{_∙_}
 use native.Mathlib.Omega.{arith}
 use Rattle.bus_rules.specs.Holder.{replyTo, answerWith}
-use Rattle.bus_rules.proofs.IdentLaws.{Lawful}
 use Rattle.bus_rules.proofs.RowTheorems.{build-lawful}
 
 build-requires : tie.Need-build-requires

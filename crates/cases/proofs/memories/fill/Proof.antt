@@ -3,11 +3,10 @@ use Rattle.cases.proofs.memories.fill.Tie as tie
 use Rattle.cases.proofs.memories.fill.Reads as reads
 use Rattle.cases.proofs.memories.fill.Lts as lts
 use Rattle.cases.proofs.answers.nothing.Reads as nothing-reads
-use Prim.Native.Nat.{_≤_, _-_}
-use mathlib.Core.Path.{_≡_, refl}
+use Prim.Native.Nat.{_-_}
+use mathlib.Core.Path.{_≡_}
 use lib.ListN.{length}
 use borrow.Author.Needs.{needs}
-use native.Mathlib.Omega.{arith}
 
 abbrev Inv-loop : tie.InvT-loop
 Inv-loop s₀ b i₀ s i = length s ≡ length s₀

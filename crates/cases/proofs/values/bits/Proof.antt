@@ -5,7 +5,7 @@ use Rattle.cases.proofs.values.bits.Reads as reads
 use Rattle.cases.proofs.values.bits.Lts as lts
 use Rattle.cases.proofs.values.wide.Reads as wide-reads
 use mathlib.Core.Path.{_≡_, sym, subst}
-use mathlib.Core.Bool.{true, false, not}
+use mathlib.Core.Bool.{true, not}
 use lib.Dec.{T}
 use lib.Ieee.{Float, nan, inf, fin, lt, isNan}
 

@@ -1,7 +1,6 @@
 use borrow.Author.Needs.{needs}
 use Rattle.mlg.proofs.fields.area_zeros.Statement.{statement}
 use Rattle.mlg.proofs.fields.area_zeros.Tie as tie
-use Prim.Native.Nat.{_-_}
 use mathlib.Core.Path.{_∙_, ap}
 use native.Mathlib.Omega.{arith}
 use Rattle.wire.specs.Text.{zeros}

@@ -4,7 +4,6 @@ use Rattle.mlg.proofs.fields.ended_zeros.Tie as tie
 use Prim.Native.Nat.{ℕ, _+_}
 use mathlib.Core.Path.{sym, _∙_, ap}
 use native.Mathlib.Omega.{arith}
-use Prim.Native.Nat.{_-_}
 use Rattle.mlg_rules.proofs.AreaLaws.{counted, ended-from, ended-past, ended-empty}
 
 returns : tie.Need-returns

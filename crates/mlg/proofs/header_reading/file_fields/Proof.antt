@@ -1,7 +1,6 @@
 use borrow.Author.Needs.{needs}
 use Rattle.mlg.proofs.header_reading.file_fields.Statement.{statement}
 use Rattle.mlg.proofs.header_reading.file_fields.Tie as tie
-use Prim.Native.Nat.{_-_}
 use mathlib.Core.Path.{_∙_, ap}
 use native.Mathlib.Omega.{arith}
 use lib.ListN.{length-drop}

@@ -1,6 +1,6 @@
 use Rattle.mlg.proofs.header_writing.sizes_of.Statement.{statement}
 use Rattle.mlg.proofs.header_writing.sizes_of.Tie as tie
-use Prim.Native.Nat.{_+_, _*_, _-_, _≤_}
+use Prim.Native.Nat.{_+_, _*_, _≤_}
 use mathlib.Core.Path.{_≡_}
 use native.Mathlib.Omega.{arith}
 use lib.ListN.{length, drop, getD}

@@ -1,13 +1,13 @@
--- Which number a chain of refusals gives: each exactly where its test passes and none before it does.
-use Prim.Native.Nat.{ℕ, zero, suc, _≤_, _<_}
+-- A chain of refusals gives n exactly where `First` says n: the equation with a number, both ways. (`Firsts` has that `First` holds of what the chain gives.)
+use Prim.Native.Nat.{ℕ, _≤_, _<_}
 use mathlib.Core.Path.{_≡_, refl, sym}
 use mathlib.Core.Logic.{_↔_, inl, inr, _≢_}
 use mathlib.Core.Bool.{Bool, true, false, not, _||_, false≢true, true≢false}
 use native.Mathlib.Omega.{arith}
 use lib.Dec.{leb, ltb, eqb}
 use borrow.Author.Tests.{eqb-true, eqb-false, eq-eqb, lt-ltb, le-leb, ltb-true, leb-true}
-use Rattle.wire.specs.Order.{_if_else_, _orElse_}
+use Rattle.wire.specs.Order.{_if_else_}
 use Rattle.wire.specs.First.{First}
 
 -- one test of a chain of refusals
 pub first-if : (m : ℕ) (t : Bool) (k n : ℕ) (P : Type 0) (rest : ℕ → Type 0) → (t ≡ true) ↔ P → (t ≡ false → (k ≡ n) ↔ rest n)
@@ -41,21 +41,6 @@ eqb-test a b = (eqb-true a b, eq-eqb a b)
 pub sound-test : (t : Bool) → (not t ≡ true) ↔ (t ≡ false)
 sound-test true = (λ e. absurd (false≢true e), λ e. absurd (true≢false e))
 sound-test false = (λ e. refl, λ e. refl)
-
--- a refusal that goes before others
-pub if-orElse : (m : ℕ) (t : Bool) (k x : ℕ) → (((suc m) if t else k) orElse x) ≡ ((suc m) if t else (k orElse x))
-unfolding _if_else_ _orElse_
-if-orElse m true k x = refl
-if-orElse m false k x = refl
-
-pub zero-orElse : (x : ℕ) → (0 orElse x) ≡ x
-unfolding _orElse_
-zero-orElse x = refl
-
-pub orElse-orElse : (a b c : ℕ) → ((a orElse b) orElse c) ≡ (a orElse (b orElse c))
-unfolding _orElse_
-orElse-orElse zero b c = refl
-orElse-orElse (suc a) b c = refl
 
 -- two tests of one number
 pub either : (m : ℕ) (t u : Bool) (k : ℕ) → (m if t else m if u else k) ≡ (m if (t || u) else k)
