@@ -36,7 +36,8 @@ pub extern "C" fn hg_bridge_open_write(
     offset: u16,
     bytes: &[u8],
 ) -> Opened
-    ensures { λ r. ⌜ (r ≡ openedOf (openOf b (now (buffer .entry)) (write device table offset (now (bytes .entry))))) × (now (buffer .exit) ≡ openOf b (now (buffer .entry)) (write device table offset (now (bytes .entry))) .buffer) ⌝ }
+    ensures { λ r. ⌜ (r ≡ openedOf (openOf b (now (buffer .entry)) (write device table offset (now (bytes .entry)))))
+        × (now (buffer .exit) ≡ openOf b (now (buffer .entry)) (write device table offset (now (bytes .entry))) .buffer) ⌝ }
 {
     bridge::opening::open_write(b, buffer, device, table, offset, bytes)
 }

@@ -9,7 +9,8 @@ ghost use Rattle.bridge_rules.specs.Ending.{closeOf};
 
 #[no_mangle]
 pub extern "C" fn hg_bridge_turn_in_place(b: &mut Bridge, buffer: &[u8]) -> Yielded
-    ensures { λ r. ⌜ (r ≡ steppedOf (turnOf (now (b .entry)) (now (buffer .entry))) .answer) × (now (b .exit) ≡ steppedOf (turnOf (now (b .entry)) (now (buffer .entry))) .bridge) ⌝ }
+    ensures { λ r. ⌜ (r ≡ steppedOf (turnOf (now (b .entry)) (now (buffer .entry))) .answer)
+        × (now (b .exit) ≡ steppedOf (turnOf (now (b .entry)) (now (buffer .entry))) .bridge) ⌝ }
 {
     bridge::in_place::turn_in_place(b, buffer)
 }
@@ -20,7 +21,9 @@ pub extern "C" fn hg_bridge_frame_in_place(
     buffer: &mut [u8],
     frame: bus::Frame,
 ) -> Yielded
-    ensures { λ r. ⌜ (r ≡ steppedOf (frameOf (now (b .entry)) (now (buffer .entry)) frame) .answer) × ((now (b .exit) ≡ steppedOf (frameOf (now (b .entry)) (now (buffer .entry)) frame) .bridge) × (now (buffer .exit) ≡ frameOf (now (b .entry)) (now (buffer .entry)) frame .buffer)) ⌝ }
+    ensures { λ r. ⌜ (r ≡ steppedOf (frameOf (now (b .entry)) (now (buffer .entry)) frame) .answer)
+        × ((now (b .exit) ≡ steppedOf (frameOf (now (b .entry)) (now (buffer .entry)) frame) .bridge)
+        × (now (buffer .exit) ≡ frameOf (now (b .entry)) (now (buffer .entry)) frame .buffer)) ⌝ }
 {
     bridge::in_place::frame_in_place(b, buffer, frame)
 }

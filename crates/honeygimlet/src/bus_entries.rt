@@ -71,7 +71,8 @@ pub extern "C" fn hg_bus_serve(
     memory: &mut [u8],
     frame: bus::Frame,
 ) -> bus::Served
-    ensures { λ r. ⌜ (r ≡ serveOf (device directory (now (memory .entry))) frame) × (now (memory .exit) ≡ deviceAfter (device directory (now (memory .entry))) frame .memory) ⌝ }
+    ensures { λ r. ⌜ (r ≡ serveOf (device directory (now (memory .entry))) frame)
+        × (now (memory .exit) ≡ deviceAfter (device directory (now (memory .entry))) frame .memory) ⌝ }
 {
     bus::holder::serve(directory, memory, frame)
 }

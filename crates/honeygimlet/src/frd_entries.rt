@@ -124,8 +124,10 @@ pub extern "C" fn hg_frd_write_header(
     signature: &[u8],
     size: u16,
 ) -> wire::Written
-    ensures { λ r. ⌜ (r ≡ wrote (writeHeaderNumber time (now (signature .entry)) size (length (now (out .entry)))) (headerBytes time (now (signature .entry)) size))
-        × (now (out .exit) ≡ leaves (writeHeaderNumber time (now (signature .entry)) size (length (now (out .entry)))) (headerBytes time (now (signature .entry)) size) (now (out .entry))) ⌝ }
+    ensures { λ r. ⌜ (r ≡ wrote (writeHeaderNumber time (now (signature .entry)) size (length (now (out .entry))))
+        (headerBytes time (now (signature .entry)) size))
+        × (now (out .exit) ≡ leaves (writeHeaderNumber time (now (signature .entry)) size (length (now (out .entry))))
+        (headerBytes time (now (signature .entry)) size) (now (out .entry))) ⌝ }
 {
     frd::write_header(out, time, signature, size)
 }
@@ -137,8 +139,10 @@ pub extern "C" fn hg_frd_write_data(
     earlier: u64,
     bytes: &[u8],
 ) -> wire::Written
-    ensures { λ r. ⌜ (r ≡ wrote (writeDataNumber size (counterAfter earlier) (now (bytes .entry)) (length (now (out .entry)))) (dataBytes (counterAfter earlier) (now (bytes .entry))))
-        × (now (out .exit) ≡ leaves (writeDataNumber size (counterAfter earlier) (now (bytes .entry)) (length (now (out .entry)))) (dataBytes (counterAfter earlier) (now (bytes .entry))) (now (out .entry))) ⌝ }
+    ensures { λ r. ⌜ (r ≡ wrote (writeDataNumber size (counterAfter earlier) (now (bytes .entry)) (length (now (out .entry))))
+        (dataBytes (counterAfter earlier) (now (bytes .entry))))
+        × (now (out .exit) ≡ leaves (writeDataNumber size (counterAfter earlier) (now (bytes .entry)) (length (now (out .entry))))
+        (dataBytes (counterAfter earlier) (now (bytes .entry))) (now (out .entry))) ⌝ }
 {
     frd::write_data(out, size, earlier, bytes)
 }
@@ -146,7 +150,8 @@ pub extern "C" fn hg_frd_write_data(
 #[no_mangle]
 pub extern "C" fn hg_frd_write_time(out: &mut [u8], earlier: u64, time: u32) -> wire::Written
     ensures { λ r. ⌜ (r ≡ wrote (writeTimeNumber (counterAfter earlier) time (length (now (out .entry)))) (timeBytes (counterAfter earlier) time))
-        × (now (out .exit) ≡ leaves (writeTimeNumber (counterAfter earlier) time (length (now (out .entry)))) (timeBytes (counterAfter earlier) time) (now (out .entry))) ⌝ }
+        × (now (out .exit) ≡ leaves (writeTimeNumber (counterAfter earlier) time (length (now (out .entry))))
+        (timeBytes (counterAfter earlier) time) (now (out .entry))) ⌝ }
 {
     frd::write_time(out, earlier, time)
 }

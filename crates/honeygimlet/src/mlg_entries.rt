@@ -153,8 +153,10 @@ pub extern "C" fn hg_mlg_write_header(
     names: &[u8],
     info: &[u8],
 ) -> wire::Written
-    ensures { λ r. ⌜ (r ≡ wrote (writeHeaderNumber 2 time (now (fields .entry)) (now (names .entry)) (now (info .entry)) (length (now (out .entry)))) (headerBytes 2 time (now (fields .entry)) (now (names .entry)) (now (info .entry))))
-        × (now (out .exit) ≡ leaves (writeHeaderNumber 2 time (now (fields .entry)) (now (names .entry)) (now (info .entry)) (length (now (out .entry)))) (headerBytes 2 time (now (fields .entry)) (now (names .entry)) (now (info .entry))) (now (out .entry))) ⌝ }
+    ensures { λ r. ⌜ (r ≡ wrote (writeHeaderNumber 2 time (now (fields .entry)) (now (names .entry)) (now (info .entry)) (length (now (out .entry))))
+        (headerBytes 2 time (now (fields .entry)) (now (names .entry)) (now (info .entry))))
+        × (now (out .exit) ≡ leaves (writeHeaderNumber 2 time (now (fields .entry)) (now (names .entry)) (now (info .entry)) (length (now (out .entry))))
+        (headerBytes 2 time (now (fields .entry)) (now (names .entry)) (now (info .entry))) (now (out .entry))) ⌝ }
 {
     mlg::write_header(out, time, fields, names, info)
 }
@@ -167,8 +169,10 @@ pub extern "C" fn hg_mlg_write_data(
     time: u16,
     bytes: &[u8],
 ) -> wire::Written
-    ensures { λ r. ⌜ (r ≡ wrote (writeDataNumber size (now (bytes .entry)) (length (now (out .entry)))) (dataBytes (counterAfter earlier) time (now (bytes .entry))))
-        × (now (out .exit) ≡ leaves (writeDataNumber size (now (bytes .entry)) (length (now (out .entry)))) (dataBytes (counterAfter earlier) time (now (bytes .entry))) (now (out .entry))) ⌝ }
+    ensures { λ r. ⌜ (r ≡ wrote (writeDataNumber size (now (bytes .entry)) (length (now (out .entry))))
+        (dataBytes (counterAfter earlier) time (now (bytes .entry))))
+        × (now (out .exit) ≡ leaves (writeDataNumber size (now (bytes .entry)) (length (now (out .entry))))
+        (dataBytes (counterAfter earlier) time (now (bytes .entry))) (now (out .entry))) ⌝ }
 {
     mlg::write_data(out, size, earlier, time, bytes)
 }
@@ -181,7 +185,8 @@ pub extern "C" fn hg_mlg_write_mark(
     text: &[u8],
 ) -> wire::Written
     ensures { λ r. ⌜ (r ≡ wrote (writeMarkNumber (now (text .entry)) (length (now (out .entry)))) (markBytes (counterAfter earlier) time (now (text .entry))))
-        × (now (out .exit) ≡ leaves (writeMarkNumber (now (text .entry)) (length (now (out .entry)))) (markBytes (counterAfter earlier) time (now (text .entry))) (now (out .entry))) ⌝ }
+        × (now (out .exit) ≡ leaves (writeMarkNumber (now (text .entry)) (length (now (out .entry))))
+        (markBytes (counterAfter earlier) time (now (text .entry))) (now (out .entry))) ⌝ }
 {
     mlg::write_mark(out, earlier, time, text)
 }
