@@ -1,17 +1,10 @@
 -- Listings of small logs, as the definition computes them. The first is 01's.
-use Prim.Native.Nat.{ℕ, _-_}
 use mathlib.Core.Path.{_≡_}
-use mathlib.Core.List.{List, [], _∷_, _++_}
-use lib.ListN.{length, replicate}
+use mathlib.Core.List.{[], _∷_, _++_}
+use lib.ListN.{replicate}
+use Rattle.mlg_rules.specs.Examples.{logWith}
 use Rattle.listing_rules.specs.Text.{ascii}
 use Rattle.listing_rules.specs.Listing.{listOf, listNumber}
-
--- a log of one field with these blocks: "time 0, one .. field .. with all else 0, no info, data begin 113, record length 1"
-abbrev pub logWith : (type : ℕ) (name blocks : List ℕ) → List ℕ
-logWith type name blocks =
-    (0x4D ∷ 0x4C ∷ 0x56 ∷ 0x4C ∷ 0x47 ∷ 0 ∷ 0 ∷ 2 ∷ 0 ∷ 0 ∷ 0 ∷ 0 ∷ 0 ∷ 0 ∷ 0 ∷ 0 ∷ 0 ∷ 0 ∷ 0 ∷ 113 ∷ 0 ∷ 1 ∷ 0 ∷ 1 ∷ [])
-    ++ (type ∷ name ++ replicate (88 - length name) 0)
-    ++ blocks
 
 pub record Examples : Type 0 where
   -- "one U08 field `t` .., then `00 00 00 0A 07 07`. It prints exactly:"
