@@ -1,4 +1,4 @@
-// Lists the MLG on standard input.
+// Lists the MLG on standard input. It takes no arguments.
 use libc::STDERR_FILENO;
 use libc::STDIN_FILENO;
 use libc::STDOUT_FILENO;
@@ -55,7 +55,8 @@ fn listing_of(out: &mut [u8; 327680], file: &[u8]) -> usize
     w.len
 }
 
-fn main() {
+// Lists standard input.
+fn list_input() {
     let mut file = [0u8; 65537];
     let input = read_input(&mut file);
     let Input::Bytes(n) = input else {
@@ -67,4 +68,15 @@ fn main() {
     if !io::write_all(STDOUT_FILENO, &out[0..len]) {
         io::write_all(STDERR_FILENO, b"loglist: the listing can't be written\n");
     }
+}
+
+fn main() {
+    if 1 < os::arg_count() {
+        io::write_all(
+            STDERR_FILENO,
+            b"usage: loglist < FILE\nLists the MLG on standard input, of at most 65,536 bytes. It takes no arguments.\n",
+        );
+        return;
+    }
+    list_input();
 }

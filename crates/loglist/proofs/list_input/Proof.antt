@@ -1,8 +1,8 @@
 use borrow.Author.Needs.{needs}
-use Rattle.loglist.proofs.main.Statement.{statement}
-use Rattle.loglist.proofs.main.Tie as tie
-use Rattle.loglist.proofs.main.Reads as reads
-use Rattle.loglist.proofs.main.Lts as lts
+use Rattle.loglist.proofs.list_input.Statement.{statement}
+use Rattle.loglist.proofs.list_input.Tie as tie
+use Rattle.loglist.proofs.list_input.Reads as reads
+use Rattle.loglist.proofs.list_input.Lts as lts
 use native.Mathlib.Omega.{arith}
 use Rattle.loglist.proofs.BytesWithin.{bytes-within}
 use Rattle.io.proofs.write_all.Reads as write-all-reads
@@ -70,8 +70,8 @@ returns-2 c = search needs
 returns-3 : tie.Need-returns-3
 returns-3 c = search needs
 
-pub main-spec : {M : Type 1} → statement M
-main-spec =
+pub list-input-spec : {M : Type 1} → statement M
+list-input-spec =
     tie.close
     (tie.spec
     slice-aggregate-read-input
