@@ -5,7 +5,7 @@
  * one reply, delivers another late, and carries frames of a third device (number 9). At the end the bytes that the
  * bridge shows are compared with the device's tables; the program exits 1 where they differ.
  *
- *     gcc -std=c11 -Iinclude examples/firmware.c target/staticlib/libhoneygimlet.a -o firmware
+ *     gcc -std=c11 -Iinclude examples/firmware.c target/staticlib/libhoneygimlet.a -o target/firmware
  */
 #include "honeygimlet.h"
 

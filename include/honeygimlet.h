@@ -1,12 +1,16 @@
 /*
  * Honeygimlet: the 29-bit CAN protocol of Megasquirt controllers, a bridge for long reads and writes, and the log formats
- * MLG (MLVLG 2) and FRD 1. Link libhoneygimlet.a (`rt staticlib honeygimlet`); it needs nothing else. For C11 and C++11, x86-64 Linux.
+ * MLG (MLVLG 2) and FRD 1. Link libhoneygimlet.a (`make`); of the C library it needs memcpy alone. For C11 and C++11, x86-64 Linux.
  *
  * Every call judges its arguments: any number in any argument is allowed, and a refusal carries one of the numbers below,
  * changes nothing that it was lent and yields no frame; every other number in its answer is 0, save a block's kind and place, and the
  * bridge that a call by value hands back as it was.
  * What a caller must see to, since no call can: a pointer is not null (not even with length 0), points to as many bytes as
  * the length beside it says, fewer than 2^63, and memory that a call may write overlaps no other memory lent to that call.
+ * What is handed in by value is initialised: `hg_bridge b = {0};` before the first reset, `hg_frame f = {0};` before its bytes are set.
+ *
+ * The library has no data of its own, allocates nothing and keeps nothing between calls: its calls are re-entrant, and threads that
+ * lend them different memory do not meet.
  *
  * "Numbers" in the comments are the refusals in the order in which they are judged; 0, done, is left out.
  */
@@ -174,7 +178,10 @@ typedef struct {
 } hg_slot;
 HG_SIZE(hg_slot, 16);
 
-/* A bridge. Any content will do before the first hg_bridge_reset. Its buffer has HG_BUFFER bytes, 128 for each slot; nobody else writes it. */
+/*
+ * A bridge. Declare it `= {0}` and reset it; any content gets a lawful answer, but C leaves a struct that was never set undefined.
+ * Its buffer has HG_BUFFER bytes, 128 for each slot; nobody else writes it, and its bytes before the first reset do not matter.
+ */
 typedef struct {
     hg_slot slots[4];
     uint32_t issued;  /* the last ticket given */
@@ -276,6 +283,51 @@ uint8_t hg_bridge_close_in_place(hg_bridge *b, uint32_t ticket);
 
 /* ---- MLG ---- */
 
+/*
+ * A file has a header of HG_MLG_HEADER bytes, fields of HG_MLG_FIELD bytes each, a names area, an info text, and blocks. Its numbers, a
+ * record's raw values too, stand high byte first. A record has the raw values of the fields, in their order, back to back.
+ */
+enum { HG_MLG_HEADER = 24, HG_MLG_FIELD = 89 };
+
+/* Types of fields; behind each, the bytes of its raw value. */
+enum {
+    HG_MLG_U08 = 0,        /* 1 */
+    HG_MLG_S08 = 1,        /* 1 */
+    HG_MLG_U16 = 2,        /* 2 */
+    HG_MLG_S16 = 3,        /* 2 */
+    HG_MLG_U32 = 4,        /* 4 */
+    HG_MLG_S32 = 5,        /* 4 */
+    HG_MLG_S64 = 6,        /* 8 */
+    HG_MLG_F32 = 7,        /* 4 */
+    HG_MLG_BITS_U08 = 10,  /* 1: a bit field, of at most 8 named bits */
+    HG_MLG_BITS_U16 = 11,  /* 2: at most 16 */
+    HG_MLG_BITS_U32 = 12   /* 4: at most 32 */
+};
+
+/* Where the parts of a field stand in its bytes, and the lengths of its texts, which count the zero that each must hold. */
+enum {
+    HG_MLG_TYPE_AT = 0,
+    HG_MLG_NAME_AT = 1,
+    HG_MLG_NAME_LEN = 34,
+    HG_MLG_UNITS_AT = 35,
+    HG_MLG_UNITS_LEN = 10,
+    HG_MLG_STYLE_AT = 45,       /* how it is displayed: 0 number, 1 hex, 2 bits, 3 date, 4 on/off, 5 yes/no, 6 high/low, 7 active, 8 true */
+    HG_MLG_SCALE_AT = 46,       /* f32: a shown value is (raw + transform) * scale */
+    HG_MLG_TRANSFORM_AT = 50,   /* f32 */
+    HG_MLG_DIGITS_AT = 54,      /* decimal places displayed */
+    HG_MLG_CATEGORY_AT = 55,
+    HG_MLG_CATEGORY_LEN = 34,
+    /* a bit field has these between its style and its category: */
+    HG_MLG_BIT_STYLE_AT = 46,   /* how each bit is displayed */
+    HG_MLG_BIT_NAMES_AT = 47,   /* 32 bits: the place in the file of the first of its names, one for each bit, each ended by a zero */
+    HG_MLG_BIT_COUNT_AT = 51    /* how many bits have names, from the lowest on; 0: none, and the place is not looked at */
+};
+/* The names area starts at HG_MLG_HEADER + HG_MLG_FIELD * fields. */
+
+/* Bytes of a data block beside its record, bytes of a mark, and the longest text that a mark takes. */
+enum { HG_MLG_DATA = 5, HG_MLG_MARK = 54, HG_MLG_MARK_TEXT = 49 };
+
+/* A header's time is in seconds since 1970 (0: not known), a block's in units of 10 microseconds, modulo 65,536. */
 typedef struct {
     uint32_t time;
     uint32_t info;  /* where the info text starts, 0 for none */
@@ -309,13 +361,16 @@ typedef struct {
 } hg_written;
 HG_SIZE(hg_written, 16);
 
-/* A file's header. Numbers: 20, 21, 22, 20 (fields cut), 23; for each field 24, 28, 23, 28; then 23, 28. */
+/*
+ * A file's header. Numbers: 20, 21, 22, 20 (fields cut), 23; for each field 24, 28, 23, 28; then 23, 28.
+ * Takes time that grows with data begin alone, whatever the fields say.
+ */
 hg_mlg_header hg_mlg_read_header(const uint8_t *file, size_t len);
 
 /*
- * What stands at a place of a file whose records have length `size`, after `earlier` blocks. A data block takes size + 5
- * bytes, a mark 54; the next block stands after it. A place equal to the length is the end.
- * Numbers: 23 (place past the file), 25, 20, 28 (mark) or 26 (data).
+ * What stands at a place of a file whose records have length `size`, after `earlier` blocks. A data block takes size + HG_MLG_DATA
+ * bytes, a mark HG_MLG_MARK; the next block stands after it. A place equal to the length is the end.
+ * Numbers: 23 (place past the file), 25, 20, 28 (mark) or 26 (data). Takes time that grows with the record.
  */
 hg_mlg_block hg_mlg_read_block(const uint8_t *file, size_t len, uint16_t size, uint64_t earlier, size_t place);
 
@@ -330,7 +385,7 @@ typedef struct {
 } hg_tally;
 HG_SIZE(hg_tally, 24);
 
-/* Counts the blocks of a file. */
+/* Counts the blocks of a file. Takes time that grows with the file. */
 hg_tally hg_mlg_count_blocks(const uint8_t *file, size_t len);
 
 /*
@@ -350,13 +405,14 @@ enum { HG_LISTING = 327680 };
 hg_written hg_mlg_list(uint8_t *out, size_t len, const uint8_t *file, size_t file_len);
 
 /*
- * Writes a header: fields of 89 bytes each, the names area, and the info text without its zero (empty: none).
+ * Writes a header: fields of 89 bytes each, the names area, and the info text without its zero (empty: none). Takes time that grows with
+ * what it is given, and writes HG_MLG_HEADER bytes, the fields, the names, and the info with a zero: the first block follows.
  * Numbers: 23 (fields not a multiple of 89 bytes or over 65,535, sizes summing over 65,535, over 2^32-1 bytes), 28 (zero in
  * info), then the reader's for the fields, then 27.
  */
 hg_written hg_mlg_write_header(uint8_t *out, size_t len, uint32_t time, const uint8_t *fields, size_t fields_len, const uint8_t *names, size_t names_len, const uint8_t *info, size_t info_len);
 
-/* Writes a data block after `earlier` blocks. Numbers: 23 (record not of length `size`), 27. */
+/* Writes a data block after `earlier` blocks, of both kinds. Numbers: 23 (record not of length `size`), 27. Takes time that grows with the record. */
 hg_written hg_mlg_write_data(uint8_t *out, size_t len, uint16_t size, uint64_t earlier, uint16_t time, const uint8_t *record, size_t record_len);
 
 /* Writes a mark after `earlier` blocks. Numbers: 28 (text over 49 bytes, or holding a zero), 27. */
@@ -382,6 +438,9 @@ hg_shown hg_mlg_shown_value(const uint8_t *field, size_t field_len, const uint8_
 
 /* ---- FRD ---- */
 
+/* Bytes of the header, of the signature in it, of a data block beside its record, and of a time block. Times are in seconds since 1970. */
+enum { HG_FRD_HEADER = 81, HG_FRD_SIGNATURE = 63, HG_FRD_DATA = 2, HG_FRD_TIME = 6 };
+
 typedef struct {
     uint32_t time;
     uint16_t size; /* output length */
@@ -401,13 +460,16 @@ typedef struct {
 } hg_frd_block;
 HG_SIZE(hg_frd_block, 32);
 
-/* A file's header; the blocks begin at 81. Numbers: 20, 21, 22, 23. */
+/* A file's header; the blocks begin at HG_FRD_HEADER. Numbers: 20, 21, 22, 23. */
 hg_frd_header hg_frd_read_header(const uint8_t *file, size_t len);
 
-/* What stands at a place; a data block takes size + 2 bytes, a time block 6. Numbers: 23 (place past the file), 25, 20. */
+/*
+ * What stands at a place; a data block takes size + HG_FRD_DATA bytes, a time block HG_FRD_TIME. A place equal to the length is the end.
+ * Numbers: 23 (place past the file), 25, 20.
+ */
 hg_frd_block hg_frd_read_block(const uint8_t *file, size_t len, uint16_t size, uint64_t earlier, size_t place);
 
-/* Counts the blocks of a file. */
+/* Counts the blocks of a file. Takes time that grows with the number of its blocks. */
 hg_tally hg_frd_count_blocks(const uint8_t *file, size_t len);
 
 /* The 63 bytes of the signature. Numbers: as hg_frd_read_header. */
@@ -416,7 +478,7 @@ hg_span hg_frd_read_signature(const uint8_t *file, size_t len);
 /* Writes a header. Numbers: 23 (signature not of 63 bytes), 27. */
 hg_written hg_frd_write_header(uint8_t *out, size_t len, uint32_t time, const uint8_t *signature, size_t signature_len, uint16_t size);
 
-/* Writes a data block after `earlier` blocks. Numbers: 23 (record not of length `size`), 27. */
+/* Writes a data block after `earlier` blocks, of both kinds. Numbers: 23 (record not of length `size`), 27. Takes time that grows with the record. */
 hg_written hg_frd_write_data(uint8_t *out, size_t len, uint16_t size, uint64_t earlier, const uint8_t *record, size_t record_len);
 
 /* Writes a time block after `earlier` blocks. Number: 27. */

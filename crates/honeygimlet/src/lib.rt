@@ -1,4 +1,5 @@
-// The C library: each entry is one call of the crates below it, with that call's promise. An answer enum goes out as a struct.
+// The C library: each entry is one call of the crates below it. Its promise is the call's on the answer and on lent memory; the theorems that
+// the call's promise names besides are not said again. An answer enum goes out as a struct.
 pub mod bridge_entries;
 pub mod bridge_in_place;
 pub mod bus_entries;
