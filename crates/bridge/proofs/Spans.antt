@@ -11,7 +11,8 @@ use Rattle.wire.specs.declared.Span.{Span}
 use Rattle.wire.proofs.Orders.{if-zero}
 use Rattle.bridge_rules.specs.declared.Bridge.{Bridge}
 use Rattle.bridge_rules.specs.State.{slot, heldSlot, isNone, orZero, orFour, sound, asks}
-use Rattle.bridge_rules.specs.Ending.{ticketNumber, bytesNumber, slotSpan, spanOf, noSpan, partOf, bytesOf}
+use Rattle.bridge_rules.specs.Ending.{ticketNumber, bytesNumber, slotSpan, spanOf, noSpan, bytesOf}
+use Rattle.wire.specs.Log.{partOf}
 use Rattle.bridge_rules.proofs.SlotOk.{count-few}
 use Rattle.bridge_rules.proofs.SoundTest.{true-sound}
 use Rattle.bridge.proofs.Searches.{held-small, slot-found, orZero-four}

@@ -10,7 +10,8 @@ use crate::state::asks;
 ghost use mathlib.Core.Path.{_≡_};
 ghost use Prim.Native.Nat.{_+_, _<_, _≤_};
 ghost use lib.ListN.{length};
-ghost use Rattle.bridge_rules.specs.Ending.{phaseNumber, ticketNumber, statusOf, bytesNumber, slotSpan, spanOf, partOf, bytesOf};
+ghost use Rattle.bridge_rules.specs.Ending.{phaseNumber, ticketNumber, statusOf, bytesNumber, slotSpan, spanOf, bytesOf};
+ghost use Rattle.wire.specs.Log.{partOf};
 
 fn phase_number(phase: u8) -> u8
     ensures { λ r. ⌜ r ≡ phaseNumber phase ⌝ }

@@ -26,7 +26,7 @@ use Rattle.bridge_rules.specs.Replies.{requestFrame, matchesCall, Matches, Sent
 use Rattle.bridge_rules.specs.Device.{Timeline, Arrives, Own, range, NotAfter, Meanwhile, Unwritten}
 use Rattle.bridge_examples.specs.Examples.{directory, memory, holding, after, run, reply, before, DoneRead, alone, unchanging, AloneShows}
 use Rattle.bridge_examples.specs.Examples.{together, written, TogetherShows, restarted, writtenOnce, RestartedShows, torn, overwritten, TornShows}
-use Rattle.bridge_examples.specs.Examples.{forged, ForgedShows, late, slow, LateShows, silence, sendsOf, Reckonings, Examples}
+use Rattle.bridge_examples.specs.Examples.{forged, ForgedShows, late, slow, LateShows, Examples}
 use Rattle.bridge_rules.proofs.Computing.{everything}
 use Rattle.bridge_rules.proofs.Search.{and-true, some-eq}
 use Rattle.bridge_rules.proofs.CallCases.{isFrame}
@@ -631,19 +631,6 @@ late-shows = record {
   closed = (late-closed, late-sent, late-gone);
 }
 
--- ── reckonings ─────────────────────────────────────────────────────────────────────────────────────────────────────
-
-reckoned : Reckonings
-unfolding everything silence sendsOf
-reckoned = record {
-  sends = refl;
-  notYet = refl;
-  givenUp = refl;
-  most = refl;
-  tooMany = refl;
-  zero = refl;
-}
-
 pub examples : Examples
 examples = record {
   aloneShows = alone-shows;
@@ -652,5 +639,4 @@ examples = record {
   tornShows = torn-shows;
   forgedShows = forged-shows;
   lateShows = late-shows;
-  reckonings = reckoned;
 }

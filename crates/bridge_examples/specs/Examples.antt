@@ -4,7 +4,6 @@ use Prim.Native.Nat.{ℕ, zero, suc, _*_, _-_}
 use mathlib.Core.Path.{_≡_}
 use mathlib.Core.Logic.{_≢_}
 use mathlib.Core.List.{List, [], _∷_, _++_}
-use mathlib.Core.Option.{Option, none, some}
 use mathlib.Core.Bool.{cond}
 use lib.ListN.{replicate}
 use lib.Dec.{ltb}
@@ -251,31 +250,6 @@ pub record LateShows : Type 0 where
   -- the premise that fails: the transfer whose request is answered was closed
   pub closed : (y : Transfer (run late)) × Sent (run late) y 0 1 × (¬ Stands (run late) y 5)
 
--- ── 01's reckonings of the bridge that are not marked * ────────────────────────────────────────────────────────────
-
--- one read, and a device that never replies: event k is turn k
-unfoldable pub silence : List Call
-silence = opening itsOwn (read 5 7 6 10) ∷ replicate 61 (turn itsOwn)
-
--- those of the first n events that yielded a frame
-unfoldable pub sendsOf : Run → ℕ → List ℕ
-sendsOf r zero = []
-sendsOf r (suc n) = sendsOf r n ++ yielded (answer r n .sent) n
-  where
-    yielded : Option Frame → ℕ → List ℕ
-    yielded none k = []
-    yielded (some f) k = k ∷ []
-
-pub record Reckonings : Type 0 where
-  -- silent device, alone: sends on turns 1, 21, 41; gives up on turn 61
-  pub sends : sendsOf (run silence) 62 ≡ 1 ∷ 21 ∷ 41 ∷ []
-  pub notYet : answerTo (run silence) 61 (status 1) .number ≡ 15
-  pub givenUp : answerTo (run silence) 62 (status 1) .number ≡ 16
-  -- 128 bytes accepted, 129 and 0 are 9
-  pub most : answerTo (run []) 0 (opening itsOwn (read 5 7 0 128)) .number ≡ 0
-  pub tooMany : answerTo (run []) 0 (opening itsOwn (read 5 7 0 129)) .number ≡ 9
-  pub zero : answerTo (run []) 0 (opening itsOwn (read 5 7 0 0)) .number ≡ 9
-
 -- all of it
 pub record Examples : Type 0 where
   pub aloneShows : AloneShows
@@ -284,4 +258,3 @@ pub record Examples : Type 0 where
   pub tornShows : TornShows
   pub forgedShows : ForgedShows
   pub lateShows : LateShows
-  pub reckonings : Reckonings

@@ -28,7 +28,7 @@ use Rattle.bridge_rules.proofs.SlotChanges.{Requested, sent-read, advan
 use Rattle.bridge_rules.proofs.SlotEffects.{unchanged, ages, served, taken, change-same}
 use Rattle.bridge_rules.proofs.TurnCounts.{turns-same, turns-more, turns-none, turns-mono}
 use Rattle.bridge_rules.proofs.SoundRuns.{storage-sound}
-use Rattle.bridge_rules.proofs.Standing.{okAt, agingAt, openedAt, slotAt, Changes, Held, held, opened-stands, Begins, begins-open, along-from}
+use Rattle.bridge_rules.proofs.Standing.{okAt, agingAt, openedAt, slotAt, ChangesSlot, Held, held, opened-stands, Begins, begins-open, along-from}
 use Rattle.bridge_rules.proofs.Standing.{stands-before}
 use Rattle.bridge_rules.proofs.Matching.{matches-ok, matches-true, turn-unmatched, matches-awaited, awaited-matches}
 use Rattle.bridge_rules.proofs.SentRequests.{sends-request}
@@ -174,7 +174,7 @@ module _ (r : Run) (w : Lawful r) (x : Transfer r) where
     ifGaveUp = λ q. other-phase (g .phase) q refl;
   }
 
-  asked-step : (n : ℕ) → Stands r x n → Held r x n → Changes r x n → AskedSoFar r x n → AskedSoFar r x (suc n)
+  asked-step : (n : ℕ) → Stands r x n → Held r x n → ChangesSlot r x n → AskedSoFar r x n → AskedSoFar r x (suc n)
   asked-step n st h (unchanged v) p = record {
     asking = rw (v .after) (p .asking);
     got = λ c l. part-got c n (v .part) (p .got c (rw (v .after) at l));

@@ -15,7 +15,7 @@ use Rattle.bridge_rules.proofs.SlotChanges.{Advance, readyNext, doneWit
 use Rattle.bridge_rules.proofs.SlotEffects.{unchanged, ages, served, taken, distance, distance-small}
 use Rattle.bridge_rules.proofs.TurnCounts.{turns-same, turns-more, turns-none}
 use Rattle.bridge_rules.proofs.SoundRuns.{UnservedAt}
-use Rattle.bridge_rules.proofs.Standing.{okAt, openedAt, slotAt, Changes, Held, held, Begins, along-from}
+use Rattle.bridge_rules.proofs.Standing.{okAt, openedAt, slotAt, ChangesSlot, Held, held, Begins, along-from}
 
 -- turns used, and turns that the current chunk may still take, by phase; nine turns a byte are 72 for eight
 record WithinBound (r : Run) (x : Transfer r) (j n : ℕ) : Type 0 where
@@ -46,7 +46,7 @@ module _ (r : Run) (w : Lawful r) (x : Transfer r) where
       go (inl p) = omega (arith, b .ifReady (p .0))
       go (inr a) = omega (arith, b .ifWaiting (a .was .phase), a .over)
 
-  within-step : (j n : ℕ) → Stands r x (suc n) → j < n → Held r x n → Changes r x n → WithinBound r x j n → WithinBound r x j (suc n)
+  within-step : (j n : ℕ) → Stands r x (suc n) → j < n → Held r x n → ChangesSlot r x n → WithinBound r x j n → WithinBound r x j (suc n)
   within-step j n s l h (unchanged v) b = record {
     ifReady = λ p. rw (turns-same r j n (v .noTurn), v .after, v .last) (b .ifReady (sym (phase-eq (v .after)) ∙ p));
     ifWaiting = λ p. rw (turns-same r j n (v .noTurn), v .after) (b .ifWaiting (sym (phase-eq (v .after)) ∙ p));

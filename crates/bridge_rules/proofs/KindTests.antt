@@ -1,10 +1,10 @@
 -- What the two tests of a kind say of each other, and of what was asked for. Nothing else opens them.
-use Prim.Native.Nat.{ℕ, _≤_}
+use Prim.Native.Nat.{ℕ}
 use mathlib.Core.Path.{_≡_, refl, sym, _∙_}
 use mathlib.Core.Logic.{_⊎_, inl, inr}
 use mathlib.Core.Bool.{Bool, true, false, _||_, false≢true, true≢false}
 use native.Mathlib.Omega.{arith}
-use borrow.Author.Tests.{eqb-true, ne-eqb}
+use borrow.Author.Tests.{eqb-true, eq-eqb, ne-eqb}
 use Rattle.bridge_rules.specs.State.{reads, writes, asks, carries}
 use Rattle.bridge_rules.specs.Opening.{Ask, read, write, isWrite, askKind}
 
@@ -35,10 +35,22 @@ tested-known k e = go (asks k) (carries k) refl refl e
     go false true p q h = inl q
     go false false p q h = absurd (false≢true h)
 
-pub known-small : (k : ℕ) → KnownKind k → k ≤ 1
-unfolding asks carries
-known-small k (inl c) = omega (arith, eqb-true k writes c)
-known-small k (inr a) = omega (arith, eqb-true k reads a)
+-- by the kinds' numbers
+pub asks-reads : (k : ℕ) → asks k ≡ true → k ≡ reads
+unfolding asks
+asks-reads k e = eqb-true k reads e
+
+pub reads-asks : (k : ℕ) → k ≡ reads → asks k ≡ true
+unfolding asks
+reads-asks k e = eq-eqb k reads e
+
+pub carries-writes : (k : ℕ) → carries k ≡ true → k ≡ writes
+unfolding carries
+carries-writes k e = eqb-true k writes e
+
+pub writes-carries : (k : ℕ) → k ≡ writes → carries k ≡ true
+unfolding carries
+writes-carries k e = eq-eqb k writes e
 
 -- of what was asked for
 pub asked-known : (a : Ask) → KnownKind (askKind a)

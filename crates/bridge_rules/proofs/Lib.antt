@@ -1,3 +1,5 @@
+pub mod Computing
+pub mod AllExamples
 pub mod Search
 pub mod NumberLaws
 pub mod KindTests
@@ -7,6 +9,7 @@ pub mod AwaitsTest
 pub mod SlotOk
 pub mod SlotChanges
 pub mod SoundTest
+pub mod SoundExactly
 pub mod SoundStates
 pub mod CallCases
 pub mod KeepsSound
@@ -22,15 +25,15 @@ pub mod EndsInBound
 pub mod SentRequests
 pub mod Matching
 pub mod AskedSoFar
-pub mod AfterSend
+pub mod JustSent
 pub mod RepliesInOrder
 pub mod ShownBytes
 pub mod WrittenInOrder
 pub mod TableBytes
 pub mod TurnSends
+pub mod CallChanges
 pub mod OpeningNumbers
 pub mod NumbersInRuns
 pub mod Demand3
 pub mod Calls
 pub mod Corollaries
-pub mod Computing

@@ -1,4 +1,4 @@
--- In a run, each call's number is given exactly when the paper says, by the calls alone.
+-- In a run, each call's number is given exactly when the paper says, by the calls and their answers.
 use Prim.Native.Nat.{ℕ, suc, _^_, _≤_, _<_}
 use mathlib.Core.Path.{_≡_, refl, sym, _∙_, ap, subst}
 use mathlib.Core.Logic.{_↔_, _⊎_, inl, inr, _≢_}

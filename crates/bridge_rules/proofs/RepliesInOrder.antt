@@ -18,9 +18,9 @@ use Rattle.bridge_rules.proofs.CallCases.{CallCase, nothing, opens, sen
 use Rattle.bridge_rules.proofs.SlotEffects.{unchanged, ages, served, taken}
 use Rattle.bridge_rules.proofs.TurnCounts.{turns-none}
 use Rattle.bridge_rules.proofs.SoundRuns.{caseAt}
-use Rattle.bridge_rules.proofs.Standing.{full-done, okAt, openedAt, slotAt, Changes, changes, Held, held, stands-back}
+use Rattle.bridge_rules.proofs.Standing.{full-done, okAt, openedAt, slotAt, ChangesSlot, changes, Held, held, stands-back}
 use Rattle.bridge_rules.proofs.Matching.{MatchesOk, matches-ok, turn-unmatched, matches-awaited}
-use Rattle.bridge_rules.proofs.AfterSend.{Waits, WithoutReply, without-reply, AfterSend, after-send, grown, waits-asks}
+use Rattle.bridge_rules.proofs.JustSent.{Waits, WithoutReply, without-reply, JustSent, just-sent, grown, waits-asks}
 
 module _ (r : Run) (w : Lawful r) (x : Transfer r) where
   -- the slot waits for a reply when it comes
@@ -49,7 +49,7 @@ module _ (r : Run) (w : Lawful r) (x : Transfer r) where
       h : Held r x m
       h = held r w x m (p .awaits .stands)
 
-      go : Changes r x m → GoesOn c m
+      go : ChangesSlot r x m → GoesOn c m
       go (unchanged v) =
           let q = matches-ok r w x c m (p .matches) in
           contradiction (reply-awaited c m p) (v .unawaited (q .0) (q .1 .is) (q .1 .passes))
@@ -134,14 +134,14 @@ module _ (r : Run) (w : Lawful r) (x : Transfer r) where
           go (yes p) = p
           go (no p) = absurd (omega (arith, t .third .late, turns-none r (t .j₃) n (omega arith)))
 
-      a₁ : AfterSend r w x (t .c) (t .j₁)
-      a₁ = after-send r w x (t .c) (t .j₁) n (t .first .sent) (omega (arith, t .order₁, t .order₂, l₃)) s
+      a₁ : JustSent r w x (t .c) (t .j₁)
+      a₁ = just-sent r w x (t .c) (t .j₁) n (t .first .sent) (omega (arith, t .order₁, t .order₂, l₃)) s
 
-      a₂ : AfterSend r w x (t .c) (t .j₂)
-      a₂ = after-send r w x (t .c) (t .j₂) n (t .second .sent) (omega (arith, t .order₂, l₃)) s
+      a₂ : JustSent r w x (t .c) (t .j₂)
+      a₂ = just-sent r w x (t .c) (t .j₂) n (t .second .sent) (omega (arith, t .order₂, l₃)) s
 
-      a₃ : AfterSend r w x (t .c) (t .j₃)
-      a₃ = after-send r w x (t .c) (t .j₃) n (t .third .sent) l₃ s
+      a₃ : JustSent r w x (t .c) (t .j₃)
+      a₃ = just-sent r w x (t .c) (t .j₃) n (t .third .sent) l₃ s
 
       b₁₂ : slotAt r x (suc (t .j₁)) .sends ≤ slotAt r x (t .j₂) .sends
       b₁₂ = grown r w x (suc (t .j₁)) (t .j₂) (omega (arith, t .first .sent .stands .0)) (waits-asks r w x (suc (t .j₁)) (a₁ .phase))

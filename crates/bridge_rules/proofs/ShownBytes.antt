@@ -13,7 +13,8 @@ use Rattle.bridge_rules.specs.State.{Bridge, done, slot, asks, carries}
 use Rattle.bridge_rules.specs.Answers.{plain, Answer}
 use Rattle.bridge_rules.specs.Opening.{isWrite, askCount}
 use Rattle.bridge_rules.specs.Turn.{chunkLen}
-use Rattle.bridge_rules.specs.Ending.{partOf, slotSpan}
+use Rattle.wire.specs.Log.{partOf}
+use Rattle.bridge_rules.specs.Ending.{slotSpan}
 use Rattle.bridge_rules.specs.Call.{Call, itsOwn, frame}
 use Rattle.bridge_rules.specs.Run.{Run, state, buffer, Lawful, Shaped, Transfer, slotOf, Stands, chunks, lenOf, statusAt, shownAt}
 use Rattle.bridge_rules.specs.Replies.{place, Matches, Replied}

@@ -160,7 +160,7 @@ turnedBy s b c = isTurn c && eqb (step s b c .answer .number) 0
 abbrev pub EffectOf : Bridge → List ℕ → Call → ℕ → Type 0
 EffectOf s b c k = Effect s (step s b c .state) b (step s b c .buffer) c (step s b c .answer) (turnedBy s b c) k
 
-given-short : (a : Ask) → LawfulAsk a → 0 + length (askGiven a) ≤ 128
+pub given-short : (a : Ask) → LawfulAsk a → 0 + length (askGiven a) ≤ 128
 given-short (read d t o n) w = omega arith
 given-short (write d t o bs) w = omega (arith, w .few)
 

@@ -7,7 +7,7 @@ use native.Mathlib.Omega.{arith}
 use lib.Dec.{eqb}
 use borrow.Author.Tests.{eqb-true, eqb-false}
 use Rattle.bridge_rules.specs.State.{Slot, free, ready, waiting, done, gaveUp, blank, isReady, isWaiting, isFree, asks, carries}
-use Rattle.bridge_rules.proofs.KindTests.{KnownKind, known-small}
+use Rattle.bridge_rules.proofs.KindTests.{KnownKind}
 use Rattle.bridge_rules.proofs.NumberLaws.{LawfulArgs}
 use Rattle.bridge_rules.proofs.Search.{contradiction}
 
@@ -26,9 +26,6 @@ left-eq e = ap (λ (z : Slot). z .left) e
 
 pub ticket-eq : {x y : Slot} → x ≡ y → x .ticket ≡ y .ticket
 ticket-eq e = ap (λ (z : Slot). z .ticket) e
-
-pub kind-eq : {x y : Slot} → x ≡ y → x .kind ≡ y .kind
-kind-eq e = ap (λ (z : Slot). z .kind) e
 
 pub count-eq : {x y : Slot} → x ≡ y → x .count ≡ y .count
 count-eq e = ap (λ (z : Slot). z .count) e
@@ -121,13 +118,6 @@ done-ok x k h = ok-in x k done h
 pub gave-up-ok : (x : Slot) → SlotOk x → x .phase ≡ gaveUp → GaveUpOk x
 gave-up-ok x k h = ok-in x k gaveUp h
 
-pub phase-small : (x : Slot) → SlotOk x → x .phase ≤ 4
-phase-small x (okFree e) = omega (arith, phase-eq e)
-phase-small x (okReady r) = omega (arith, r .phase)
-phase-small x (okWaiting w) = omega (arith, w .phase)
-phase-small x (okDone d) = omega (arith, d .phase)
-phase-small x (okGaveUp g) = omega (arith, g .phase)
-
 -- ── free or held ───────────────────────────────────────────────────────────────────────────────────────────────────
 
 free-or-held : (x : Slot) → SlotOk x → (x ≡ blank) ⊎ ((isFree (x .phase) ≡ false) × HeldOk x)
@@ -157,14 +147,6 @@ held-free x k p = go (free-or-held x k)
     go : (x ≡ blank) ⊎ ((isFree (x .phase) ≡ false) × HeldOk x) → isFree (x .phase) ≡ false
     go (inl e) = absurd (omega (arith, p, ticket-eq e))
     go (inr h) = h .0
-
--- bounds of every sound slot
-pub kind-small : (x : Slot) → SlotOk x → x .kind ≤ 1
-kind-small x k = go (free-or-held x k)
-  where
-    go : (x ≡ blank) ⊎ ((isFree (x .phase) ≡ false) × HeldOk x) → x .kind ≤ 1
-    go (inl e) = omega (arith, kind-eq e)
-    go (inr h) = known-small (x .kind) (h .1 .kind)
 
 pub count-few : (x : Slot) → SlotOk x → x .count ≤ 128
 count-few x k = go (free-or-held x k)

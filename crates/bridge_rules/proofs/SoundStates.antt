@@ -1,4 +1,4 @@
--- A sound state with one slot set, with every slot aged, or made fresh is sound.
+-- A sound state with one slot set, with every waiting read aged, or made fresh is sound.
 use Prim.Native.Nat.{ℕ, zero, suc, _≤_, _<_}
 use mathlib.Core.Path.{_≡_, refl, sym, _∙_, ap}
 use mathlib.Core.Logic.{_≢_}
@@ -76,7 +76,7 @@ pub keeps-apart : (s : Bridge) (k : ℕ) (y : Slot) → Sound s → k < 4 → y 
     → 0 < y .ticket → y .ticket ≢ slot s j .ticket
 keeps-apart s k y h l e j m d p = rw e (h .apart k j l m (λ z. d (sym z)) (rw e at p))
 
--- ── every slot aged, and one served ────────────────────────────────────────────────────────────────────────────────
+-- ── every waiting read aged, and one slot served ───────────────────────────────────────────────────────────────────
 
 pub slot-aged : (s : Bridge) (k : ℕ) → slot (agedBridge s) k ≡ aged (slot s k)
 unfolding slot agedBridge aged

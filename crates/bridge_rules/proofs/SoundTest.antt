@@ -11,11 +11,10 @@ use lib.Dec.{leb, ltb, eqb}
 use borrow.Author.Tests.{not-true, eqb-true, eqb-false, ne-eqb, eq-eqb, lt-ltb, le-leb, ltb-true, leb-true}
 use Rattle.bridge_rules.specs.State.{Bridge, Slot, free, ready, waiting, done, gaveUp, isZero, isFree, blank, slot, asks, carries, partway, askNumber}
 use Rattle.bridge_rules.specs.State.{soundPhase, soundSlot, soundSlots, absent, distinct, sound}
-use Rattle.bridge_rules.specs.Calls.{SoundNumbers}
 use Rattle.bridge_rules.proofs.KindTests.{KnownKind, carries-only, known-tested, tested-known}
 use Rattle.bridge_rules.proofs.NumberLaws.{args-lawful, args-clear}
 use Rattle.bridge_rules.proofs.Search.{and-intro, and-true, contradiction}
-use Rattle.bridge_rules.proofs.SlotOk.{HeldOk, Partway, SlotOk, okFree, okReady, okWaiting, okDone, okGaveUp, phase-small, kind-small, ticket-eq}
+use Rattle.bridge_rules.proofs.SlotOk.{HeldOk, Partway, SlotOk, okFree, okReady, okWaiting, okDone, okGaveUp, ticket-eq}
 
 pub record Sound (s : Bridge) : Type 0 where
   pub own : s .own ≤ 15
@@ -344,9 +343,3 @@ true-sound s h =
       given = λ k l. true-slots (s .issued) (s .slots) (a2 .1) k (omega arith) .1;
       apart = λ k j l m d p. true-distinct (s .slots) (a1 .1) k j (omega arith) (omega arith) d p;
     }
-
--- a sound state's phases and kinds are those that have names
-pub sound-numbers : SoundNumbers
-sound-numbers s h k l =
-    let x : SlotOk (slot s k) = true-sound s h .each k l in
-    (phase-small (slot s k) x, kind-small (slot s k) x)

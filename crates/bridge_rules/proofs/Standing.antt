@@ -71,8 +71,8 @@ abbrev pub slotAt : (r : Run) → Transfer r → ℕ → Slot
 slotAt r x n = slot (state r n) (slotOf r x)
 
 -- what call n does to it while its transfer stands
-abbrev pub Changes : (r : Run) → Transfer r → ℕ → Type 0
-Changes r x n = ChangeAt r n (slotOf r x)
+abbrev pub ChangesSlot : (r : Run) → Transfer r → ℕ → Type 0
+ChangesSlot r x n = ChangeAt r n (slotOf r x)
 
 pub record Held (r : Run) (x : Transfer r) (n : ℕ) : Type 0 where
   pub ticket : slotAt r x n .ticket ≡ ticket r x
@@ -103,13 +103,13 @@ module _ (r : Run) (w : Lawful r) (x : Transfer r) where
   pub agingAt : (n : ℕ) → Aging (slotAt r x n)
   agingAt n = aging (slotAt r x n) (okAt n)
 
-  changes-held : (n : ℕ) → Stands r x (suc n) → x .at < n → Held r x n → Changes r x n
+  changes-held : (n : ℕ) → Stands r x (suc n) → x .at < n → Held r x n → ChangesSlot r x n
   changes-held n s l h = go (effectAt r w n (slotOf r x) (openedAt r w x .bound))
     where
       ends : ¬ Closing r x n
       ends = s .1 n l (omega arith)
 
-      go : EffectAt r n (slotOf r x) → Changes r x n
+      go : EffectAt r n (slotOf r x) → ChangesSlot r x n
       go (keeps u) = u
       go (opensHere u) = absurd (omega (arith, no-ticket (slotAt r x n) (okAt n) (u .free), h .ticket, openedAt r w x .ticketed))
       go (closesHere u) = absurd (ends (u .number, inl (u .call ∙ ap close (sym (u .has) ∙ h .ticket))))
@@ -142,7 +142,7 @@ module _ (r : Run) (w : Lawful r) (x : Transfer r) where
           let h : Held r x n = ih (stands-before n s l) in
           held-next n h (change-same (changes-held n s l h))
 
-  pub changes : (n : ℕ) → Stands r x (suc n) → x .at < n → Changes r x n
+  pub changes : (n : ℕ) → Stands r x (suc n) → x .at < n → ChangesSlot r x n
   changes n s l = changes-held n s l (held n (stands-before n s l))
 
   pub held-slot : (n : ℕ) → Stands r x n → isFree (slotAt r x n .phase) ≡ false
@@ -167,7 +167,7 @@ module _ (r : Run) (w : Lawful r) (x : Transfer r) where
 
   -- induction over a standing transfer's events, from any event b on
   pub along-from : (b : ℕ) → x .at < b → (P : ℕ → Type 0) → P b
-      → ((n : ℕ) → Stands r x (suc n) → b ≤ n → Held r x n → Changes r x n → P n → P (suc n)) → (n : ℕ) → b ≤ n → Stands r x n → P n
+      → ((n : ℕ) → Stands r x (suc n) → b ≤ n → Held r x n → ChangesSlot r x n → P n → P (suc n)) → (n : ℕ) → b ≤ n → Stands r x n → P n
   along-from b at P base step zero l s = absurd (omega arith)
   along-from b at P base step (suc n) l s = go (along-from b at P base step n) (ℕ-discrete b (suc n))
     where

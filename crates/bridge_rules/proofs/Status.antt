@@ -13,7 +13,8 @@ use borrow.Author.Tests.{eqb-true, eq-eqb}
 use Rattle.wire.specs.Order.{_if_else_}
 use Rattle.bridge_rules.specs.State.{Bridge, done, gaveUp, slot, isFree, heldSlot, asks, sound}
 use Rattle.bridge_rules.specs.Answers.{plain}
-use Rattle.bridge_rules.specs.Ending.{phaseNumber, ticketNumber, statusOf, bytesOf, bytesNumber, noSpan, slotSpan, spanOf, partOf}
+use Rattle.bridge_rules.specs.Ending.{phaseNumber, ticketNumber, statusOf, bytesOf, bytesNumber, noSpan, slotSpan, spanOf}
+use Rattle.wire.specs.Log.{partOf}
 use Rattle.bridge_rules.specs.Call.{itsOwn, status, bytes, step}
 use Rattle.bridge_rules.specs.Run.{Run, state, buffer, Lawful, Transfer, ticket, slotOf, Stands, statusAt, shownAt}
 use Rattle.bridge_rules.specs.Demand3.{showing}

@@ -16,7 +16,8 @@ use Rattle.bridge_rules.specs.Answers.{Result, lentNumber}
 use Rattle.bridge_rules.specs.Turn.{aged, sentFrame, agedBridge, sendFor, turnOf, chunkLen}
 use Rattle.bridge_rules.specs.Call.{itsOwn, turn, step}
 use Rattle.bridge_rules.specs.Run.{Transfer}
-use Rattle.bridge_rules.specs.Calls.{FirstReady, NextBytes, TurnYields, TurnSends, SendsForTransfers}
+use Rattle.bridge_rules.specs.Changes.{FirstReady, NextBytes}
+use Rattle.bridge_rules.specs.Calls.{TurnYields, TurnSends, SendsForTransfers}
 use Rattle.bridge_rules.proofs.NumberLaws.{lent-ok, lent-clear}
 use Rattle.bridge_rules.proofs.KindTests.{KnownKind, asks-of}
 use Rattle.bridge_rules.proofs.FrameLaws.{len-some, len-eight, len-inside, read-is, write-is}
@@ -37,7 +38,7 @@ unready-phase : (p : ℕ) → isReady p ≡ false → p ≢ ready
 unready-phase p e q = contradiction (ap isReady q) e
 
 -- an accepted turn was handed a sound bridge and its buffer
-turn-lent : (s : Bridge) (b : List ℕ) → step s b (turn itsOwn) .answer .number ≡ 0 → (sound s ≡ true) × (length b ≡ 512)
+pub turn-lent : (s : Bridge) (b : List ℕ) → step s b (turn itsOwn) .answer .number ≡ 0 → (sound s ≡ true) × (length b ≡ 512)
 unfolding step turnOf
 turn-lent s b e = go (outcome (lentNumber s (length b)) (sendFor (agedBridge s) b (nextReady (agedBridge s))) s b)
   where
@@ -59,7 +60,7 @@ unfolding agedBridge
 aged-own s = refl
 
 -- what a ready slot sends are its next bytes, and nothing else is
-next-bytes : (own k : ℕ) (x : Slot) (b : List ℕ) → k < 4 → length b ≡ 512 → ReadyOk x → NextBytes own k x b (sentFrame own k x b)
+pub next-bytes : (own k : ℕ) (x : Slot) (b : List ℕ) → k < 4 → length b ≡ 512 → ReadyOk x → NextBytes own k x b (sentFrame own k x b)
 next-bytes own k x b l lb r =
     let in-count = len-inside (x .count) (x .progress) (r .partway .below) in
     record {
@@ -87,13 +88,39 @@ next-only own k x b f told n = go told
         ∙ sym (n .requests e ∙ ap (λ (i : ℕ). frameWith (idOf (x .offset + x .progress) req own (x .device) (x .table))
         (request 6 (128 * k + x .progress) i)) (n .next))
 
+-- the first ready slot is one
+first-only : (s : Bridge) (k j : ℕ) → FirstReady s k → FirstReady s j → j ≡ k
+first-only s k j f g = go (decLt (g .d) (f .d)) (decLt (f .d) (g .d))
+  where
+    go : Dec (g .d < f .d) → Dec (f .d < g .d) → j ≡ k
+    go (yes p) q = absurd (f .before (g .d) p (subst (λ (i : ℕ). aged (slot s i) .phase ≡ ready) (g .is) (g .readied)))
+    go (no p) (yes q) = absurd (g .before (f .d) q (subst (λ (i : ℕ). aged (slot s i) .phase ≡ ready) (f .is) (f .readied)))
+    go (no p) (no q) = g .is ∙ ap (λ (i : ℕ). (suc (s .last) + i) % 4) (omega arith) ∙ sym (f .is)
+
+ready-at : (s : Bridge) (k : ℕ) → readyAt (agedBridge s) k ≡ isReady (aged (slot s k) .phase)
+ready-at s k = ap (λ (x : Slot). isReady (x .phase)) (slot-aged s k)
+
+-- and the search finds it
+module _ (s : Bridge) (h : Sound s) (k : ℕ) (found : Found (readyAt (agedBridge s)) (suc (s .last)) 4 k) where
+  pub found-bound : k < 4
+  found-bound = omega (arith, found .is)
+
+  pub found-ready : ReadyOk (aged (slot s k))
+  found-ready = rw (slot-aged s k) at (ready-ok (slot (agedBridge s) k) (aged-sound s h .each k found-bound) (found .passes))
+
+  pub found-first : FirstReady s k
+  found-first = record {
+    d = found .d;
+    near = found .near;
+    is = found .is;
+    readied = found-ready .phase;
+    before = λ e l. unready-phase _ (sym (ready-at s ((suc (s .last) + e) % 4)) ∙ found .skipped e l);
+  }
+
 module _ (s : Bridge) (b : List ℕ) (h : Sound s) (lb : length b ≡ 512) where
   is : step s b (turn itsOwn) ≡ sendFor (agedBridge s) b (nextReady (agedBridge s))
   unfolding step turnOf
   is = rw (lent-clear s (length b) (sound-true s h) lb)
-
-  ready-at : (k : ℕ) → readyAt (agedBridge s) k ≡ isReady (aged (slot s k) .phase)
-  ready-at k = ap (λ (x : Slot). isReady (x .phase)) (slot-aged s k)
 
   -- no slot is ready
   module _ (z : nextReady (agedBridge s) ≡ none) where
@@ -103,7 +130,7 @@ module _ (s : Bridge) (b : List ℕ) (h : Sound s) (lb : length b ≡ 512) where
 
     unready : (k : ℕ) → k < 4 → aged (slot s k) .phase ≢ ready
     unfolding nextReady agedBridge
-    unready k l = unready-phase _ (sym (ready-at k) ∙ rw (distance-is (s .last) k (h .last) l) at
+    unready k l = unready-phase _ (sym (ready-at s k) ∙ rw (distance-is (s .last) k (h .last) l) at
         (search-none (readyAt (agedBridge s)) (suc (s .last)) 4 z (distance (s .last) k) (omega (arith, distance-small (s .last) k))))
 
     idle-yields : TurnYields s b (step s b (turn itsOwn) .answer)
@@ -120,34 +147,15 @@ module _ (s : Bridge) (b : List ℕ) (h : Sound s) (lb : length b ≡ 512) where
     found = search-some (readyAt (agedBridge s)) (suc (s .last)) 4 k z
 
     bound : k < 4
-    bound = omega (arith, found .is)
+    bound = found-bound s h k found
 
     readied : ReadyOk (aged (slot s k))
-    unfolding agedBridge
-    readied = rw (slot-aged s k) at (ready-ok (slot (agedBridge s) k) (aged-sound s h .each k bound) (found .passes))
+    readied = found-ready s h k found
 
     sent : step s b (turn itsOwn) .answer .sent ≡ some (sentFrame (s .own) k (aged (slot s k)) b)
     sent = ap (λ (u : Result). u .answer .sent) is ∙ ap (λ (o : Option ℕ). sendFor (agedBridge s) b o .answer .sent) z
         ∙ sends-some (agedBridge s) b k
         ∙ ap₂ (λ (o : ℕ) (x : Slot). some (sentFrame o k x b)) (aged-own s) (slot-aged s k)
-
-    first : FirstReady s k
-    first = record {
-      d = found .d;
-      near = found .near;
-      is = found .is;
-      readied = readied .phase;
-      before = λ e l. unready-phase _ (sym (ready-at ((suc (s .last) + e) % 4)) ∙ found .skipped e l);
-    }
-
-    only : (j : ℕ) → FirstReady s j → j ≡ k
-    unfolding first
-    only j f = go (decLt (f .d) (found .d)) (decLt (found .d) (f .d))
-      where
-        go : Dec (f .d < found .d) → Dec (found .d < f .d) → j ≡ k
-        go (yes p) q = absurd (first .before (f .d) p (subst (λ (i : ℕ). aged (slot s i) .phase ≡ ready) (f .is) (f .readied)))
-        go (no p) (yes q) = absurd (f .before (found .d) q (subst (λ (i : ℕ). aged (slot s i) .phase ≡ ready) (found .is) (readied .phase)))
-        go (no p) (no q) = f .is ∙ ap (λ (i : ℕ). (suc (s .last) + i) % 4) (omega arith) ∙ sym (found .is)
 
     sent-yields : TurnYields s b (step s b (turn itsOwn) .answer)
     sent-yields = record {
@@ -156,12 +164,12 @@ module _ (s : Bridge) (b : List ℕ) (h : Sound s) (lb : length b ≡ 512) where
       yields = λ f. (
         λ e. (
           k,
-          first,
+          found-first s h k found,
           subst (NextBytes (s .own) k (aged (slot s k)) b) (some-eq (sym sent ∙ e))
               (next-bytes (s .own) k (aged (slot s k)) b bound lb readied),
         ),
         λ p. sent ∙ ap some (next-only (s .own) k (aged (slot s k)) b f (readied .held .kind)
-            (subst (λ (i : ℕ). NextBytes (s .own) i (aged (slot s i)) b f) (only (p .0) (p .1)) (p .2))),
+            (subst (λ (i : ℕ). NextBytes (s .own) i (aged (slot s i)) b f) (first-only s k (p .0) (found-first s h k found) (p .1)) (p .2))),
       );
     }
 

@@ -25,7 +25,7 @@ use Rattle.bridge_rules.proofs.SlotChanges.{Same, aged-same, aged-progr
 use Rattle.bridge_rules.proofs.SlotEffects.{unchanged, ages, served, taken}
 use Rattle.bridge_rules.proofs.SoundRuns.{storage-sound, UnservedAt, ServedAt}
 use Rattle.bridge_rules.proofs.LedgerAgrees.{own-is}
-use Rattle.bridge_rules.proofs.Standing.{full-done, openedAt, slotAt, Changes, changes, Held, held, along-from, stands-back}
+use Rattle.bridge_rules.proofs.Standing.{full-done, openedAt, slotAt, ChangesSlot, changes, Held, held, along-from, stands-back}
 
 -- what a write's slot says of the calls before
 pub record WrittenSoFar (r : Run) (x : Transfer r) (n : ℕ) : Type 0 where
@@ -142,7 +142,7 @@ module _ (r : Run) (w : Lawful r) (x : Transfer r) (wr : isWrite (x .ask) ≡ tr
       order k q (no u) =
           omega (arith, old-at (suc k) u, old-at k (λ z. omega (arith, q, grown, at, z)), p .order k (omega (arith, q, grown, at)))
 
-  written-step : (n : ℕ) → Stands r x (suc n) → x .at < n → Held r x n → Changes r x n → WrittenSoFar r x n → WrittenSoFar r x (suc n)
+  written-step : (n : ℕ) → Stands r x (suc n) → x .at < n → Held r x n → ChangesSlot r x n → WrittenSoFar r x n → WrittenSoFar r x (suc n)
   written-step n s l h (unchanged v) p = record {
     bytes = λ i q. v .part i (omega (arith, q, few)) ∙ p .bytes i q;
     j = p .j;
@@ -192,14 +192,14 @@ module _ (r : Run) (w : Lawful r) (x : Transfer r) (wr : isWrite (x .ask) ≡ tr
       unserved (inl u) = none-some (sym (u .silent) ∙ q .yields)
       unserved (inr u) = u .apart (sym (u .last) ∙ q .served)
 
-      go : Changes r x j → slotAt r x (suc j) .progress ≡ min (slotAt r x j .progress + 8) (askCount (x .ask))
+      go : ChangesSlot r x j → slotAt r x (suc j) .progress ≡ min (slotAt r x j .progress + 8) (askCount (x .ask))
       go (unchanged v) = contradiction (q .turned) (v .noTurn)
       go (ages v) = absurd (unserved (v .unserved))
       go (served v) = served-progress j h v
       go (taken v) = contradiction (q .turned) (v .noTurn)
 
   -- while it carries, its progress grows
-  carry-grows : (n : ℕ) → Held r x n → Changes r x n → slotAt r x n .progress ≤ slotAt r x (suc n) .progress
+  carry-grows : (n : ℕ) → Held r x n → ChangesSlot r x n → slotAt r x n .progress ≤ slotAt r x (suc n) .progress
   carry-grows n h (unchanged v) = omega (arith, progress-eq (v .after))
   carry-grows n h (ages v) = omega (arith, progress-eq (v .after), aged-progress (slotAt r x n))
   carry-grows n h (served v) =

@@ -1,21 +1,23 @@
--- The calls one by one: what is kept, what a turn sends, and which number is given when.
-use Prim.Native.Nat.{ℕ, suc, _+_, _*_, _%_, _^_, _≤_, _<_}
+-- The calls one by one: what is kept, what changes (specs/Changes), what a turn sends, and which number is given when.
+use Prim.Native.Nat.{ℕ, suc, _+_, _^_, _≤_, _<_}
 use mathlib.Core.Path.{_≡_}
 use mathlib.Core.Logic.{_↔_, _≢_}
 use mathlib.Core.List.{List}
 use mathlib.Core.Option.{none, some}
 use mathlib.Core.Bool.{true, false}
-use lib.ListN.{length, take, drop}
-use Rattle.bus_rules.specs.Frames.{cmd, req, rsp, frameWith}
-use Rattle.bus_rules.specs.Ident.{idOf, idSpare, idTo, idKind}
-use Rattle.bus_rules.specs.Request.{request}
+use lib.ListN.{length}
+use Rattle.bus_rules.specs.Frames.{rsp}
+use Rattle.bus_rules.specs.Ident.{idSpare, idTo, idKind}
 use Rattle.wire.specs.First.{First, Zero}
-use Rattle.bridge_rules.specs.State.{Frame, Bridge, Slot, free, ready, asks, carries, slot, sound, fresh}
+use Rattle.bridge_rules.specs.State.{Frame, Bridge, free, ready, slot, sound, fresh}
+use Rattle.bridge_rules.specs.Sound.{SoundExactly}
 use Rattle.bridge_rules.specs.Answers.{Answer, plain}
 use Rattle.bridge_rules.specs.Opening.{Ask, askDevice, askTable, askOffset, askCount, isWrite}
-use Rattle.bridge_rules.specs.Turn.{aged, chunkLen}
+use Rattle.bridge_rules.specs.Turn.{aged}
 use Rattle.bridge_rules.specs.Call.{Call, Lent, itsOwn, other, opening, turn, frame, bytes, close, reset, step}
+use Rattle.bridge_rules.specs.Changes.{FirstReady, NextBytes, Changes}
 use Rattle.bridge_rules.specs.Run.{ticket, Run, Lawful, Transfer, Stands, slotOf, answer, accepted, ledger, chunks}
+use Rattle.bridge_rules.specs.Examples.{Examples}
 use Rattle.bridge_rules.specs.Replies.{Replied, lastServed, requestFrame, commandFrame}
 
 -- ── Sound states ───────────────────────────────────────────────────────────────────────────────────────────────────
@@ -33,37 +35,12 @@ abbrev pub UnsoundRefused : Type 0
 UnsoundRefused = (s : Bridge) (b : List ℕ) (c : Call) → sound s ≡ false → ((own : ℕ) → c ≢ reset own) →
     step s b c ≡ record { answer = plain 11; state = s; buffer = b }
 
--- a sound state's phases and kinds are those that have names: 11 for a phase or kind that is none
-abbrev pub SoundNumbers : Type 0
-SoundNumbers = (s : Bridge) → sound s ≡ true → (k : ℕ) → k < 4 → (slot s k .phase ≤ 4) × (slot s k .kind ≤ 1)
-
 -- a refusal leaves state and buffer as they were, yields no frame and shows no bytes, and its other numbers are 0
 abbrev pub RefusalsKeep : Type 0
 RefusalsKeep = (s : Bridge) (b : List ℕ) (c : Call) (n : ℕ) → step s b c .answer .number ≡ n → n ≢ 0 →
     (step s b c .state ≡ s) × (step s b c .buffer ≡ b) × (step s b c .answer ≡ plain n)
 
 -- ── Turns ──────────────────────────────────────────────────────────────────────────────────────────────────────────
-
--- slot k is the first in the search, from the one after the last served, that is ready after the turn's aging
-pub record FirstReady (s : Bridge) (k : ℕ) : Type 0 where
-  pub d : ℕ
-  pub near : d < 4
-  pub is : k ≡ (suc (s .last) + d) % 4
-  pub readied : aged (slot s k) .phase ≡ ready
-  pub before : (e : ℕ) → e < d → aged (slot s ((suc (s .last) + e) % 4)) .phase ≢ ready
-
--- frame f asks for or carries the next 1 to 8 bytes of the transfer x in slot k
-pub record NextBytes (own k : ℕ) (x : Slot) (b : List ℕ) (f : Frame) : Type 0 where
-  pub n : ℕ
-  pub next : n ≡ chunkLen (x .count) (x .progress)
-  pub nonempty : 1 ≤ n
-  pub few : n ≤ 8
-  pub inside : x .progress + n ≤ x .count
-  pub requests : asks (x .kind) ≡ true →
-      f ≡ frameWith (idOf (x .offset + x .progress) req own (x .device) (x .table)) (request 6 (128 * k + x .progress) n)
-  pub commands : carries (x .kind) ≡ true →
-      (f ≡ frameWith (idOf (x .offset + x .progress) cmd own (x .device) (x .table)) (take n (drop (128 * k + x .progress) b)))
-      × (length (take n (drop (128 * k + x .progress) b)) ≡ n)
 
 -- what an accepted turn yields: a frame exactly when a slot is ready after its aging, nothing exactly when none is, and the frame is
 -- for the first such slot's next bytes
@@ -75,8 +52,8 @@ pub record TurnYields (s : Bridge) (b : List ℕ) (a : Answer) : Type 0 where
 abbrev pub TurnSends : Type 0
 TurnSends = (s : Bridge) (b : List ℕ) → step s b (turn itsOwn) .answer .number ≡ 0 → TurnYields s b (step s b (turn itsOwn) .answer)
 
--- in a run, by the calls alone: a turn's frame is the REQ or CMD of a chunk of a transfer that stands, and the slot last served is its
--- slot
+-- in a run: a turn's frame is the REQ or CMD of a chunk of a transfer that stands, and the slot last served, which is read off the bridge
+-- that the turn hands back, is its slot
 pub record SentFor (r : Run) (j : ℕ) (f : Frame) : Type 0 where
   pub asker : Transfer r
   pub stands : Stands r asker j
@@ -121,7 +98,7 @@ pub record Acceptable (s : Bridge) (b : List ℕ) (a : Ask) : Type 0 where
 abbrev pub OpensExactly : Type 0
 OpensExactly = (s : Bridge) (b : List ℕ) (a : Ask) → (step s b (opening itsOwn a) .answer .number ≡ 0) ↔ Acceptable s b a
 
--- ── Numbers in a run, by the calls alone ───────────────────────────────────────────────────────────────────────────
+-- ── Numbers in a run, by the calls and their answers ───────────────────────────────────────────────────────────────
 
 -- of an opening: 11 never; 12 where each of the four slots is that of a transfer that stands
 abbrev pub OpeningInRun : (r : Run) → ℕ → Lent → Ask → ℕ → Type 0
@@ -169,10 +146,14 @@ pub record Calls : Type 0 where
   pub keepsSound : KeepsSound
   pub resetFresh : ResetFresh
   pub unsoundRefused : UnsoundRefused
-  pub soundNumbers : SoundNumbers
+  -- and a sound state is what 01 says
+  pub soundExactly : SoundExactly
   pub refusalsKeep : RefusalsKeep
+  -- what is not refused changes this, and no more
+  pub changes : Changes
   pub turnSends : TurnSends
   pub sendsForTransfers : SendsForTransfers
   pub openingNumbers : OpeningNumbers
   pub opensExactly : OpensExactly
   pub numbersInRuns : NumbersInRuns
+  pub examples : Examples

@@ -40,7 +40,7 @@ pub record Arrives (r : Run) (x : Transfer r) (n m : ℕ) (f : Frame) : Type 0 w
   pub device : idFrom (f .id) ≡ askDevice (x .ask)
 
 -- it is THE DEVICE'S OWN, unaltered, to a request that these calls sent: the holder's rules (demand 2) give it for that request.
--- (The paper asks for `earlier`, `sinceAsked` and `sameLen`; the proof of demand 3 does without them.)
+-- (The paper asks for `sinceAsked` and `sameLen`; the proof does without them.)
 pub record Own (r : Run) (t : Timeline) (m : ℕ) (f : Frame) : Type 0 where
   pub request : Frame
   pub reply : Frame

@@ -3,9 +3,10 @@ use Prim.Native.Nat.{ℕ, _*_}
 use mathlib.Core.List.{List}
 use mathlib.Core.Option.{none}
 use mathlib.Core.Bool.{cond, not}
-use lib.ListN.{length, take, drop, set}
+use lib.ListN.{length, set}
 use lib.Dec.{ltb, eqb}
 use Rattle.wire.specs.Order.{_if_else_}
+use Rattle.wire.specs.Log.{partOf}
 use Rattle.wire.specs.declared.Span.{Span}
 use Rattle.bridge_rules.specs.declared.Bridge.{Bridge}
 use Rattle.bridge_rules.specs.declared.Changed.{Changed}
@@ -38,9 +39,6 @@ slotSpan s k = cond (asks (slot s k .kind)) (record { number = 0; start = 128 * 
 -- of a ticket, with a buffer of length n
 unfoldable pub spanOf : Bridge → ℕ → ℕ → Span
 spanOf s n t = cond (eqb (bytesNumber s n t) 0) (slotSpan s (orZero (heldSlot s t))) (noSpan (bytesNumber s n t))
-
-abbrev pub partOf : List ℕ → Span → List ℕ
-partOf b p = take (p .len) (drop (p .start) b)
 
 -- hands back that part of the buffer for a done read, an empty part otherwise
 unfoldable pub bytesOf : Bridge → List ℕ → ℕ → Answer

@@ -1,13 +1,16 @@
 pub mod State
+pub mod Sound
 pub mod Answers
 pub mod Opening
 pub mod Turn
 pub mod Incoming
 pub mod Ending
 pub mod Call
+pub mod Changes
 pub mod Run
 pub mod Replies
 pub mod Device
 pub mod Demand3
+pub mod Examples
 pub mod Corollaries
 pub mod Calls

@@ -22,7 +22,7 @@ ticked x =
 unfoldable pub aged : Slot → Slot
 aged x = cond (isWaiting (x .phase)) (ticked x) x
 
--- of all slots
+-- of all slots: waiting reads alone change
 unfoldable pub agedBridge : Bridge → Bridge
 agedBridge s = withSlots s (map aged (s .slots))
 

@@ -25,6 +25,7 @@ ghost use Rattle.bus_rules.specs.Device.{Device, device, startOf, sizeOf, right
 ghost use Rattle.bus_rules.specs.Holder.{commandNumber, requestNumber, queryNumber, kindNumber, serveNumber, requestAt, sizeAt, rightAt};
 ghost use Rattle.bus_rules.specs.Holder.{noAnswer, replyTo, placeOf, protocol, actOf, actAfter, serveOf, deviceAfter};
 ghost use Rattle.bus_rules.specs.Demand2.{Demand2};
+ghost use Rattle.bus_rules.specs.Examples.{Examples};
 
 // A table: its start (the sum of the sizes before it), its size and its right.
 struct Table {
@@ -100,9 +101,9 @@ pub fn memory_number(d: Directory, n: usize) -> u8
     ensures { λ r. ⌜ r ≡ memoryNumber d n ⌝ }
 {
     let t = tables_of(d);
-    let number = tables_number(d, t);
-    if number != 0 {
-        return number;
+    let unsound = tables_number(d, t);
+    if unsound != 0 {
+        return unsound;
     }
     if n != t.total as usize {
         return 10;
@@ -293,6 +294,7 @@ fn act(d: Directory, at: usize, memory: &mut [u8], p: Parts, f: Frame) -> Served
 pub fn serve(d: Directory, memory: &mut [u8], f: Frame) -> Served
     ensures { λ r. ⌜ (r ≡ serveOf (device d (now (memory .entry))) f) × (now (memory .exit) ≡ deviceAfter (device d (now (memory .entry))) f .memory) ⌝ }
     ensures demand2 { λ r. ⌜ Demand2 (device d (now (memory .entry))) f r (device d (now (memory .exit))) ⌝ }
+    ensures examples { λ _. ⌜ Examples ⌝ }
 {
     // Looked up before the directory is judged: a processor does both at once.
     let t = table_at(d, table_of(f.id) as usize);

@@ -1,5 +1,5 @@
 -- Demand 2 of the table holder, proved.
-use mathlib.Core.Path.{_≡_, refl, sym, _∙_, subst}
+use mathlib.Core.Path.{_≡_, refl, sym, _∙_, ap, subst}
 use mathlib.Core.Logic.{_⊎_, inl, inr, _≢_}
 use mathlib.Core.Bool.{Bool, true, false, cond}
 use mathlib.Core.List.{List, [], _∷_}
@@ -200,13 +200,17 @@ module _ (d : Device) (f : Frame) where
       go zero = act-zero
       go (suc n) = refl
 
+  refused : (n : ℕ) → serveNumber d f ≡ n → n ≢ 0 → (serveOf d f .frames ≡ 0) × (serveOf d f ≡ noAnswer n) × (deviceAfter d f ≡ d)
+  unfolding noAnswer
+  refused n h k = let r = refused-case d f n h k in (ap (λ (s : Served). s .frames) (r .0), r .0, r .1)
+
   pub demand2 : (s : Served) (after : Device) → s ≡ serveOf d f → after ≡ deviceAfter d f → IsFrame f
       → d .directory .«table_blocking» < 65536 → d .directory .«write_blocking» < 65536 → Demand2 d f s after
   demand2 s after e g w tb wb =
       rw (e, g)
       (record {
         number = subst (ServeNumber d f) (sym number-is) (serve-numbers d f);
-        refused = λ n. refused-case d f (serveOf d f .number) (sym number-is) n;
+        refused = refused (serveOf d f .number) (sym number-is);
         command = λ z. command-served d f w tb wb (sym number-is ∙ z);
         request = λ z. request-served d f w tb wb (sym number-is ∙ z);
         query = λ z. query-served d f w tb wb (sym number-is ∙ z);

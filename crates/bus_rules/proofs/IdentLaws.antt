@@ -85,11 +85,11 @@ zero-lawful p e =
     let h4 = if-zero 6 _ _ (h3 .1) in
     let h5 = if-zero 7 _ _ (h4 .1) in
     record {
-      offset = omega (arith, ltb-false 2047 (p .offset) (h5 .0));
-      kind = omega (arith, ltb-false 7 (p .kind) (h1 .0));
-      from = omega (arith, ltb-false 15 (p .from) (h2 .0));
-      to = omega (arith, ltb-false 15 (p .to) (h3 .0));
-      table = omega (arith, ltb-false 31 (p .table) (h4 .0));
+      offset = omega (arith, ltb-false _ (p .offset) (h5 .0));
+      kind = omega (arith, ltb-false _ (p .kind) (h1 .0));
+      from = omega (arith, ltb-false _ (p .from) (h2 .0));
+      to = omega (arith, ltb-false _ (p .to) (h3 .0));
+      table = omega (arith, ltb-false _ (p .table) (h4 .0));
     }
 
 pub lawful-zero : (p : Parts) → Lawful p → packNumber p ≡ 0
@@ -127,16 +127,16 @@ unfolding inRows
 in-rows-lawful p = record { offset = omega arith; kind = omega arith; from = omega arith; to = omega arith; table = omega arith }
 
 -- an identifier that neither 1 nor 2 refuses
-pub unpack-zero : (id : ℕ) → id < 2 ^ 29 → idSpare id ≡ 0 → unpackNumber id ≡ 0
-unfolding unpackNumber
-unpack-zero id h e = let z : 0 ≡ unpackNumber id = search order depth 12 in sym z
-
 pub unpack-lawful : (id : ℕ) → unpackNumber id ≡ 0 → (id < 2 ^ 29) × (idSpare id ≡ 0)
 unfolding unpackNumber
 unpack-lawful id e =
     let h1 = if-zero 0 _ _ e in
     let h2 = if-zero 1 _ _ (h1 .1) in
-    (leb-false _ _ (h1 .0), eqb-true _ _ (not-false _ (h2 .0)))
+    (omega (arith, leb-false _ id (h1 .0)), eqb-true _ _ (not-false _ (h2 .0)))
+
+pub unpack-zero : (id : ℕ) → id < 2 ^ 29 → idSpare id ≡ 0 → unpackNumber id ≡ 0
+unfolding unpackNumber
+unpack-zero id h e = let z : 0 ≡ unpackNumber id = search order depth 12 in sym z
 
 -- ── The answers ────────────────────────────────────────────────────────────────────────────────────────────────────
 

@@ -1,3 +1,5 @@
+pub mod Computing
+pub mod AllExamples
 pub mod IdentLaws
 pub mod RequestLaws
 pub mod FrameLaws
@@ -9,4 +11,3 @@ pub mod ServeNumber
 pub mod Ignored
 pub mod Demand2
 pub mod Replies
-pub mod Computing

@@ -27,7 +27,11 @@ zero-holds q e =
     let h1 = if-zero 6 _ _ e in
     let h2 = if-zero 8 _ _ (h1 .1) in
     let h3 = if-zero 7 _ _ (h2 .1) in
-    record { table = ltb-false 31 (q .table) (h1 .0); count = ltb-false 15 (q .count) (h2 .0); offset = ltb-false 2047 (q .offset) (h3 .0) }
+    record {
+      table = omega (arith, ltb-false _ (q .table) (h1 .0));
+      count = omega (arith, ltb-false _ (q .count) (h2 .0));
+      offset = omega (arith, ltb-false _ (q .offset) (h3 .0));
+    }
 
 pub holds-zero : (q : Request) → Holds q → requestBytesNumber q ≡ 0
 unfolding requestBytesNumber
@@ -53,14 +57,13 @@ pub request-read-means : (r : RequestRead) (n : ℕ) (x : Request) → r ≡ ans
     → (r ≡ answer A.Is A.Refused n x) × (requestReadAnswer r ≡ result noRequest n x)
 request-read-means = means A.Is A.Refused noRequest requestReadAnswer (λ x. refl) (λ n. refl)
 
+same-request : {p q : Request} → p .table ≡ q .table → p .count ≡ q .count → p .offset ≡ q .offset → p ≡ q
+same-request {p} {q} t n o = rw (t, n, o)
+
 -- the bytes of a request, read
 pub request-back : (q : Request) → Holds q → requestOf (q .table) (q .offset / 8) (q .offset % 8 * 32 + q .count) ≡ q
 unfolding requestOf
-request-back q h =
-    let t : q .table % 32 ≡ q .table = omega arith in
-    let o : q .offset / 8 * 8 + (q .offset % 8 * 32 + q .count) / 32 ≡ q .offset = omega arith in
-    let n : (q .offset % 8 * 32 + q .count) % 16 ≡ q .count = omega arith in
-    rw (t, o, n)
+request-back q h = same-request (omega (arith, h .table)) (omega (arith, h .count)) (omega (arith, h .offset))
 
 pub reads-back : (q : Request) → Holds q → readRequestOf (q .table) (q .offset / 8) (q .offset % 8 * 32 + q .count) ≡ A.Is q
 unfolding readRequestOf readNumber

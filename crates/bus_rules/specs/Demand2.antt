@@ -112,7 +112,8 @@ ServeNumber e f =
 
 pub record Demand2 (e : Device) (f : Frame) (s : Served) (after : Device) : Type 0 where
   pub number : ServeNumber e f (s .number)
-  pub refused : s .number ≢ 0 → (s ≡ noAnswer (s .number)) × (after ≡ e)
+  -- "Every refusal leaves state and lent memory unchanged and yields no frame"
+  pub refused : s .number ≢ 0 → (s .frames ≡ 0) × (s ≡ noAnswer (s .number)) × (after ≡ e)
   pub command : s .number ≡ 0 → idKind (f .id) ≡ cmd → CommandServed e f s after
   pub request : s .number ≡ 0 → idKind (f .id) ≡ req → RequestServed e f s after
   pub query : s .number ≡ 0 → idKind (f .id) ≡ xtnd → QueryServed e f s after

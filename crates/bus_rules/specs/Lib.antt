@@ -5,3 +5,4 @@ pub mod Rows
 pub mod Device
 pub mod Holder
 pub mod Demand2
+pub mod Examples

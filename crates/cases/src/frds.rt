@@ -43,26 +43,42 @@ fn read_header(file: &[u8]) -> Answer {
     }
 }
 
+// The end, or a refusal's number and place.
+fn ending(b: Block) -> Answer {
+    let Block::Refused { number: x, place } = b else {
+        return with_kind(number(0), END);
+    };
+    pair(x, place as u64)
+}
+
+// A time, or what ends a log.
+fn time(b: Block) -> Answer {
+    let Block::Time {
+        counter,
+        time,
+        as_expected,
+    } = b
+    else {
+        return ending(b);
+    };
+    counted(counter, time as u64, as_expected, TIME)
+}
+
 // read_block LENGTH SIZE EARLIER PLACE: a block, data with time 0 and its bytes, the end, or the number and the place.
 fn read_block(file: &[u8], size: u16, earlier: u64, at: u64) -> Answer {
-    let block = frd::read_block(file, size, earlier, at as usize);
-    match block {
-        Block::Data {
-            counter,
-            start,
-            as_expected,
-        } => with_bytes(
-            counted(counter, 0, as_expected, DATA),
-            part(file, start as u64, size as u64),
-        ),
-        Block::Time {
-            counter,
-            time,
-            as_expected,
-        } => counted(counter, time as u64, as_expected, TIME),
-        Block::End => with_kind(number(0), END),
-        Block::Refused { number: x, place } => pair(x, place as u64),
-    }
+    let b = frd::read_block(file, size, earlier, at as usize);
+    let Block::Data {
+        counter,
+        start,
+        as_expected,
+    } = b
+    else {
+        return time(b);
+    };
+    with_bytes(
+        counted(counter, 0, as_expected, DATA),
+        part(file, start as u64, size as u64),
+    )
 }
 
 // write_header PLACE ROOM TIME SIGNATURE LENGTH SIZE, write_data PLACE ROOM SIZE EARLIER | RECORD, write_time PLACE ROOM EARLIER TIME

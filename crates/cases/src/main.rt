@@ -21,7 +21,6 @@ use lines::part;
 use lines::put_bytes;
 use lines::words_of;
 ghost use Rattle.reckonings.specs.Reckonings.{Reckonings};
-ghost use Rattle.mlg_rules.specs.Examples.{Examples};
 
 // What the calls change beside the memory that they are lent: a device's directory, a bridge, how many turns it has had.
 struct World {
@@ -100,10 +99,9 @@ fn cases(out: &mut [u8], s: &[u8]) -> usize {
     put
 }
 
-// The cases that 01 marks * are proved of the definitions, as one table; beside it 01's example log and a shown value, computed.
+// The cases that 01 marks * are proved of the definitions, as one table.
 fn run(s: &[u8])
     ensures reckoned { λ _. ⌜ Reckonings ⌝ }
-    ensures examples { λ _. ⌜ Examples ⌝ }
 {
     let mut out = io::large_buffer();
     let n = cases(&mut out, s);

@@ -47,32 +47,48 @@ pub(crate) fn counted(counter: u8, time: u64, as_expected: bool, kind: u64) -> A
     )
 }
 
+// The end, or a refusal's number and place.
+fn ending(b: Block) -> Answer {
+    let Block::Refused { number: x, place } = b else {
+        return with_kind(number(0), END);
+    };
+    pair(x, place as u64)
+}
+
+// A mark with its text, or what ends a log.
+fn mark(file: &[u8], b: Block) -> Answer {
+    let Block::Mark {
+        counter,
+        time,
+        start,
+        len,
+        as_expected,
+    } = b
+    else {
+        return ending(b);
+    };
+    with_text(
+        counted(counter, time as u64, as_expected, MARK),
+        part(file, start as u64, len as u64),
+    )
+}
+
 // read_block LENGTH SIZE EARLIER PLACE: a block with its record or text, the end, or the number and the place.
 fn read_block(file: &[u8], size: u16, earlier: u64, at: u64) -> Answer {
-    let block = mlg::read_block(file, size, earlier, at as usize);
-    match block {
-        Block::Data {
-            counter,
-            time,
-            start,
-            as_expected,
-        } => with_bytes(
-            counted(counter, time as u64, as_expected, DATA),
-            part(file, start as u64, size as u64),
-        ),
-        Block::Mark {
-            counter,
-            time,
-            start,
-            len,
-            as_expected,
-        } => with_text(
-            counted(counter, time as u64, as_expected, MARK),
-            part(file, start as u64, len as u64),
-        ),
-        Block::End => with_kind(number(0), END),
-        Block::Refused { number: x, place } => pair(x, place as u64),
-    }
+    let b = mlg::read_block(file, size, earlier, at as usize);
+    let Block::Data {
+        counter,
+        time,
+        start,
+        as_expected,
+    } = b
+    else {
+        return mark(file, b);
+    };
+    with_bytes(
+        counted(counter, time as u64, as_expected, DATA),
+        part(file, start as u64, size as u64),
+    )
 }
 
 // count_blocks LENGTH: the number that ends the blocks, how many there are, the place of the end.

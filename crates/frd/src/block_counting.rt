@@ -15,20 +15,10 @@ ghost use Rattle.frd_rules.specs.RoundTrip.{LogPlaced};
 fn stop_number(b: Block) -> u8
     ensures { λ r. ⌜ r ≡ blockAnswer b .number ⌝ }
 {
-    match b {
-        Block::Data {
-            counter: _,
-            start: _,
-            as_expected: _,
-        } => 0,
-        Block::Time {
-            counter: _,
-            time: _,
-            as_expected: _,
-        } => 0,
-        Block::End => 0,
-        Block::Refused { number, place: _ } => number,
-    }
+    let Block::Refused { number, .. } = b else {
+        return 0;
+    };
+    number
 }
 
 // Counts the blocks from a place on.
@@ -39,24 +29,15 @@ fn count_from(file: &[u8], size: u16, begin: usize) -> Tally
     let mut n: u64 = 0;
     loop {
         let b = read_block(file, size, n, at);
-        let (Block::Data {
-            counter: _,
-            start: _,
-            as_expected: _,
-        }
-        | Block::Time {
-            counter: _,
-            time: _,
-            as_expected: _,
-        }) = b
-        else {
+        let len = length_of(b, size);
+        if len == 0 {
             return Tally {
                 blocks: n,
                 ending: stop_number(b),
                 place: at,
             };
-        };
-        at += length_of(b, size);
+        }
+        at += len;
         n += 1;
     }
 }

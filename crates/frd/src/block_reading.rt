@@ -4,6 +4,7 @@ ghost use mathlib.Core.Path.{_≡_};
 ghost use Prim.Native.Nat.{_<_, _^_};
 ghost use lib.ListN.{length};
 ghost use Rattle.frd_rules.specs.Block.{counterAfter, blockLen, restNumber, foundOf, blockOf, readBlockOf, blockAnswer, blockResult, lengthOf};
+ghost use Rattle.frd_rules.specs.Kinds.{NoData};
 ghost use Rattle.frd_rules.specs.RoundTrip.{BlockAlone};
 
 // The counter of a block, by the number of earlier blocks.
@@ -94,25 +95,23 @@ pub fn read_block(file: &[u8], size: u16, earlier: u64, at: usize) -> Block
     block_of(&file[at..], size, counter_of(earlier), at)
 }
 
-// How many bytes a block takes.
+// How many bytes a time block takes; none for the end and for a refusal.
+fn time_length(b: Block, size: u16) -> usize
+    requires { ⌜ NoData b ⌝ }
+    ensures { λ r. ⌜ r ≡ lengthOf size b ⌝ }
+{
+    let Block::Time { .. } = b else {
+        return 0;
+    };
+    block_len(size, 2)
+}
+
+// How many bytes of the log a block takes; none for the end and for a refusal.
 pub fn length_of(b: Block, size: u16) -> usize
     ensures { λ r. ⌜ r ≡ lengthOf size b ⌝ }
 {
-    match b {
-        Block::Data {
-            counter: _,
-            start: _,
-            as_expected: _,
-        } => block_len(size, 1),
-        Block::Time {
-            counter: _,
-            time: _,
-            as_expected: _,
-        } => block_len(size, 2),
-        Block::End => 0,
-        Block::Refused {
-            number: _,
-            place: _,
-        } => 0,
-    }
+    let Block::Data { .. } = b else {
+        return time_length(b, size);
+    };
+    block_len(size, 1)
 }

@@ -6,6 +6,7 @@ ghost use Rattle.wire.specs.Writer.{wrote, leaves};
 ghost use Rattle.frd_rules.specs.Block.{counterAfter};
 ghost use Rattle.frd_rules.specs.Writing.{headerBytes, writeHeaderNumber, dataBytes, writeDataNumber, timeBytes, writeTimeNumber};
 ghost use Rattle.frd_rules.specs.RoundTrip.{HeaderBack, DataBack, TimeBack, LogBack, LogSame};
+ghost use Rattle.frd_rules.specs.Examples.{Examples};
 
 // Writes a header with a time, a signature and an output length.
 pub fn write_header(out: &mut [u8], time: u32, signature: &[u8], size: u16) -> wire::Written
@@ -15,6 +16,7 @@ pub fn write_header(out: &mut [u8], time: u32, signature: &[u8], size: u16) -> w
         (headerBytes time (now (signature .entry)) size) (now (out .entry))) ⌝ }
     ensures back { λ r. ⌜ HeaderBack time (now (signature .entry)) size ⌝ }
     ensures logs { λ r. ⌜ LogBack × LogSame ⌝ }
+    ensures examples { λ _. ⌜ Examples ⌝ }
 {
     if signature.len() != 63 {
         return wire::Written { number: 23, len: 0 };

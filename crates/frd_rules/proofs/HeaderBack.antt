@@ -7,13 +7,15 @@ use borrow.Author.Tests.{eq-eqb, le-ltb}
 use lib.ListN.{length, take, drop, length-append}
 use lib.Seq.{take-at, drop-at, drop-drop}
 use Rattle.wire.specs.BigEndian.{beOf, beAt, beBytes}
+use Rattle.wire.specs.Log.{Holds}
 use Rattle.wire.proofs.Numbers.{be-back}
 use Rattle.wire.proofs.Orders.{if-no, not-no}
 use Rattle.wire.proofs.Answers.{stands}
-use Rattle.frd_rules.specs.Header.{headerLen, signatureLen, name, version, numbersOf, signatureIn, readHeaderNumber, readHeaderOf}
+use Rattle.frd_rules.specs.Header.{headerLen, signatureLen, name, version, numbersOf, signatureIn, readHeaderNumber, readHeaderOf, readSignatureOf}
 use Rattle.frd_rules.specs.Writing.{headerBytes, writeHeaderNumber}
 use Rattle.frd_rules.specs.RoundTrip.{headerFor, HeaderBack}
 use Rattle.frd_rules.specs.declared.Head.the-variants.{Is, Refused}
+use Rattle.frd_rules.proofs.HeaderLaws.{signature-holds}
 use Rattle.frd_rules.proofs.WritingLaws.{room-left}
 
 -- what is writable is written where there is room
@@ -69,9 +71,9 @@ module _ (time : ℕ) (signature : List ℕ) (l : ℕ) (small : time < 2 ^ 32) (
   unfolding signatureIn
   signature-is = take-at signature (beBytes 4 headerLen ++ (beBytes 2 l ++ rest)) signatureLen whole
 
-  header-read : (readHeaderOf (headerBytes time signature l ++ rest) ≡ Is (headerFor time l))
-      × (signatureIn (headerBytes time signature l ++ rest) ≡ signature)
-  header-read = rw (header-list time signature l rest) (head-is, signature-is)
+  header-read : let f = headerBytes time signature l ++ rest in
+      (readHeaderOf f ≡ Is (headerFor time l)) × Holds f (readSignatureOf f) signature
+  header-read = rw (header-list time signature l rest) (head-is, signature-holds file signature (sym none) signature-is)
 
 pub header-back : (time : ℕ) (signature : List ℕ) (l : ℕ) → time < 2 ^ 32 → l < 2 ^ 16 → HeaderBack time signature l
 unfolding HeaderBack

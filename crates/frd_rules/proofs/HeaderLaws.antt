@@ -1,18 +1,19 @@
 -- Laws of reading a header: what its answer says, where its signature stands, and what no refusal says of the file.
 use Prim.Native.Nat.{ℕ, zero, suc, _≤_}
-use mathlib.Core.Path.{_≡_, refl}
+use mathlib.Core.Path.{_≡_, refl, sym}
 use mathlib.Core.List.{List}
 use native.Mathlib.Omega.{arith}
 use borrow.Author.Tests.{eqb-true, ltb-false, not-false}
 use lib.ListN.{length}
 use Rattle.wire.specs.BigEndian.{beOf, beAt}
 use Rattle.wire.specs.Answer.{result}
-use Rattle.wire.specs.Log.{spanWith}
+use Rattle.wire.specs.Log.{spanWith, Holds}
 use Rattle.wire.specs.declared.Span.{Span}
-use Rattle.wire.proofs.Answers.{means}
+use Rattle.wire.proofs.Answers.{means, answered}
 use Rattle.wire.proofs.Orders.{if-zero}
-use Rattle.frd_rules.specs.Header.{headerLen, signaturePlace, signatureLen, name, version, numbersOf}
+use Rattle.frd_rules.specs.Header.{headerLen, signaturePlace, signatureLen, name, version, numbersOf, signatureIn}
 use Rattle.frd_rules.specs.Header.{readHeaderNumber, readHeaderOf, noHeader, headAnswer, readSignatureOf}
+use Rattle.frd_rules.specs.declared.Header.{Header}
 use Rattle.frd_rules.specs.declared.Head.{Head}
 use Rattle.frd_rules.specs.declared.Head.the-variants.{Is, Refused}
 
@@ -42,6 +43,16 @@ pub signature-stands : (f : List ℕ) (x : ℕ) → x ≡ readHeaderNumber f →
     → _≡_ {A = Span} (record { number = x; start = signaturePlace; len = signatureLen }) (readSignatureOf f)
 unfolding readSignatureOf
 signature-stands f x e k = span-stands _ x _ _ e k
+
+-- its bytes
+pub signature-holds : (f bytes : List ℕ) → readHeaderNumber f ≡ 0 → signatureIn f ≡ bytes → Holds f (readSignatureOf f) bytes
+unfolding signatureIn
+signature-holds f bytes e b = rw (← signature-stands f 0 (sym e) refl) (refl, b)
+
+-- a header that was handed back
+pub head-given : (f : List ℕ) (h : Header) → readHeaderOf f ≡ Is h → (readHeaderNumber f ≡ 0) × (numbersOf f ≡ h)
+unfolding readHeaderOf
+head-given f h = answered Is Refused (λ n y e. let z : _≡_ {A = ℕ} 0 1 = cc in omega arith) (λ x y e. cc) _ _ h
 
 -- what a header that no number refuses says of its file
 pub record Known (f : List ℕ) : Type 0 where

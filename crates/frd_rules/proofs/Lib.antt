@@ -1,7 +1,9 @@
+pub mod AllExamples
 pub mod HeaderLaws
 pub mod BlockLaws
 pub mod WritingLaws
 pub mod LogLaws
+pub mod KindLaws
 pub mod TallyLaws
 pub mod BlockAlone
 pub mod HeaderBack

@@ -5,12 +5,14 @@ use mathlib.Core.Bool.{true}
 use mathlib.Core.List.{List, [], _∷_, _++_, append-assoc}
 use native.Mathlib.Omega.{arith}
 use lib.ListN.{length, length-append}
-use Rattle.frd_rules.specs.Header.{headerLen}
+use Rattle.frd_rules.specs.Header.{headerLen, readHeaderOf}
 use Rattle.frd_rules.specs.Block.{counterAfter, recordPlace, readBlockOf, blockAnswer, lengthOf}
-use Rattle.frd_rules.specs.Log.{Log, logFrom}
+use Rattle.frd_rules.specs.Log.{Log, logFrom, logOf, tallyHead, countBlocksOf}
 use Rattle.frd_rules.specs.Writing.{headerBytes, dataBytes, timeBytes}
-use Rattle.frd_rules.specs.RoundTrip.{HeaderBack, DataBack, TimeBack, LogBack}
+use Rattle.frd_rules.specs.RoundTrip.{headerFor, HeaderBack, DataBack, TimeBack, LogBack}
 use Rattle.frd_rules.specs.RoundTrip.{Entry, aRecord, aTime, Writable, entriesBytes, logBytes, entryIn, entriesIn, AsExpected, AllAsExpected}
+use Rattle.frd_rules.specs.declared.Header.{Header}
+use Rattle.frd_rules.specs.declared.Head.the-variants.{Is}
 use Rattle.frd_rules.specs.declared.Block.{Block}
 use Rattle.frd_rules.specs.declared.Block.the-variants.{Data, Time}
 use Rattle.frd_rules.proofs.BlockLaws.{data-len, time-len, at-end-of}
@@ -70,6 +72,7 @@ record Whole (l : ℕ) (f : List ℕ) (es : List Entry) (g : Log) : Type 0 where
   asExpected : AllAsExpected (g .blocks)
   ending : g .ending ≡ 0
   place : g .place ≡ length f
+  many : length (g .blocks) ≡ length es
 
 module _ (l : ℕ) (f : List ℕ) where
   -- what follows these bytes reads back, with this fuel, after n blocks
@@ -96,6 +99,7 @@ module _ (l : ℕ) (f : List ℕ) where
         asExpected = (entry-expected l n at e, r .asExpected);
         ending = r .ending;
         place = r .place;
+        many = ap suc (r .many);
       })
 
   -- what was written, with fuel for each of its bytes
@@ -105,9 +109,15 @@ module _ (l : ℕ) (f : List ℕ) where
   entries-back [] (suc k) n before q h i =
       let z : length before ≡ length f = omega (arith, length-append before [], ap length q) in
       rw (log-ends k l n f (length before) _ (at-end-of l n f (length before) z) (λ g. g))
-      (record { entries = refl; asExpected = tt; ending = refl; place = z })
+      (record { entries = refl; asExpected = tt; ending = refl; place = z; many = refl })
   entries-back (aRecord rec ∷ es) (suc k) n before q h i = entry-more k n (aRecord rec) es _ (entries-back es k (n + 1)) before q h i
   entries-back (aTime time ∷ es) (suc k) n before q h i = entry-more k n (aTime time) es _ (entries-back es k (n + 1)) before q h i
+
+-- what is counted
+count-log : (f : List ℕ) (h : Header) (es : List Entry) → readHeaderOf f ≡ Is h → Whole (h .size) f es (logOf (h .size) f (h .begin))
+    → countBlocksOf f ≡ record { blocks = length es; ending = 0; place = length f }
+unfolding countBlocksOf tallyHead
+count-log f h es e y = rw (e, y .many, y .ending, y .place)
 
 pub log-back : LogBack
 unfolding logBytes LogBack HeaderBack
@@ -125,4 +135,5 @@ log-back time signature l es t s z h =
       asExpected = y .asExpected;
       ending = y .ending;
       place = y .place;
+      counted = count-log f (headerFor time l) es (r .0) y;
     }

@@ -7,15 +7,15 @@ use native.Mathlib.Omega.{arith}
 use native.Mathlib.Nat.{zero-add}
 use lib.ListN.{length}
 use Rattle.wire.specs.Log.{judged}
-use Rattle.frd_rules.specs.Header.{numbersOf}
 use Rattle.frd_rules.specs.Block.{readBlockOf, blockAnswer, lengthOf}
 use Rattle.frd_rules.specs.Log.{Placed, Log, ended, more, logFrom}
 use Rattle.frd_rules.specs.RoundTrip.{placeAfter, InPlace, LogPlaced}
+use Rattle.frd_rules.specs.declared.Header.{Header}
 use Rattle.frd_rules.specs.declared.Block.{Block}
 use Rattle.frd_rules.specs.declared.Block.the-variants.{End, Refused}
 use Rattle.frd_rules.proofs.BlockLaws.{View, at-end, of-data, of-time, of-refusal, view}
 use Rattle.frd_rules.proofs.LogLaws.{IsBlock, block-or-not, block-fits, log-more, log-ends, log-all}
-use Rattle.frd_rules.proofs.HeaderLaws.{known}
+use Rattle.frd_rules.proofs.HeaderLaws.{head-given, known}
 
 module _ (l : ℕ) (f : List ℕ) where
   -- a block that stands at its place: the first of these begins at `at`, after n blocks
@@ -92,8 +92,9 @@ module _ (l : ℕ) (f : List ℕ) where
 
 pub log-placed : (f : List ℕ) → LogPlaced f
 unfolding LogPlaced
-log-placed f h =
-    let k = known f h in
-    let l = numbersOf f .size in
-    let at = numbersOf f .begin in
-    rw (log-all l f at) (in-place l f at _ (from-log l f (suc (length f)) 0 at (omega (arith, k .begins, k .long)) (omega arith)))
+log-placed f h e =
+    let g = head-given f h e in
+    let k = known f (g .0) in
+    let at = h .begin in
+    let within : at ≤ length f = omega (arith, ap (λ (x : Header). x .begin) (g .1), k .begins, k .long) in
+    rw (log-all (h .size) f at) (in-place (h .size) f at _ (from-log (h .size) f (suc (length f)) 0 at within (omega arith)))

@@ -13,11 +13,12 @@ use Rattle.frd_rules.specs.Block.{counterAfter, typeIn, counterIn, timeI
 use Rattle.frd_rules.specs.Log.{Log, logFrom}
 use Rattle.frd_rules.specs.Writing.{headerBytes, dataBytes, timeBytes}
 use Rattle.frd_rules.specs.RoundTrip.{Entry, Writable, entriesBytes, logBytes, entryIn, entriesIn, AsExpected, AllAsExpected, LogSame}
+use Rattle.frd_rules.specs.declared.Header.{Header}
 use Rattle.frd_rules.specs.declared.Block.{Block}
 use Rattle.frd_rules.specs.declared.Block.the-variants.{End, Refused}
 use Rattle.frd_rules.proofs.BlockLaws.{View, at-end, of-data, of-time, of-refusal, view, data-len, time-len}
 use Rattle.frd_rules.proofs.LogLaws.{IsBlock, block-fits, log-more, log-ends, log-all}
-use Rattle.frd_rules.proofs.HeaderLaws.{Known, known}
+use Rattle.frd_rules.proofs.HeaderLaws.{Known, head-given, known, signature-holds}
 use Rattle.frd_rules.proofs.HeaderBack.{header-list}
 
 -- a number read from a place, written again
@@ -119,13 +120,16 @@ module _ (l : ℕ) (f : List ℕ) (small : Bytes f) where
 
 pub log-same : LogSame
 unfolding logBytes LogSame signatureIn
-log-same f y x =
-    let k = known f (y .header) in
-    let l = numbersOf f .size in
-    let b = k .begins in
-    let s = log-rewrites l f (y .bytes) (suc (length f)) 0 (numbersOf f .begin) (omega (arith, k .long)) (omega arith) in
-    let w = subst (LogRewrites l f (y .bytes) 0 (numbersOf f .begin)) (sym (log-all l f (numbersOf f .begin))) s (y .blocks) x in (
+log-same f h y x =
+    let g = head-given f h (y .header) in
+    let k = known f (g .0) in
+    let same = signature-holds f _ (g .0) refl .1 in
+    let b : h .begin ≡ headerLen = ap (λ (v : Header). v .begin) (sym (g .1)) ∙ k .begins in
+    let s = log-rewrites (h .size) f (y .bytes) (suc (length f)) 0 (h .begin) (omega (arith, b, k .long)) (omega arith) in
+    let w = subst (LogRewrites (h .size) f (y .bytes) 0 (h .begin)) (sym (log-all (h .size) f (h .begin))) s (y .blocks) x in
+    let head = subst (λ (v : Header). headerBytes (v .time) (signatureIn f) (v .size) ++ drop headerLen f ≡ f) (g .1) (header-same f (y .bytes) k) in
+    rw same (
       length-take-le signatureLen (drop signaturePlace f) (omega (arith, k .long, length-drop signaturePlace f)),
       w .0,
-      ap (λ (r : List ℕ). headerBytes (numbersOf f .time) (signatureIn f) l ++ r) (w .1 ∙ ap (λ (m : ℕ). drop m f) b) ∙ header-same f (y .bytes) k,
+      ap (λ (r : List ℕ). headerBytes (h .time) (signatureIn f) (h .size) ++ r) (w .1 ∙ ap (λ (m : ℕ). drop m f) b) ∙ head,
     )

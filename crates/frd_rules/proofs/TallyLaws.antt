@@ -1,12 +1,9 @@
 -- Laws by which the blocks of a file are counted one by one.
 use Prim.Native.Nat.{ℕ, suc, _+_}
-use mathlib.Core.Path.{_≡_, sym, ap, _∙_}
-use mathlib.Core.List.{List, [], _∷_}
-use mathlib.Core.Logic.{⊎-elim}
+use mathlib.Core.Path.{_≡_, refl, sym, ap, _∙_}
+use mathlib.Core.List.{List}
 use native.Mathlib.Omega.{arith}
 use native.Mathlib.Nat.{zero-add}
-use types.Run.{OneOf}
-use denote.Enum.Declared.{tagOf}
 use lib.ListN.{length}
 use Rattle.wire.specs.declared.Tally.{Tally}
 use Rattle.frd_rules.specs.Header.{readHeaderOf, headAnswer}
@@ -17,21 +14,23 @@ use Rattle.frd_rules.specs.declared.Head.{Head}
 use Rattle.frd_rules.specs.declared.Head.the-variants.{Is, Refused as HeadRefused}
 use Rattle.frd_rules.specs.declared.Block.{Block}
 use Rattle.frd_rules.specs.declared.Block.the-variants.{Data, Time, End, Refused}
-use Rattle.frd_rules.proofs.Block.{the-type}
+use Rattle.frd_rules.proofs.BlockLaws.{data-len, time-len}
 use Rattle.frd_rules.proofs.LogLaws.{IsBlock, block-fits, log-more, log-ends, log-enough}
 
--- what the two arms of a `let .. else` know
-pub tag-block : (b : Block) → OneOf (0 ∷ 1 ∷ []) (tagOf the-type b) → IsBlock b
-tag-block (Data c s r) k = tt
-tag-block (Time c m r) k = tt
-tag-block End k = absurd (⊎-elim (λ h. omega arith) (λ h. omega arith) k)
-tag-block (Refused n p) k = absurd (⊎-elim (λ h. omega arith) (λ h. omega arith) k)
+-- what has a length is a block
+pub length-block : (l : ℕ) (b : Block) → (lengthOf l b ≡ 0 → ⊥) → IsBlock b
+unfolding lengthOf
+length-block l (Data c s r) k = tt
+length-block l (Time c m r) k = tt
+length-block l End k = k refl
+length-block l (Refused n p) k = k refl
 
-pub tag-no-block : (b : Block) → OneOf (2 ∷ 3 ∷ []) (tagOf the-type b) → IsBlock b → ⊥
-tag-no-block (Data c s r) k g = ⊎-elim (λ h. omega arith) (λ h. omega arith) k
-tag-no-block (Time c m r) k g = ⊎-elim (λ h. omega arith) (λ h. omega arith) k
-tag-no-block End k g = g
-tag-no-block (Refused n p) k g = g
+pub no-length : (l : ℕ) (b : Block) → lengthOf l b ≡ 0 → IsBlock b → ⊥
+unfolding lengthOf
+no-length l (Data c s r) e g = omega (arith, data-len l 1 refl)
+no-length l (Time c m r) e g = omega (arith, time-len l 2 refl)
+no-length l End e g = g
+no-length l (Refused n p) e g = g
 
 -- the tally of the blocks from a place on, after n blocks
 abbrev tallyAfter : ℕ → Log → Tally

@@ -5,10 +5,10 @@ use mathlib.Core.Path.{_≡_}
 use mathlib.Core.Bool.{true}
 use mathlib.Core.List.{List, [], _∷_, _++_}
 use lib.ListN.{length, getD, take, drop}
-use Rattle.wire.specs.Log.{judged}
-use Rattle.frd_rules.specs.Header.{headerLen, signatureLen, version, numbersOf, signatureIn, readHeaderNumber, readHeaderOf}
+use Rattle.wire.specs.Log.{judged, partOf, Holds}
+use Rattle.frd_rules.specs.Header.{headerLen, signatureLen, version, readHeaderOf, readSignatureOf}
 use Rattle.frd_rules.specs.Block.{counterAfter, blockLen, typeIn, recordPlace, blockOf, readBlockOf, lengthOf}
-use Rattle.frd_rules.specs.Log.{Placed, Log, logOf}
+use Rattle.frd_rules.specs.Log.{Placed, Log, logOf, countBlocksOf}
 use Rattle.frd_rules.specs.Writing.{headerBytes, writeHeaderNumber, dataBytes, writeDataNumber, timeBytes, writeTimeNumber}
 use Rattle.frd_rules.specs.declared.Header.{Header}
 use Rattle.frd_rules.specs.declared.Head.the-variants.{Is}
@@ -27,8 +27,8 @@ HeaderBack time signature l =
     length signature ≡ signatureLen
     → ((room : ℕ) → length (headerBytes time signature l) ≤ room → writeHeaderNumber time signature l room ≡ 0)
     × ((rest : List ℕ)
-    → (readHeaderOf (headerBytes time signature l ++ rest) ≡ Is (headerFor time l))
-    × (signatureIn (headerBytes time signature l ++ rest) ≡ signature))
+    → let f = headerBytes time signature l ++ rest in
+    (readHeaderOf f ≡ Is (headerFor time l)) × Holds f (readSignatureOf f) signature)
 
 -- a data block with the counter c of n earlier blocks, likewise, whatever bytes stand before it and follow: its counter is as expected, and its
 -- bytes are where it says
@@ -104,11 +104,12 @@ AllAsExpected (p ∷ ps) = AsExpected (p .block) × AllAsExpected ps
 -- reading what was written gives what was given, to the file's end, with the expected counters
 pub record LogReads (time : ℕ) (signature : List ℕ) (l : ℕ) (es : List Entry) (f : List ℕ) (g : Log) : Type 0 where
   pub header : readHeaderOf f ≡ Is (headerFor time l)
-  pub same-signature : signatureIn f ≡ signature
+  pub same-signature : Holds f (readSignatureOf f) signature
   pub entries : entriesIn l f (g .blocks) ≡ es
   pub asExpected : AllAsExpected (g .blocks)
   pub ending : g .ending ≡ 0
   pub place : g .place ≡ length f
+  pub counted : countBlocksOf f ≡ record { blocks = length es; ending = 0; place = length f }
 
 unfoldable pub LogBack : Type 0
 LogBack =
@@ -129,23 +130,23 @@ pub record InPlace (l begin : ℕ) (f : List ℕ) (g : Log) : Type 0 where
   pub last : (g .place ≡ placeAfter l begin (g .blocks))
       × (readBlockOf l (length (g .blocks)) f (g .place) ≡ judged Refused (g .ending) (g .place) End)
 
--- the log of a file whose header is not refused, from data begin on
-abbrev pub logIn : List ℕ → Log
-logIn f = logOf (numbersOf f .size) f (numbersOf f .begin)
+-- the log of a file with this header, from data begin on
+abbrev pub logIn : Header → List ℕ → Log
+logIn h f = logOf (h .size) f (h .begin)
 
 unfoldable pub LogPlaced : List ℕ → Type 0
-LogPlaced f = readHeaderNumber f ≡ 0 → InPlace (numbersOf f .size) (numbersOf f .begin) f (logIn f)
+LogPlaced f = (h : Header) → readHeaderOf f ≡ Is h → InPlace (h .size) (h .begin) f (logIn h f)
 
 -- a file in this layout: bytes that are a header and blocks back to back, to the file's end
-pub record InLayout (f : List ℕ) : Type 0 where
+pub record InLayout (f : List ℕ) (h : Header) : Type 0 where
   pub bytes : (i : ℕ) → getD f i 0 < 256
-  pub header : readHeaderNumber f ≡ 0
-  pub blocks : logIn f .ending ≡ 0
+  pub header : readHeaderOf f ≡ Is h
+  pub blocks : logIn h f .ending ≡ 0
 
 -- with the expected counters, what was read of it is writable, and written gives the same bytes
 unfoldable pub LogSame : Type 0
 LogSame =
-    (f : List ℕ) → InLayout f → AllAsExpected (logIn f .blocks)
-    → (length (signatureIn f) ≡ signatureLen)
-    × Writable (numbersOf f .size) (entriesIn (numbersOf f .size) f (logIn f .blocks))
-    × (logBytes (numbersOf f .time) (signatureIn f) (numbersOf f .size) (entriesIn (numbersOf f .size) f (logIn f .blocks)) ≡ f)
+    (f : List ℕ) (h : Header) → InLayout f h → AllAsExpected (logIn h f .blocks)
+    → let signature = partOf f (readSignatureOf f) in
+    let es = entriesIn (h .size) f (logIn h f .blocks) in
+    (length signature ≡ signatureLen) × Writable (h .size) es × (logBytes (h .time) signature (h .size) es ≡ f)

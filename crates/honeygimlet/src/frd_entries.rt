@@ -9,10 +9,12 @@ use crate::flag;
 use frd::Block;
 use frd::Head;
 ghost use mathlib.Core.Path.{_≡_};
+ghost use Prim.Native.Nat.{ℕ};
 ghost use lib.ListN.{length, take, drop};
 ghost use Rattle.wire.specs.Writer.{wrote, leaves};
 ghost use Rattle.frd_rules.specs.Header.{readHeaderOf, signatureIn, readSignatureOf};
 ghost use Rattle.frd_rules.specs.Block.{counterAfter, readBlockOf};
+ghost use Rattle.frd_rules.specs.Kinds.{NoData, Ending};
 ghost use Rattle.frd_rules.specs.Log.{countBlocksOf};
 ghost use Rattle.frd_rules.specs.Writing.{headerBytes, writeHeaderNumber, dataBytes, writeDataNumber, timeBytes, writeTimeNumber};
 ghost use Rattle.honeygimlet.specs.Answers.{frdHeader, noFrdBlock, foundFrdBlock, frdBlock};
@@ -68,6 +70,33 @@ fn found(kind: u8, counter: u8, time: u32, start: usize, len: usize, as_expected
     }
 }
 
+// The end or a refusal as a struct.
+fn ending_out(b: Block) -> FrdBlock
+    requires { ⌜ Ending b ⌝ }
+    ensures { λ r. ⌜ ((l : ℕ) → r ≡ frdBlock l b) ⌝ }
+{
+    let Block::Refused { number, place } = b else {
+        return no_block(END, 0, 0);
+    };
+    no_block(REFUSED, number, place)
+}
+
+// A time block as a struct, or what ends a log.
+fn time_out(b: Block) -> FrdBlock
+    requires { ⌜ NoData b ⌝ }
+    ensures { λ r. ⌜ ((l : ℕ) → r ≡ frdBlock l b) ⌝ }
+{
+    let Block::Time {
+        counter,
+        time,
+        as_expected,
+    } = b
+    else {
+        return ending_out(b);
+    };
+    found(TIME, counter, time, 0, 0, as_expected)
+}
+
 // A block as a struct, where records have the given length.
 fn block_out(b: Block, size: u16) -> FrdBlock
     ensures { λ r. ⌜ r ≡ frdBlock size b ⌝ }
@@ -78,18 +107,7 @@ fn block_out(b: Block, size: u16) -> FrdBlock
         as_expected,
     } = b
     else {
-        let Block::Time {
-            counter,
-            time,
-            as_expected,
-        } = b
-        else {
-            let Block::Refused { number, place } = b else {
-                return no_block(END, 0, 0);
-            };
-            return no_block(REFUSED, number, place);
-        };
-        return found(TIME, counter, time, 0, 0, as_expected);
+        return time_out(b);
     };
     found(DATA, counter, 0, start, size as usize, as_expected)
 }

@@ -1,5 +1,5 @@
-// The C library: each entry is one call of the crates below it. Its promise is the call's on the answer and on lent memory; the theorems that
-// the call's promise names besides are not said again. An answer enum goes out as a struct.
+// The C library: each entry is one call of the crates below it, and promises that its answer, and what it leaves in lent memory, are the
+// definition's of that call. What else the call's promise says is not said again. An answer enum goes out as a struct.
 pub mod bridge_entries;
 pub mod bridge_in_place;
 pub mod bus_entries;

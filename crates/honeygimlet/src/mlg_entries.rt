@@ -9,13 +9,14 @@ use crate::flag;
 use mlg::Block;
 use mlg::Head;
 ghost use mathlib.Core.Path.{_≡_};
-ghost use Prim.Native.Nat.{_+_, _≤_};
+ghost use Prim.Native.Nat.{ℕ, _+_, _≤_};
 ghost use lib.ListN.{length};
 ghost use Rattle.wire.specs.Writer.{wrote, leaves};
 ghost use Rattle.mlg_rules.specs.Header.{readHeaderOf};
 ghost use Rattle.mlg_rules.specs.Block.{counterAfter, readBlockOf};
+ghost use Rattle.mlg_rules.specs.Kinds.{NoData, Ending};
 ghost use Rattle.mlg_rules.specs.Log.{countBlocksOf};
-ghost use Rattle.mlg_rules.specs.Parts.{fieldSpanOf, namesSpanOf, infoSpanOf};
+ghost use Rattle.mlg_rules.specs.Parts.{fieldsSpanOf, fieldSpanOf, namesSpanOf, infoSpanOf};
 ghost use Rattle.mlg_rules.specs.Writing.{headerBytes, writeHeaderNumber, dataBytes, markBytes, writeDataNumber, writeMarkNumber};
 ghost use Rattle.listing_rules.specs.Listing.{listOf, listNumber};
 ghost use Rattle.listing_rules.specs.Longest.{longest};
@@ -80,6 +81,35 @@ fn found(kind: u8, counter: u8, time: u16, start: usize, len: usize, as_expected
     }
 }
 
+// The end or a refusal as a struct.
+fn ending_out(b: Block) -> MlgBlock
+    requires { ⌜ Ending b ⌝ }
+    ensures { λ r. ⌜ ((l : ℕ) → r ≡ mlgBlock l b) ⌝ }
+{
+    let Block::Refused { number, place } = b else {
+        return no_block(END, 0, 0);
+    };
+    no_block(REFUSED, number, place)
+}
+
+// A mark as a struct, or what ends a log.
+fn mark_out(b: Block) -> MlgBlock
+    requires { ⌜ NoData b ⌝ }
+    ensures { λ r. ⌜ ((l : ℕ) → r ≡ mlgBlock l b) ⌝ }
+{
+    let Block::Mark {
+        counter,
+        time,
+        start,
+        len,
+        as_expected,
+    } = b
+    else {
+        return ending_out(b);
+    };
+    found(MARK, counter, time, start, len, as_expected)
+}
+
 // A block as a struct, where records have the given length.
 fn block_out(b: Block, size: u16) -> MlgBlock
     ensures { λ r. ⌜ r ≡ mlgBlock size b ⌝ }
@@ -91,20 +121,7 @@ fn block_out(b: Block, size: u16) -> MlgBlock
         as_expected,
     } = b
     else {
-        let Block::Mark {
-            counter,
-            time,
-            start,
-            len,
-            as_expected,
-        } = b
-        else {
-            let Block::Refused { number, place } = b else {
-                return no_block(END, 0, 0);
-            };
-            return no_block(REFUSED, number, place);
-        };
-        return found(MARK, counter, time, start, len, as_expected);
+        return mark_out(b);
     };
     found(DATA, counter, time, start, size as usize, as_expected)
 }
@@ -122,6 +139,13 @@ pub extern "C" fn hg_mlg_count_blocks(file: &[u8]) -> mlg::Tally
     ensures { λ r. ⌜ r ≡ countBlocksOf (now (file .entry)) ⌝ }
 {
     mlg::count_blocks(file)
+}
+
+#[no_mangle]
+pub extern "C" fn hg_mlg_fields_span(file: &[u8]) -> mlg::Span
+    ensures { λ r. ⌜ (r ≡ fieldsSpanOf (now (file .entry))) × (r .start + r .len ≤ length (now (file .entry))) ⌝ }
+{
+    mlg::fields_span(file)
 }
 
 #[no_mangle]

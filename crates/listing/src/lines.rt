@@ -12,8 +12,9 @@ ghost use Prim.Native.Nat.{ℕ, _+_, _*_, _≤_, _^_};
 ghost use lib.ListN.{length};
 ghost use Rattle.mlg_rules.specs.Layout.{fieldLen};
 ghost use Rattle.mlg_rules.specs.Raw.{valueNumber};
+ghost use Rattle.mlg_rules.specs.Kinds.{NoData, Ending};
 ghost use Rattle.mlg_rules.specs.declared.Header.{Header};
-ghost use Rattle.mlg_rules.specs.declared.Block.the-variants.{Data, Mark, End, Refused};
+ghost use Rattle.mlg_rules.specs.declared.Block.the-variants.{End, Refused};
 ghost use Rattle.listing_rules.specs.Text.{decimal, printed};
 ghost use Rattle.listing_rules.specs.Lines.{space, headerLine, nameOf, fieldLine, fieldLines, valueText, valuesText, asExpectedText, blockLine};
 ghost use Rattle.listing_rules.specs.PutsText.{PutsText};
@@ -146,62 +147,6 @@ fn put_start(out: &mut [u8], at: usize, n: u64, kind: &[u8], counter: u8, time: 
     put_decimal(out, d, time as u64)
 }
 
-// `N data C T VALUES`
-fn put_data_line(
-    out: &mut [u8],
-    at: usize,
-    file: &[u8],
-    h: Header,
-    n: u64,
-    counter: u8,
-    time: u16,
-    start: usize,
-    expected: bool,
-) -> usize
-    requires { ⌜ (at ≤ 2 ^ 49) × BlockInFile h (now file) (Data counter time start expected) ⌝ }
-    ensures { λ r. ⌜ PutsText (now (out .entry)) at (blockLine h (now (file .entry)) n (Data counter time start expected)) (now (out .exit)) r
-        × (r ≤ at + 2 ^ 21) ⌝ }
-{
-    let layout = mlg_values::layout_of(h.version);
-    let fields = layout.header;
-    let size = h.size as usize;
-    let a = put_start(out, at, n, b" data ", counter, time);
-    let b = put_values(
-        out,
-        a,
-        h.version,
-        h.count,
-        &file[fields..],
-        &file[start..start + size],
-    );
-    let c = put_as_expected(out, b, expected);
-    put_bytes(out, c, b"\n")
-}
-
-// `N mark C T TEXT`
-fn put_mark_line(
-    out: &mut [u8],
-    at: usize,
-    file: &[u8],
-    h: Header,
-    n: u64,
-    counter: u8,
-    time: u16,
-    start: usize,
-    len: usize,
-    expected: bool,
-) -> usize
-    requires { ⌜ (at ≤ 2 ^ 49) × BlockInFile h (now file) (Mark counter time start len expected) ⌝ }
-    ensures { λ r. ⌜ PutsText (now (out .entry)) at (blockLine h (now (file .entry)) n (Mark counter time start len expected)) (now (out .exit)) r
-        × (r ≤ at + 2 ^ 21) ⌝ }
-{
-    let a = put_start(out, at, n, b" mark ", counter, time);
-    let b = put_bytes(out, a, b" ");
-    let c = put_printed(out, b, &file[start..start + len]);
-    let d = put_as_expected(out, c, expected);
-    put_bytes(out, d, b"\n")
-}
-
 // `end N`
 fn put_end_line(out: &mut [u8], at: usize, n: u64) -> usize
     requires { ⌜ at ≤ 2 ^ 49 ⌝ }
@@ -225,33 +170,72 @@ pub(crate) fn put_refused_line(out: &mut [u8], at: usize, number: u8, place: usi
     put_bytes(out, d, b"\n")
 }
 
-// The line of a block, of the end or of a refusal.
+// What ends a log: the end or a refusal.
+fn put_ending_line(out: &mut [u8], at: usize, n: u64, block: Block) -> usize
+    requires { ⌜ (at ≤ 2 ^ 49) × Ending block ⌝ }
+    ensures { λ r. ⌜ ((h : Header) (f : List ℕ) → PutsText (now (out .entry)) at (blockLine h f n block) (now (out .exit)) r) × (r ≤ at + 53) ⌝ }
+{
+    let Block::Refused { number, place } = block else {
+        return put_end_line(out, at, n);
+    };
+    put_refused_line(out, at, number, place)
+}
+
+// `N mark C T TEXT`, or what ends a log.
+fn put_mark_line(out: &mut [u8], at: usize, file: &[u8], h: Header, n: u64, block: Block) -> usize
+    requires { ⌜ (at ≤ 2 ^ 49) × NoData block × BlockInFile h (now file) block ⌝ }
+    ensures { λ r. ⌜ PutsText (now (out .entry)) at (blockLine h (now (file .entry)) n block) (now (out .exit)) r × (r ≤ at + 2 ^ 21) ⌝ }
+{
+    let Block::Mark {
+        counter,
+        time,
+        start,
+        len,
+        as_expected,
+    } = block
+    else {
+        return put_ending_line(out, at, n, block);
+    };
+    let a = put_start(out, at, n, b" mark ", counter, time);
+    let b = put_bytes(out, a, b" ");
+    let c = put_printed(out, b, &file[start..start + len]);
+    let d = put_as_expected(out, c, as_expected);
+    put_bytes(out, d, b"\n")
+}
+
+// `N data C T VALUES`, or the line of another block, of the end or of a refusal.
 pub(crate) fn put_block_line(
     out: &mut [u8],
     at: usize,
     file: &[u8],
     h: Header,
     n: u64,
-    b: Block,
+    block: Block,
 ) -> usize
-    requires { ⌜ (at ≤ 2 ^ 49) × BlockInFile h (now file) b ⌝ }
-    ensures { λ r. ⌜ PutsText (now (out .entry)) at (blockLine h (now (file .entry)) n b) (now (out .exit)) r × (r ≤ at + 2 ^ 21) ⌝ }
+    requires { ⌜ (at ≤ 2 ^ 49) × BlockInFile h (now file) block ⌝ }
+    ensures { λ r. ⌜ PutsText (now (out .entry)) at (blockLine h (now (file .entry)) n block) (now (out .exit)) r × (r ≤ at + 2 ^ 21) ⌝ }
 {
-    match b {
-        Block::Data {
-            counter,
-            time,
-            start,
-            as_expected,
-        } => put_data_line(out, at, file, h, n, counter, time, start, as_expected),
-        Block::Mark {
-            counter,
-            time,
-            start,
-            len,
-            as_expected,
-        } => put_mark_line(out, at, file, h, n, counter, time, start, len, as_expected),
-        Block::End => put_end_line(out, at, n),
-        Block::Refused { number, place } => put_refused_line(out, at, number, place),
-    }
+    let Block::Data {
+        counter,
+        time,
+        start,
+        as_expected,
+    } = block
+    else {
+        return put_mark_line(out, at, file, h, n, block);
+    };
+    let layout = mlg_values::layout_of(h.version);
+    let fields = layout.header;
+    let size = h.size as usize;
+    let a = put_start(out, at, n, b" data ", counter, time);
+    let b = put_values(
+        out,
+        a,
+        h.version,
+        h.count,
+        &file[fields..],
+        &file[start..start + size],
+    );
+    let c = put_as_expected(out, b, as_expected);
+    put_bytes(out, c, b"\n")
 }

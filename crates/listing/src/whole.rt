@@ -27,25 +27,13 @@ fn put_log_lines(out: &mut [u8], at: usize, file: &[u8], h: Header) -> usize
     let mut n: u64 = 0;
     let mut next = at;
     while left != 0 {
-        let b = mlg::read_block(file, size, n, place);
-        let (Block::Data {
-            counter: _,
-            time: _,
-            start: _,
-            as_expected: _,
+        let block = mlg::read_block(file, size, n, place);
+        next = put_block_line(out, next, file, h, n, block);
+        let len = mlg::length_of(block, size);
+        if len == 0 {
+            return next;
         }
-        | Block::Mark {
-            counter: _,
-            time: _,
-            start: _,
-            len: _,
-            as_expected: _,
-        }) = b
-        else {
-            return put_block_line(out, next, file, h, n, b);
-        };
-        next = put_block_line(out, next, file, h, n, b);
-        place += mlg::length_of(b, size);
+        place += len;
         n += 1;
         left -= 1;
     }

@@ -16,4 +16,4 @@ pub mod LineLengths
 pub mod Longest
 pub mod PutsText
 pub mod ListWritten
-pub mod Examples
+pub mod AllExamples

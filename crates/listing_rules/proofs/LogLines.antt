@@ -1,18 +1,15 @@
 -- The lines of a log, block by block.
 use Prim.Native.Nat.{ℕ, zero, suc, _+_, _-_}
 use mathlib.Core.Path.{_≡_, refl}
-use mathlib.Core.List.{List, [], _∷_, _++_, append-assoc}
-use mathlib.Core.Logic.{⊎-elim}
+use mathlib.Core.List.{List, [], _++_, append-assoc}
 use native.Mathlib.Omega.{arith}
-use types.Run.{OneOf}
-use denote.Enum.Declared.{tagOf}
 use lib.ListN.{length}
 use Rattle.mlg_rules.specs.Block.{readBlockOf}
 use Rattle.mlg_rules.specs.Log.{Log, lengthOf, logFrom, logOf}
+use Rattle.mlg_rules.specs.Kinds.{Ending}
 use Rattle.mlg_rules.specs.declared.Header.{Header}
 use Rattle.mlg_rules.specs.declared.Block.{Block}
 use Rattle.mlg_rules.specs.declared.Block.the-variants.{Data, Mark, End, Refused}
-use Rattle.mlg_rules.proofs.Block.{the-type}
 use Rattle.mlg_rules.proofs.LogLaws.{IsBlock, Next, log-end, log-refused, log-more}
 use Rattle.listing_rules.specs.Lines.{blockLine}
 use Rattle.listing_rules.specs.Listing.{logLines}
@@ -43,11 +40,11 @@ module _ (h : Header) (f : List ℕ) where
       → logLines h f n (logFrom (suc k) (h .size) n f at) ≡ blockLine h f n (Refused m p)
   block-refused k n at m p e = lines-stop n at (Refused m p) _ (log-refused k (h .size) n f at m p e)
 
-  pub block-last : (k n at : ℕ) (b : Block) → (k ≡ 0 → ⊥) → readBlockOf (h .size) n f at ≡ b → OneOf (2 ∷ 3 ∷ []) (tagOf the-type b)
+  pub block-last : (k n at : ℕ) (b : Block) → (k ≡ 0 → ⊥) → readBlockOf (h .size) n f at ≡ b → Ending b
       → logLines h f n (logFrom k (h .size) n f at) ≡ blockLine h f n b
   block-last zero n at b z e g = absurd (z refl)
-  block-last (suc k) n at (Data c m s r) z e g = absurd (⊎-elim (λ h. omega arith) (λ h. omega arith) g)
-  block-last (suc k) n at (Mark c m s j r) z e g = absurd (⊎-elim (λ h. omega arith) (λ h. omega arith) g)
+  block-last (suc k) n at (Data c m s r) z e g = absurd g
+  block-last (suc k) n at (Mark c m s j r) z e g = absurd g
   block-last (suc k) n at End z e g = block-end k n at e
   block-last (suc k) n at (Refused m p) z e g = block-refused k n at m p e
 
@@ -57,10 +54,3 @@ module _ (h : Header) (f : List ℕ) where
   pub log-all : (k : ℕ) → k ≡ length f + 1 → logLines h f 0 (logFrom k (h .size) 0 f (h .begin)) ≡ logLines h f 0 (logOf (h .size) f (h .begin))
   unfolding logOf
   log-all k e = let q : k ≡ suc (length f) = omega arith in rw q
-
--- the arm of the end
-pub is-end : (b : Block) → OneOf (2 ∷ []) (tagOf the-type b) → End ≡ b
-is-end (Data c m s r) k = absurd (omega arith)
-is-end (Mark c m s n r) k = absurd (omega arith)
-is-end End k = refl
-is-end (Refused x p) k = absurd (omega arith)

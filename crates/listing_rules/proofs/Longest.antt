@@ -54,7 +54,7 @@ module _ (h : Header) (f : List ℕ) (e : readHeaderOf f ≡ head.Is h) (g : Byt
       → ((to : ℕ) → to ≤ length f → Within k (n + 1) to) → Within (suc k) n at
   log-by k n at b q (a-block p some num r) i j next =
       let go : IsBlock b = rw r (parts-block (typeIn (drop at f)) (counterAfter n) at (drop at f)) in
-      let within = block-in-file h f e n at b q go in
+      let within = block-in-file h f e n at b q in
       let line = parts-line-length h f n (omega arith) (typeIn (drop at f)) (counterAfter n) at g (rw r at within) in
       block-then k n at b q go (rw r line) (next (at + lengthOf (h .size) b) (at-fits (h .size) n f at b q go))
   log-by k n at b q (the-end p r) i j next =

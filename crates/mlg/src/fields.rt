@@ -1,12 +1,13 @@
 // What a reader checks of the fields.
 use crate::layout::field_len;
 ghost use mathlib.Core.Path.{_≡_};
-ghost use Prim.Native.Nat.{_+_, _*_, _<_, _≤_, _^_};
-ghost use lib.ListN.{length, take, drop};
-ghost use lib.Dec.{leb, ltb};
-ghost use Rattle.wire.specs.Text.{zeros};
+ghost use mathlib.Core.List.{List};
+ghost use mathlib.Core.Bool.{false};
+ghost use Prim.Native.Nat.{ℕ, _+_, _*_, _-_, _<_, _≤_, _^_};
+ghost use lib.ListN.{length, take, drop, getD};
+ghost use Rattle.wire.specs.Text.{textLen, zeros, LastZeros};
 ghost use Rattle.mlg_rules.specs.Layout.{fieldLen};
-ghost use Rattle.mlg_rules.specs.Field.{fieldSize};
+ghost use Rattle.mlg_rules.specs.Field.{fieldSize, typeNumber};
 ghost use Rattle.mlg_rules.specs.Area.{ended, areaOf};
 ghost use Rattle.mlg_rules.specs.Fields.{unended, textsNumber, namesNumber, fieldNumber, fieldsNumber, sizes};
 
@@ -33,76 +34,100 @@ pub(crate) fn texts_number(d: &[u8], version: u16) -> u8
     0
 }
 
-// Whether a place is past the names and info with its zero.
-pub(crate) fn past_area(names: &[u8], info: &[u8], at: usize) -> bool
-    ensures { λ r. ⌜ r ≡ leb (length (areaOf (now (names .entry)) (now (info .entry)))) at ⌝ }
+// Looks for a zero in one pass without an early return: false says that there is none.
+pub(crate) fn has_zero(s: &[u8]) -> bool
+    ensures { λ r. ⌜ (r ≡ false → zeros (now (s .entry)) ≡ 0) ⌝ }
 {
-    if at < names.len() {
-        return false;
-    }
-    if info.len() == 0 {
-        return true;
-    }
-    info.len() < at - names.len()
-}
-
-// How many zeros info with its zero has from a place on.
-pub(crate) fn ended_zeros(info: &[u8], at: usize) -> usize
-    ensures { λ r. ⌜ (r ≡ zeros (drop at (ended (now (info .entry))))) × (r ≤ length (now (info .entry)) + 1) ⌝ }
-{
-    if info.len() == 0 {
-        return 0;
-    }
-    if info.len() < at {
-        return 0;
-    }
-    wire::zero_count(&info[at..]) + 1
-}
-
-// How many zeros the names and info with its zero have from a place on.
-pub(crate) fn area_zeros(names: &[u8], info: &[u8], at: usize) -> usize
-    ensures { λ r. ⌜ r ≡ zeros (drop at (areaOf (now (names .entry)) (now (info .entry)))) ⌝ }
-{
-    if names.len() <= at {
-        return ended_zeros(info, at - names.len());
-    }
-    let more = ended_zeros(info, 0);
-    wire::zero_count(&names[at..]) + more
-}
-
-// Whether there are at least n zeros.
-pub(crate) fn has_zeros(s: &[u8], n: usize) -> bool
-    ensures { λ r. ⌜ r ≡ leb n (zeros (now (s .entry))) ⌝ }
-{
-    let mut left = n;
+    let mut found = false;
     let mut i = 0;
     while i < s.len() {
-        if left == 0 {
-            return true;
-        }
         if s[i] == 0 {
-            left -= 1;
+            found = true;
         }
         i += 1;
     }
-    left == 0
+    found
 }
 
-// Whether the names and info with its zero have fewer than n zeros from a place of the names on. Most files hold them near that place.
-pub(crate) fn lacks_names(names: &[u8], info: &[u8], at: usize, n: usize) -> bool
-    ensures { λ r. ⌜ r ≡ ltb (zeros (drop at (areaOf (now (names .entry)) (now (info .entry))))) n ⌝ }
+// What is left before a place when pieces of 16 bytes without a zero are passed over: most of a long text.
+pub(crate) fn skip_text(s: &[u8], end: usize) -> usize
+    requires { ⌜ end ≤ length (now s) ⌝ }
+    ensures { λ r. ⌜ (zeros (drop r (now (s .entry))) ≡ zeros (drop end (now (s .entry)))) × (r ≤ end) ⌝ }
 {
-    if at < names.len() {
-        if has_zeros(&names[at..], n) {
-            return false;
+    let mut i = end;
+    while 16 <= i {
+        if has_zero(&s[i - 16..i]) {
+            return i;
         }
+        i -= 16;
     }
-    area_zeros(names, info, at) < n
+    i
 }
 
-pub(crate) fn names_number(base: usize, names: &[u8], info: &[u8], d: &[u8]) -> u8
-    requires { ⌜ 55 ≤ length (now d) ⌝ }
-    ensures { λ r. ⌜ r ≡ namesNumber base (areaOf (now (names .entry)) (now (info .entry))) (now (d .entry)) ⌝ }
+// One more than the place of the last zero before a place, and 0 where there is none.
+pub(crate) fn zero_before(s: &[u8], end: usize) -> usize
+    requires { ⌜ end ≤ length (now s) ⌝ }
+    ensures { λ r. ⌜ (zeros (drop r (now (s .entry))) ≡ zeros (drop end (now (s .entry))))
+        × ((r ≡ 0 → ⊥) → zeros (drop (r - 1) (now (s .entry))) ≡ 1 + zeros (drop end (now (s .entry)))) × (r ≤ end) ⌝ }
+{
+    let mut i = skip_text(s, end);
+    while i != 0 {
+        if s[i - 1] == 0 {
+            return i;
+        }
+        i -= 1;
+    }
+    0
+}
+
+// One more than the place, after the names, of the zero that info gets, and 0 where info is empty.
+pub(crate) fn info_zero(names: &[u8], info: &[u8]) -> usize
+    ensures { λ r. ⌜ (length (now (info .entry)) ≡ 0 → r ≡ 0)
+        × ((length (now (info .entry)) ≡ 0 → ⊥) → r ≡ length (areaOf (now (names .entry)) (now (info .entry)))) ⌝ }
+{
+    if info.len() == 0 {
+        return 0;
+    }
+    names.len() + info.len() + 1
+}
+
+// How many zeros info gets.
+pub(crate) fn info_zeros(info: &[u8]) -> usize
+    requires { ⌜ length (now info) ≤ textLen (now info) ⌝ }
+    ensures { λ r. ⌜ (r ≡ zeros (ended (now (info .entry)))) × (r ≤ 1) ⌝ }
+{
+    if info.len() == 0 {
+        return 0;
+    }
+    1
+}
+
+// The places of the last 32 zeros of the names and info with its zero: a bit field has at most 32 names.
+pub(crate) fn last_zeros(names: &[u8], info: &[u8]) -> [usize; 32]
+    requires { ⌜ length (now info) ≤ textLen (now info) ⌝ }
+    ensures { λ r. ⌜ LastZeros (areaOf (now (names .entry)) (now (info .entry))) r ⌝ }
+{
+    let first = info_zero(names, info);
+    let mut last = [0usize; 32];
+    last[0] = first;
+    let mut k = info_zeros(info);
+    let mut end = names.len();
+    while k < 32 {
+        let zero = zero_before(names, end);
+        if zero == 0 {
+            return last;
+        }
+        last[k] = zero;
+        end = zero - 1;
+        k += 1;
+    }
+    last
+}
+
+// The area is told by its length and the places of its last zeros, here and below.
+pub(crate) fn names_number(base: usize, len: usize, last: &[usize; 32], d: &[u8]) -> u8
+    requires { ⌜ (55 ≤ length (now d)) × (typeNumber (getD (now d) 0 0) (getD (now d) 51 0) ≡ 0) ⌝ }
+    ensures { λ r. ⌜ ((area : List ℕ) → length area ≡ len → LastZeros area (now (last .entry)) → r ≡ namesNumber base area (now (d .entry))) ⌝ }
 {
     let t = d[0];
     if t < 10 {
@@ -117,18 +142,24 @@ pub(crate) fn names_number(base: usize, names: &[u8], info: &[u8], d: &[u8]) -> 
         return 23;
     }
     let at = index - base;
-    if past_area(names, info, at) {
+    if len <= at {
         return 23;
     }
-    if lacks_names(names, info, at, bits) {
+    if last[bits - 1] <= at {
         return 28;
     }
     0
 }
 
-pub(crate) fn field_number(version: u16, base: usize, names: &[u8], info: &[u8], d: &[u8]) -> u8
+pub(crate) fn field_number(
+    version: u16,
+    base: usize,
+    len: usize,
+    last: &[usize; 32],
+    d: &[u8],
+) -> u8
     requires { ⌜ length (now d) ≡ fieldLen version ⌝ }
-    ensures { λ r. ⌜ r ≡ fieldNumber base (areaOf (now (names .entry)) (now (info .entry))) (now (d .entry)) ⌝ }
+    ensures { λ r. ⌜ ((area : List ℕ) → length area ≡ len → LastZeros area (now (last .entry)) → r ≡ fieldNumber base area (now (d .entry))) ⌝ }
 {
     let a = mlg_values::type_number(d[0], d[51]);
     if a != 0 {
@@ -138,7 +169,7 @@ pub(crate) fn field_number(version: u16, base: usize, names: &[u8], info: &[u8],
     if b != 0 {
         return b;
     }
-    names_number(base, names, info, d)
+    names_number(base, len, last, d)
 }
 
 // A number that refuses fields, and the sum of their sizes.
@@ -153,16 +184,17 @@ pub(crate) fn field_at(
     fields: &[u8],
     at: usize,
     base: usize,
-    names: &[u8],
-    info: &[u8],
+    len: usize,
+    last: &[usize; 32],
 ) -> Checked
     requires { ⌜ at + fieldLen version ≤ length (now fields) ⌝ }
-    ensures { λ r. ⌜ (r .number ≡ fieldNumber base (areaOf (now (names .entry)) (now (info .entry))) (take (fieldLen version) (drop at (now (fields .entry)))))
+    ensures { λ r. ⌜ ((area : List ℕ) → length area ≡ len → LastZeros area (now (last .entry))
+        → r .number ≡ fieldNumber base area (take (fieldLen version) (drop at (now (fields .entry)))))
         × (r .total ≡ fieldSize (take (fieldLen version) (drop at (now (fields .entry))))) ⌝ }
 {
-    let len = field_len(version);
-    let d = &fields[at..at + len];
-    let number = field_number(version, base, names, info, d);
+    let each = field_len(version);
+    let d = &fields[at..at + each];
+    let number = field_number(version, base, len, last, d);
     let total = mlg_values::size_of(d[0]) as usize;
     Checked { number, total }
 }
@@ -173,25 +205,26 @@ pub(crate) fn check_fields(
     fields: &[u8],
     count: u16,
     base: usize,
-    names: &[u8],
-    info: &[u8],
+    len: usize,
+    last: &[usize; 32],
 ) -> Checked
     requires { ⌜ fieldLen version * count ≤ length (now fields) ⌝ }
-    ensures { λ r. ⌜ (r .number ≡ fieldsNumber version base (areaOf (now (names .entry)) (now (info .entry))) count (now (fields .entry)))
+    ensures { λ r. ⌜ ((area : List ℕ) → length area ≡ len → LastZeros area (now (last .entry))
+        → r .number ≡ fieldsNumber version base area count (now (fields .entry)))
         × (r .number ≡ 0 → r .total ≡ sizes version count (now (fields .entry))) ⌝ }
 {
-    let len = field_len(version);
+    let each = field_len(version);
     let mut at: usize = 0;
     let mut left = count as usize;
     let mut total: usize = 0;
     while left != 0 {
-        let field = field_at(version, fields, at, base, names, info);
+        let field = field_at(version, fields, at, base, len, last);
         let number = field.number;
         if number != 0 {
             return Checked { number, total: 0 };
         }
         total += field.total;
-        at += len;
+        at += each;
         left -= 1;
     }
     Checked { number: 0, total }

@@ -2,11 +2,15 @@
 use crate::Header;
 use crate::fields::Checked;
 use crate::fields::check_fields;
+use crate::fields::last_zeros;
 use crate::layout::field_len;
 use crate::layout::header_len;
 use crate::layout::info_len;
 ghost use mathlib.Core.Path.{_≡_};
+ghost use mathlib.Core.List.{List};
+ghost use Prim.Native.Nat.{ℕ, _≤_};
 ghost use lib.ListN.{length};
+ghost use Rattle.wire.specs.Text.{LastZeros};
 ghost use Rattle.wire.specs.BigEndian.{beAt};
 ghost use Rattle.mlg_rules.specs.Layout.{infoLen};
 ghost use Rattle.mlg_rules.specs.Fields.{fieldsNumber, sizes};
@@ -88,28 +92,33 @@ pub(crate) fn places_number(n: usize, h: Header) -> u8
     0
 }
 
-// What a file's fields give.
-pub(crate) fn file_fields(file: &[u8], h: Header) -> Checked
+// The places of the last zeros from the fields' end to data begin.
+pub(crate) fn file_zeros(file: &[u8], h: Header) -> [usize; 32]
     requires { ⌜ placesNumber (length (now file)) h ≡ 0 ⌝ }
+    ensures { λ r. ⌜ LastZeros (areaIn (now (file .entry)) h) r ⌝ }
+{
+    let end = fields_end(h);
+    let begin = h.begin as usize;
+    last_zeros(&file[end..begin], &file[0..0])
+}
+
+// What a file's fields give.
+pub(crate) fn file_fields(file: &[u8], h: Header, last: &[usize; 32]) -> Checked
+    requires { ⌜ (placesNumber (length (now file)) h ≡ 0) × LastZeros (areaIn (now file) h) (now last) ⌝ }
     ensures { λ r. ⌜ (r .number ≡ fieldsNumber (h .version) (fieldsEnd h) (areaIn (now (file .entry)) h) (h .count) (fieldsFrom (now (file .entry)) h))
         × (r .number ≡ 0 → r .total ≡ sizes (h .version) (h .count) (fieldsFrom (now (file .entry)) h)) ⌝ }
 {
     let end = fields_end(h);
     let begin = h.begin as usize;
     let start = header_len(h.version);
-    check_fields(
-        h.version,
-        &file[start..],
-        h.count,
-        end,
-        &file[end..begin],
-        &file[0..0],
-    )
+    check_fields(h.version, &file[start..], h.count, end, begin - end, last)
 }
 
-pub(crate) fn last_number(file: &[u8], h: Header, total: usize) -> u8
-    requires { ⌜ (total ≡ sizes (h .version) (h .count) (fieldsFrom (now file) h)) × (placesNumber (length (now file)) h ≡ 0) ⌝ }
-    ensures { λ r. ⌜ r ≡ lastNumber h (fieldsFrom (now (file .entry)) h) (areaIn (now (file .entry)) h) ⌝ }
+// The area is told by the places of its last zeros.
+pub(crate) fn last_number(h: Header, total: usize, last: &[usize; 32]) -> u8
+    requires { ⌜ ((h .info ≡ 0 → ⊥) → fieldsEnd h ≤ h .info) ⌝ }
+    ensures { λ r. ⌜ ((fields area : List ℕ) → total ≡ sizes (h .version) (h .count) fields → LastZeros area (now (last .entry))
+        → r ≡ lastNumber h fields area) ⌝ }
 {
     let size = h.size as usize;
     if total != size {
@@ -119,9 +128,7 @@ pub(crate) fn last_number(file: &[u8], h: Header, total: usize) -> u8
     if info == 0 {
         return 0;
     }
-    let begin = h.begin as usize;
-    let zeros = wire::zero_count(&file[info..begin]);
-    if zeros == 0 {
+    if last[0] <= info - fields_end(h) {
         return 28;
     }
     0
@@ -140,10 +147,11 @@ pub(crate) fn read_header_number(file: &[u8]) -> u8
     if b != 0 {
         return b;
     }
-    let f = file_fields(file, h);
+    let last = file_zeros(file, h);
+    let f = file_fields(file, h, &last);
     let c = f.number;
     if c != 0 {
         return c;
     }
-    last_number(file, h, f.total)
+    last_number(h, f.total, &last)
 }

@@ -1,6 +1,7 @@
 // The bytes of a header.
 use crate::Header;
 use crate::fields::check_fields;
+use crate::fields::last_zeros;
 use crate::layout::field_len;
 use crate::layout::header_len;
 ghost use mathlib.Core.Path.{_≡_};
@@ -83,7 +84,9 @@ pub(crate) fn body_number(version: u16, time: u32, fields: &[u8], names: &[u8], 
     let len = fields.len();
     let count = (len / field_len(version)) as u16;
     let end = header_len(version) + len;
-    let f = check_fields(version, fields, count, end, names, info);
+    let last = last_zeros(names, info);
+    let area = names.len() + ended_len(info);
+    let f = check_fields(version, fields, count, end, area, &last);
     f.number
 }
 

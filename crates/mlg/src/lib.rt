@@ -9,6 +9,7 @@ mod layout;
 mod spans;
 
 use block_counting::count_from;
+use block_counting::mark_length;
 use block_counting::refusal;
 use block_reading::block_len;
 use block_reading::block_of;
@@ -33,8 +34,10 @@ ghost use lib.ListN.{length};
 ghost use Rattle.mlg_rules.specs.Header.{numbersOf, readHeaderNumber, readHeaderOf, noHeader, headAnswer};
 ghost use Rattle.mlg_rules.specs.Block.{counterAfter, readBlockOf, blockAnswer, blockResult};
 ghost use Rattle.mlg_rules.specs.Log.{lengthOf, countBlocksOf};
-ghost use Rattle.mlg_rules.specs.Parts.{fieldSpanOf, namesSpanOf, infoSpanOf};
-ghost use Rattle.mlg_rules.specs.RoundTrip.{DataBack, MarkBack, BlockAlone, LogPlaced, BlockSame, HeaderBack, LogBack, LogSame};
+ghost use Rattle.mlg_rules.specs.Parts.{fieldsSpanOf, fieldSpanOf, namesSpanOf, infoSpanOf};
+ghost use Rattle.mlg_rules.specs.Numbers.{HeaderNumber, BlockNumber};
+ghost use Rattle.mlg_rules.specs.Examples.{Examples};
+ghost use Rattle.mlg_rules.specs.RoundTrip.{DataBack, MarkBack, BlockAlone, LogPlaced, BlockSame, FieldsPlaced, HeaderBack, LogBack, LogSame};
 ghost use Rattle.wire.specs.Answer.{result};
 ghost use Rattle.wire.specs.Writer.{wrote, leaves};
 ghost use Rattle.mlg_rules.specs.Writing.{headerBytes, writeHeaderNumber, dataBytes, markBytes, writeDataNumber, writeMarkNumber};
@@ -47,7 +50,8 @@ pub use wire::Tally;
 // What a file's header says, or the number that refuses it.
 pub fn read_header(file: &[u8]) -> Head
     ensures { λ r. ⌜ (r ≡ readHeaderOf (now (file .entry)))
-        × (headAnswer r ≡ result noHeader (readHeaderNumber (now (file .entry))) (numbersOf (now (file .entry)))) ⌝ }
+        × (headAnswer r ≡ result noHeader (readHeaderNumber (now (file .entry))) (numbersOf (now (file .entry))))
+        × HeaderNumber (now (file .entry)) (headAnswer r .0) ⌝ }
 {
     let number = read_header_number(file);
     if number != 0 {
@@ -58,7 +62,9 @@ pub fn read_header(file: &[u8]) -> Head
 
 // The block at a place of a log whose records have the given length, after the given number of earlier blocks.
 pub fn read_block(file: &[u8], size: u16, earlier: u64, at: usize) -> Block
-    ensures { λ r. ⌜ (r ≡ readBlockOf size earlier (now (file .entry)) at) × (blockAnswer size r ≡ blockResult size earlier (now (file .entry)) at) ⌝ }
+    ensures { λ r. ⌜ (r ≡ readBlockOf size earlier (now (file .entry)) at)
+        × (blockAnswer size r ≡ blockResult size earlier (now (file .entry)) at)
+        × BlockNumber size (now (file .entry)) at (blockAnswer size r .number) ⌝ }
     ensures alone { λ _. ⌜ BlockAlone ⌝ }
 {
     if file.len() < at {
@@ -74,26 +80,10 @@ pub fn read_block(file: &[u8], size: u16, earlier: u64, at: usize) -> Block
 pub fn length_of(b: Block, size: u16) -> usize
     ensures { λ r. ⌜ r ≡ lengthOf size b ⌝ }
 {
-    match b {
-        Block::Data {
-            counter: _,
-            time: _,
-            start: _,
-            as_expected: _,
-        } => block_len(0, size),
-        Block::Mark {
-            counter: _,
-            time: _,
-            start: _,
-            len: _,
-            as_expected: _,
-        } => block_len(1, size),
-        Block::End => 0,
-        Block::Refused {
-            number: _,
-            place: _,
-        } => 0,
-    }
+    let Block::Data { .. } = b else {
+        return mark_length(b, size);
+    };
+    block_len(0, size)
 }
 
 // How many blocks a file has, and how they ended; a refused header gives no blocks, its number, and place 0.
@@ -112,7 +102,21 @@ pub fn count_blocks(file: &[u8]) -> Tally
     count_from(file, h.size, h.begin as usize)
 }
 
-// Where field i stands.
+// Where all the fields stand, back to back: the 89 bytes of field i at start + 89 * i. The header is judged once.
+pub fn fields_span(file: &[u8]) -> Span
+    ensures { λ r. ⌜ (r ≡ fieldsSpanOf (now (file .entry))) × (r .start + r .len ≤ length (now (file .entry))) ⌝ }
+    ensures each { λ _. ⌜ FieldsPlaced ⌝ }
+{
+    let number = read_header_number(file);
+    if number != 0 {
+        return span_of(number, 0, 0);
+    }
+    let h = numbers(file);
+    let len = field_len(h.version);
+    span_of(0, header_len(h.version), len * (h.count as usize))
+}
+
+// Where field i stands. The header is judged at every call.
 pub fn field_span(file: &[u8], index: u16) -> Span
     ensures { λ r. ⌜ (r ≡ fieldSpanOf (now (file .entry)) index) × (r .start + r .len ≤ length (now (file .entry))) ⌝ }
 {
@@ -215,6 +219,7 @@ pub fn write_header(
     ensures back { λ _. ⌜ HeaderBack ⌝ }
     ensures log { λ _. ⌜ LogBack ⌝ }
     ensures same { λ _. ⌜ LogSame ⌝ }
+    ensures examples { λ _. ⌜ Examples ⌝ }
 {
     let number = write_header_number(2, time, fields, names, info, out.len());
     if number != 0 {

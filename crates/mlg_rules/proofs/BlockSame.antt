@@ -46,6 +46,16 @@ Same l c t =
     (((counterIn t ≡ c) × PaddedHere (typeIn t) t) → rewritten (typeIn t) l c t ≡ take (blockLen l (typeIn t)) t)
     × (rewritten (typeIn t) l c t ≡ take (blockLen l (typeIn t)) t → (counterIn t ≡ c) × PaddedHere (typeIn t) t)
 
+-- the same bytes have the same counter
+data-counter : (l c b x y : ℕ) (u : List ℕ) → l < length u
+    → rewritten 0 l c (0 ∷ b ∷ x ∷ y ∷ u) ≡ take (blockLen l 0) (0 ∷ b ∷ x ∷ y ∷ u) → b ≡ c
+unfolding rewritten blockLen dataBytes startBytes
+data-counter l c b x y u h p = sym (second _ _ (p ∙ take-data l 0 b x y u h))
+
+mark-counter : (l c b x y : ℕ) (u : List ℕ) → rewritten 1 l c (1 ∷ b ∷ x ∷ y ∷ u) ≡ take (blockLen l 1) (1 ∷ b ∷ x ∷ y ∷ u) → b ≡ c
+unfolding rewritten blockLen markBytes startBytes
+mark-counter l c b x y u p = sym (second _ _ p)
+
 module _ (l c b x y : ℕ) (u : List ℕ) (hx : x < 256) (hy : y < 256) where
   data-same : l < length u → sumOf (take l u) ≡ getD u l 0 → Same l c (0 ∷ b ∷ x ∷ y ∷ u)
   unfolding rewritten PaddedHere blockLen
@@ -53,7 +63,7 @@ module _ (l c b x y : ℕ) (u : List ℕ) (hx : x < 256) (hy : y < 256) where
       let w = data-bytes c ((0 * 256 + x) * 256 + y) (take l u) x y (two-back x y hx hy) in
       let t = take-data l 0 b x y u h in (
         λ p. w ∙ rw (← p .0, s) (sym t),
-        λ p. (sym (second _ _ (sym w ∙ p ∙ t)), tt),
+        λ p. (data-counter l c b x y u h p, tt),
       )
 
   mark-same : Same l c (1 ∷ b ∷ x ∷ y ∷ u)
@@ -61,7 +71,7 @@ module _ (l c b x y : ℕ) (u : List ℕ) (hx : x < 256) (hy : y < 256) where
   mark-same =
       let w = mark-bytes c ((0 * 256 + x) * 256 + y) (take (textLen (take 50 u)) (take 50 u)) x y (two-back x y hx hy) in (
         λ p. w ∙ rw (← p .0, ← p .1),
-        λ p. (sym (second _ _ (sym w ∙ p)), sym (ap (drop 4) (sym w ∙ p))),
+        λ p. (mark-counter l c b x y u p, sym (ap (drop 4) (sym w ∙ p))),
       )
 
 pub block-same : BlockSame

@@ -12,7 +12,7 @@ use Rattle.mlg_rules.specs.Shown.{scalingIn, partsNumber, scalingNumber,
 use Rattle.mlg_rules.specs.Fields.{unended, textsNumber, namesNumber, fieldNumber}
 use Rattle.mlg_rules.specs.Header.{numbersOf, fieldsEnd, nameNumber, placesNumber, lastNumber, bodyNumber, areaIn, readHeaderNumber}
 use Rattle.mlg_rules.specs.Header.{readHeaderOf, headAnswer}
-use Rattle.mlg_rules.specs.Parts.{fieldsIn, namesEnd, namesIn, infoLength, infoIn, fieldSpanOf, namesSpanOf, infoSpanOf}
+use Rattle.mlg_rules.specs.Parts.{namesEnd, infoLength, fieldsSpanOf, fieldSpanOf, namesSpanOf, infoSpanOf}
 use Rattle.mlg_rules.specs.Block.{counterModulus, blockLen, lastOf, restNumber, partsOf, blockOf, placeNumber, readBlockOf}
 use Rattle.mlg_rules.specs.Block.{blockAnswer, partValues, restResult, blockResult}
 use Rattle.mlg_rules.specs.Log.{lengthOf, followedBy, logOf, tallyOf, tallyHead, countBlocksOf}
@@ -37,7 +37,7 @@ unfolding served unended textsNumber namesNumber fieldNumber numbersOf fieldsEnd
 headers = tt
 
 unfoldable pub parts : Unit {0}
-unfolding spanWith fieldsIn namesEnd namesIn infoLength infoIn fieldSpanOf namesSpanOf infoSpanOf
+unfolding spanWith namesEnd infoLength fieldsSpanOf fieldSpanOf namesSpanOf infoSpanOf
 parts = tt
 
 unfoldable pub blocks : Unit {0}

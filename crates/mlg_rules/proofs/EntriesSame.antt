@@ -18,7 +18,7 @@ use Rattle.mlg_rules.specs.Entries.{AsExpected, Padded, AllAsExpected, A
 use Rattle.mlg_rules.specs.RoundTrip.{BlockSame}
 use Rattle.mlg_rules.specs.declared.Block.{Block}
 use Rattle.mlg_rules.specs.declared.Block.the-variants.{End, Refused}
-use Rattle.mlg_rules.proofs.Accepted.{two-below, text-taken, text-length, data-accepted, mark-accepted}
+use Rattle.mlg_rules.proofs.NotRefused.{two-below, text-taken, text-length, data-accepted, mark-accepted}
 use Rattle.mlg_rules.proofs.BlockLaws.{whole, data-whole, text-ends}
 use Rattle.mlg_rules.proofs.LogLaws.{Next, Stands, a-block, the-end, refused, stands-at, step, parts-block, parts-length, log-end, log-refused, log-more}
 use Rattle.mlg_rules.proofs.BlockSame.{block-same}

@@ -10,15 +10,17 @@ use lib.ListN.{length, take, drop, length-append}
 use lib.Seq.{take-at, drop-at, drop-drop}
 use Rattle.wire.specs.Order.{_if_else_}
 use Rattle.wire.specs.Text.{textLen}
+use Rattle.wire.specs.Log.{Holds}
 use Rattle.wire.proofs.Numbers.{be-back}
 use Rattle.wire.proofs.Answers.{stands}
 use Rattle.wire.proofs.Orders.{if-yes, if-no, not-no, else-none}
+use Rattle.wire.proofs.Parts.{part-append}
 use Rattle.wire.proofs.Texts.{text-back, text-most}
 use Rattle.mlg_rules.specs.Layout.{served, layoutOf, headerLen, fieldLen}
 use Rattle.mlg_rules.specs.Area.{ended, areaOf}
 use Rattle.mlg_rules.specs.Header.{numbersOf, fieldsEnd, nameNumber, placesNumber, lastNumber, bodyNumber, areaIn, readHeaderNumber, readHeaderOf}
 use Rattle.mlg_rules.specs.Writing.{numberBytes, headerFor, headerBytes}
-use Rattle.mlg_rules.specs.Parts.{fieldsIn, namesEnd, namesIn, infoLength, infoIn}
+use Rattle.mlg_rules.specs.Parts.{namesEnd, infoLength, fieldsSpanOf, fieldSpanOf, namesSpanOf, infoSpanOf}
 use Rattle.mlg_rules.specs.RoundTrip.{HeaderBack}
 use Rattle.mlg_rules.specs.declared.Header.{Header}
 use Rattle.mlg_rules.specs.declared.Head.the-variants.{Is, Refused}
@@ -26,7 +28,8 @@ use Rattle.mlg_rules.proofs.AreaLaws.{area-length, ended-some}
 use Rattle.mlg_rules.proofs.EachField.{fields-alone, sizes-alone}
 use Rattle.mlg_rules.proofs.Fits.{Fit, fit, fields-end}
 use Rattle.mlg_rules.proofs.HeaderBytes.{first-length, number-length, header-length, header-fits, start-most}
-use Rattle.mlg_rules.proofs.LayoutLaws.{header-two, fields-fit}
+use Rattle.mlg_rules.proofs.LayoutLaws.{header-two, whole-fields-fit}
+use Rattle.mlg_rules.proofs.SpanLaws.{held}
 
 -- numbers that fit their places
 record Widths (h : Header) : Type 0 where
@@ -151,7 +154,7 @@ module _ (time : ℕ) (fields names info rest : List ℕ) where
 
   count-fits : fieldLen (head .version) * head .count ≤ length fields
   unfolding headerFor
-  count-fits = fields-fit 2 (length fields)
+  count-fits = whole-fields-fit 2 (length fields)
 
   drop-head : bodyNumber head (drop (headerLen (head .version)) log) (areaIn log head) ≡ bodyNumber head (drop (headerLen 2) log) (areaIn log head)
   unfolding headerFor
@@ -172,14 +175,6 @@ module _ (time : ℕ) (fields names info rest : List ℕ) where
   unfolding readHeaderOf
   header-read t f z = sym (stands Is Refused (readHeaderNumber log) (numbersOf log) head (sym (number-of t f z)) (sym (numbers-of t f)))
 
-  -- and the parts are as given
-  fields-back : Fit 2 fields names info → fieldsIn log head ≡ fields
-  unfolding fieldsIn headerFor
-  fields-back f =
-      let l : length fields ≡ headerLen 2 + length fields - headerLen 2 = omega arith in
-      rw (fields-end 2 time fields names info (f .whole), drop-numbers)
-      (take-at fields (areaOf names info ++ rest) (headerLen 2 + length fields - headerLen 2) l)
-
   names-part : take (length names) (areaOf names info ++ rest) ≡ names
   unfolding areaOf
   names-part = rw (append-assoc names (ended info) rest) (take-at names (ended info ++ rest) (length names) refl)
@@ -191,36 +186,64 @@ module _ (time : ℕ) (fields names info rest : List ℕ) where
       ∙ ap (drop (length names)) (drop-fields ∙ append-assoc names (ended info) rest)
       ∙ drop-at names (ended info ++ rest) (length names) refl
 
-  names-back : Fit 2 fields names info → namesIn log head ≡ names
-  unfolding namesIn
-  names-back f =
-      let l : headerLen 2 + length fields + length names - (headerLen 2 + length fields) ≡ length names = omega arith in
-      rw (stop-at time fields names info, fields-end 2 time fields names info (f .whole), drop-fields, l) names-part
+  -- and the calls hand out the parts as given
+  module _ (z : readHeaderNumber log ≡ 0) (e : numbersOf log ≡ head) (f : Fit 2 fields names info) where
+    fields-back : Holds log (fieldsSpanOf log) fields
+    unfolding fieldsSpanOf headerFor layoutOf
+    fields-back =
+        let count = ap (λ (h : Header). h .count) e in
+        held log _ 24 (length fields) z refl (omega (arith, count, f .whole))
+        (rw drop-numbers (take-at fields (areaOf names info ++ rest) (length fields) refl))
+
+    each-back : (i : ℕ) → i < head .count → Holds log (fieldSpanOf log i) (take 89 (drop (89 * i) fields))
+    unfolding fieldSpanOf headerFor layoutOf
+    each-back i k =
+        let here : i < numbersOf log .count = rw e k in
+        let at = sym (drop-drop (89 * i) 24 log) ∙ ap (drop (89 * i)) drop-numbers in
+        held log _ (24 + 89 * i) 89 (sym (else-none _ _ 0 _ (sym z) refl (if-no 23 _ 0 0 (lt-leb _ _ here) refl))) (omega arith) refl
+        (ap (take 89) at ∙ part-append 89 (89 * i) fields (areaOf names info ++ rest) (omega (arith, k)))
+
+    names-back : Holds log (namesSpanOf log) names
+    unfolding namesSpanOf
+    names-back =
+        let end = fields-end 2 time fields names info (f .whole) in
+        held log _ (headerLen 2 + length fields) (length names) z (ap fieldsEnd e ∙ end)
+        (omega (arith, ap namesEnd e, stop-at time fields names info, ap fieldsEnd e, end)) (rw drop-fields names-part)
 
 text-at : (l info rest : List ℕ) → l ≡ ended info ++ rest → (length info ≡ 0 → ⊥) → textLen info ≡ length info → take (textLen l) l ≡ info
 text-at l info rest p h t =
     let e : l ≡ info ++ (0 ∷ rest) = p ∙ ap (λ (k : List ℕ). k ++ rest) (ended-some info h) ∙ append-assoc info (0 ∷ []) rest in
     rw (e, text-back info rest t) (take-at info (0 ∷ rest) (length info) refl)
 
-info-back : (time : ℕ) (fields names info rest : List ℕ) → Fit 2 fields names info
-    → infoIn (log time fields names info rest) (headerFor 2 time fields names info) ≡ info
-unfolding infoIn infoLength headerFor
-info-back time fields names [] rest f = refl
-info-back time fields names (b ∷ bs) rest f =
+info-back : (time : ℕ) (fields names info rest : List ℕ) → let file = log time fields names info rest in readHeaderNumber file ≡ 0
+    → numbersOf file ≡ headerFor 2 time fields names info → Fit 2 fields names info → Holds file (infoSpanOf file) info
+unfolding infoSpanOf infoLength headerFor
+info-back time fields names [] rest z e f =
+    let file = log time fields names [] rest in
+    let none : infoLength file (numbersOf file) ≡ 0 = ap (infoLength file) e in
+    held file _ 0 0 z (ap (λ (h : Header). h .info) e) (omega (arith, none)) refl
+info-back time fields names (b ∷ bs) rest z e f =
+    let file = log time fields names (b ∷ bs) rest in
     let start = headerLen 2 + length fields + length names in
-    let z : eqb start 0 ≡ false = ne-eqb start 0 (λ w. omega (arith, header-two)) in
+    let some : eqb start 0 ≡ false = ne-eqb start 0 (λ w. omega (arith, header-two)) in
     let t : textLen (b ∷ bs) ≡ length (b ∷ bs) = omega (arith, text-most (b ∷ bs), f .text) in
     let part = info-part time fields names (b ∷ bs) rest in
-    rw z (text-at (drop start (log time fields names (b ∷ bs) rest)) (b ∷ bs) rest part (λ w. omega arith) t)
+    let len : infoLength file (numbersOf file) ≡ textLen (drop start file) = ap (infoLength file) e ∙ rw some in
+    held file _ start (textLen (drop start file)) z (ap (λ (h : Header). h .info) e) (omega (arith, len))
+    (text-at (drop start file) (b ∷ bs) rest part (λ w. omega arith) t)
 
 pub header-back : HeaderBack
 unfolding HeaderBack
 header-back time fields names info rest room t z =
     let a = header-fits 2 time fields names info room z in
     let f = fit 2 fields names info (a .0) in
+    let t′ : time < 256 ^ 4 = omega arith in
+    let n = sym (number-of time fields names info rest t′ f (a .1)) in
+    let e = numbers-of time fields names info rest t′ f in
     record {
-      numbers = header-read time fields names info rest (omega arith) f (a .1);
-      same-fields = fields-back time fields names info rest f;
-      same-names = names-back time fields names info rest f;
-      same-info = info-back time fields names info rest f;
+      numbers = header-read time fields names info rest t′ f (a .1);
+      same-fields = fields-back time fields names info rest n e f;
+      each-field = each-back time fields names info rest n e f;
+      same-names = names-back time fields names info rest n e f;
+      same-info = info-back time fields names info rest n e f;
     }

@@ -10,34 +10,47 @@ use lib.ListN.{length, take, drop, length-drop, take-append-drop}
 use lib.Seq.{length-take-le, take-suc}
 use Rattle.wire.specs.BigEndian.{beOf, beAt, beBytes}
 use Rattle.wire.specs.Text.{textLen}
+use Rattle.wire.specs.Log.{partOf}
 use Rattle.wire.proofs.Answers.{answered}
 use Rattle.wire.proofs.Numbers.{Bytes, bytes-drop, part-back}
 use Rattle.wire.proofs.Orders.{if-zero, if-no, else-zero, else-none, not-false, not-no}
 use Rattle.wire.proofs.Parts.{part-in-two}
-use Rattle.wire.proofs.Texts.{text-zero}
+use Rattle.wire.proofs.Texts.{text-stops}
 use Rattle.mlg_rules.specs.Layout.{served, layoutOf, headerLen, infoLen, fieldLen}
 use Rattle.mlg_rules.specs.Area.{ended, areaOf, infoStart}
 use Rattle.mlg_rules.specs.Fields.{sizes}
 use Rattle.mlg_rules.specs.Header.{logName, versionIn, numbersOf, fieldsEnd, fieldsFrom, areaIn}
 use Rattle.mlg_rules.specs.Header.{nameNumber, lastNumber, bodyNumber, readHeaderNumber, readHeaderOf}
 use Rattle.mlg_rules.specs.Writing.{numberBytes, headerFor, headerBytes, lengthsNumber, writeHeaderNumber}
-use Rattle.mlg_rules.specs.Parts.{fieldsIn, namesEnd, namesIn, infoLength, infoIn}
+use Rattle.mlg_rules.specs.Parts.{namesEnd, infoLength, fieldsSpanOf, namesSpanOf, infoSpanOf}
 use Rattle.mlg_rules.specs.RoundTrip.{InLayout}
 use Rattle.mlg_rules.specs.declared.Header.{Header}
 use Rattle.mlg_rules.specs.declared.Head.the-variants.{Is, Refused}
-use Rattle.mlg_rules.proofs.Accepted.{two-below, four-below, text-whole}
+use Rattle.mlg_rules.proofs.NotRefused.{two-below, four-below, text-whole}
 use Rattle.mlg_rules.proofs.AreaLaws.{ended-some}
 use Rattle.mlg_rules.proofs.EachField.{sizes-alone}
 use Rattle.mlg_rules.proofs.HeaderBack.{body-alone}
 use Rattle.mlg_rules.proofs.HeaderBytes.{start-some}
 use Rattle.mlg_rules.proofs.HeaderLaws.{Placed, placed}
+use Rattle.mlg_rules.proofs.SpanLaws.{held}
+
+-- the parts of a file whose header reads as h
+unfoldable pub fieldsIn : List ℕ → Header → List ℕ
+fieldsIn f h = take (fieldLen (h .version) * h .count) (drop (headerLen (h .version)) f)
+
+unfoldable pub namesIn : List ℕ → Header → List ℕ
+namesIn f h = take (namesEnd h - fieldsEnd h) (drop (fieldsEnd h) f)
+
+unfoldable pub infoIn : List ℕ → Header → List ℕ
+infoIn f h = take (infoLength f h) (drop (h .info) f)
 
 -- what is known of a header that was read
-taken : (f : List ℕ) (h : Header) → readHeaderOf f ≡ Is h → (readHeaderNumber f ≡ 0) × (numbersOf f ≡ h)
+pub taken : (f : List ℕ) (h : Header) → readHeaderOf f ≡ Is h → (readHeaderNumber f ≡ 0) × (numbersOf f ≡ h)
 unfolding readHeaderOf
 taken f h e = answered Is Refused (λ n y q. let v : _≡_ {A = ℕ} 0 1 = cc in omega arith) (λ x y q. cc) (readHeaderNumber f) (numbersOf f) h e
 
 pub record Accepted (f : List ℕ) (h : Header) : Type 0 where
+  pub number : readHeaderNumber f ≡ 0
   pub long : 24 ≤ length f
   pub name : beAt 6 f 0 ≡ beOf logName
   pub numbers : numbersOf f ≡ h
@@ -70,6 +83,7 @@ accepted f h e =
     let b = else-zero _ _ (a .1) in
     let n = named f (a .0) in
     record {
+      number = j .0;
       long = n .0;
       name = n .1;
       numbers = j .1;
@@ -78,6 +92,22 @@ accepted f h e =
       size = rw (j .1) at (sized (numbersOf f) _ _ (b .1));
       body = rw (j .1) at (b .1);
     }
+
+-- what the calls hand out of it
+module _ (f : List ℕ) (h : Header) (ok : Accepted f h) where
+  pub fields-read : partOf f (fieldsSpanOf f) ≡ fieldsIn f h
+  unfolding fieldsSpanOf fieldsIn
+  fields-read =
+      held f _ _ _ (ok .number) (ap (λ (g : Header). headerLen (g .version)) (ok .numbers))
+      (ap (λ (g : Header). fieldLen (g .version) * g .count) (ok .numbers)) refl .1
+
+  pub names-read : partOf f (namesSpanOf f) ≡ namesIn f h
+  unfolding namesSpanOf namesIn
+  names-read = held f _ _ _ (ok .number) (ap fieldsEnd (ok .numbers)) (ap (λ (g : Header). namesEnd g - fieldsEnd g) (ok .numbers)) refl .1
+
+  pub info-read : partOf f (infoSpanOf f) ≡ infoIn f h
+  unfolding infoSpanOf infoIn
+  info-read = held f _ _ _ (ok .number) (ap (λ (g : Header). g .info) (ok .numbers)) (ap (infoLength f) (ok .numbers)) refl .1
 
 pub join : {a b r s : List ℕ} → a ≡ b → r ≡ s → a ++ r ≡ b ++ s
 join p q = cc
@@ -121,7 +151,7 @@ module _ (f : List ℕ) (h : Header) (ok : Accepted f h) where
 
   fields-are : fieldsIn f h ≡ fields
   unfolding fieldsIn layoutOf
-  fields-are = refl
+  fields-are = let e : 89 * h .count ≡ end - 24 = omega (arith, end-is) in ap (λ (n : ℕ). take n (drop 24 f)) e
 
   fields-length : length fields ≡ 89 * h .count
   fields-length =
@@ -163,7 +193,7 @@ module _ (f : List ℕ) (h : Header) (ok : Accepted f h) where
     ended-is =
         let e : h .begin - h .info ≡ suc m = omega arith in
         ended-some text (λ w. omega (arith, text-length))
-        ∙ rw e (sym (take-suc (drop (h .info) f) m 0 inside ∙ ap (λ (b : ℕ). text ++ (b ∷ [])) (text-zero (drop (h .info) f) inside)))
+        ∙ rw e (sym (take-suc (drop (h .info) f) m 0 inside ∙ ap (λ (b : ℕ). text ++ (b ∷ [])) (text-stops (drop (h .info) f))))
 
     area-some : areaOf (namesIn f h) (infoIn f h) ≡ take (h .begin - end) (drop end f)
     unfolding areaOf

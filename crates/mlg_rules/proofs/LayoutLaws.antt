@@ -56,9 +56,9 @@ pub fields-whole : (v n : ℕ) → n % fieldLen v ≡ 0 → fieldLen v * (n / fi
 unfolding layoutOf
 fields-whole v n h = omega arith
 
-pub fields-fit : (v n : ℕ) → fieldLen v * (n / fieldLen v) ≤ n
+pub whole-fields-fit : (v n : ℕ) → fieldLen v * (n / fieldLen v) ≤ n
 unfolding layoutOf
-fields-fit v n = omega arith
+whole-fields-fit v n = omega arith
 
 -- few fields have few bytes
 pub fields-few : (v n : ℕ) → n / fieldLen v ≤ 65535 → n ≤ 5832703

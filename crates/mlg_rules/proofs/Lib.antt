@@ -1,4 +1,5 @@
 pub mod Computing
+pub mod AllExamples
 pub mod LayoutLaws
 pub mod TypeLaws
 pub mod RawLaws
@@ -6,8 +7,11 @@ pub mod Finite
 pub mod ShownLaws
 pub mod EachField
 pub mod AreaLaws
+pub mod ZeroLaws
 pub mod HeaderLaws
 pub mod BlockLaws
+pub mod BlockNumbers
+pub mod HeaderNumbers
 pub mod BlockBytes
 pub mod Fits
 pub mod HeaderBytes
@@ -16,12 +20,13 @@ pub mod BlockAlone
 pub mod BlockSame
 pub mod HeaderBack
 pub mod LogLaws
+pub mod KindLaws
 pub mod LogPlaced
 pub mod LogBack
-pub mod Accepted
+pub mod NotRefused
 pub mod EntriesSame
 pub mod HeaderSame
+pub mod FieldsPlaced
 pub mod LogSame
 pub mod TallyLaws
 pub mod SpanLaws
-pub mod Examples

@@ -1,17 +1,20 @@
 -- A log that was written reads back as given.
 use Prim.Native.Nat.{ℕ, zero, suc, _+_, _<_}
-use mathlib.Core.Path.{_≡_, refl, ap, _∙_}
+use mathlib.Core.Path.{_≡_, refl, sym, ap, _∙_}
 use mathlib.Core.Bool.{true}
-use mathlib.Core.List.{List, [], _∷_, _++_, append-assoc}
+use mathlib.Core.List.{List, [], _∷_, _++_, append-assoc, append-nil}
 use native.Mathlib.Omega.{arith}
 use lib.ListN.{length, drop, length-append}
 use lib.Seq.{drop-at}
-use Rattle.mlg_rules.specs.Block.{counterAfter, blockLen, readBlockOf}
+use Rattle.mlg_rules.specs.Header.{readHeaderOf}
+use Rattle.mlg_rules.specs.Block.{counterAfter, blockLen, readBlockOf, blockAnswer}
 use Rattle.mlg_rules.specs.Writing.{headerFor, headerBytes, dataBytes, markBytes}
-use Rattle.mlg_rules.specs.Log.{Log, lengthOf, logFrom, logOf}
+use Rattle.mlg_rules.specs.Log.{Log, lengthOf, logFrom, logOf, tallyOf, tallyHead, countBlocksOf}
 use Rattle.mlg_rules.specs.Entries.{Entry, aRecord, aMark, entriesBytes, entryIn, entriesIn, Writable, AllAsExpected}
 use Rattle.mlg_rules.specs.RoundTrip.{DataBack, MarkBack, HeaderBack, LogBack, logBytes}
 use Rattle.mlg_rules.specs.declared.Block.{Block}
+use Rattle.mlg_rules.specs.declared.Header.{Header}
+use Rattle.mlg_rules.specs.declared.Head.the-variants.{Is}
 use Rattle.mlg_rules.specs.declared.Block.the-variants.{Data, Mark, End}
 use Rattle.mlg_rules.proofs.BlockBack.{data-back, mark-back}
 use Rattle.mlg_rules.proofs.BlockBytes.{data-fits, data-length, mark-fits, mark-length}
@@ -25,6 +28,8 @@ record Reads (l : ℕ) (es : List Entry) (f : List ℕ) (log : Log) : Type 0 whe
   entries : entriesIn l f (log .blocks) ≡ es
   asExpected : AllAsExpected (log .blocks)
   ends : log .ending ≡ End
+  many : length (log .blocks) ≡ length es
+  place : log .place ≡ length f
 
 same-reads : (k l n : ℕ) (es : List Entry) (f g : List ℕ) (at to : ℕ) → f ≡ g → at ≡ to → Reads l es f (logFrom k l n f at) → Reads l es g (logFrom k l n g to)
 same-reads k l n es f g at to p q r = rw (← p, ← q) r
@@ -37,7 +42,13 @@ none-left k l n before =
     at-within l n (before ++ []) (length before) (omega (arith, length-append before []))
     ∙ block-end l (counterAfter n) (length before) (drop (length before) (before ++ [])) nothing in
     let s = log-end k l n (before ++ []) (length before) e in
-    record { entries = ap (λ (g : Log). entriesIn l (before ++ []) (g .blocks)) s; asExpected = rw s tt; ends = ap (λ (g : Log). g .ending) s }
+    record {
+      entries = ap (λ (g : Log). entriesIn l (before ++ []) (g .blocks)) s;
+      asExpected = rw s tt;
+      ends = ap (λ (g : Log). g .ending) s;
+      many = ap (λ (g : Log). length (g .blocks)) s;
+      place = ap (λ (g : Log). g .place) s ∙ ap length (sym (append-nil before));
+    }
 
 -- a block that says an entry, with the expected counter
 abbrev Says : ℕ → List ℕ → Block → Entry → Type 0
@@ -50,6 +61,8 @@ one-more l f log at b next e es g w r =
       entries = ap (entriesIn l f) (g .0) ∙ rw (w .0, r .entries);
       asExpected = rw (g .0) (w .1 .0, r .asExpected);
       ends = g .1 ∙ r .ends;
+      many = ap length (g .0) ∙ ap suc (r .many);
+      place = g .2 ∙ r .place;
     }
 
 -- the file after a block is the file that begins with it
@@ -103,6 +116,12 @@ begin-is : (time : ℕ) (fields names info : List ℕ) → length (headerBytes 2
 unfolding headerFor
 begin-is time fields names info = header-length 2 time fields names info
 
+-- what is counted
+count-log : (f : List ℕ) (h : Header) (es : List Entry) → readHeaderOf f ≡ Is h → Reads (h .size) es f (logOf (h .size) f (h .begin))
+    → countBlocksOf f ≡ record { blocks = length es; ending = 0; place = length f }
+unfolding countBlocksOf tallyHead tallyOf blockAnswer
+count-log f h es e r = rw (e, r .many, r .ends, r .place)
+
 pub log-back : LogBack
 unfolding LogBack HeaderBack logBytes logOf
 log-back time fields names info es room t z ws =
@@ -110,9 +129,11 @@ log-back time fields names info es room t z ws =
     let l = headerFor 2 time fields names info .size in
     let r = reads l es 0 (suc (length (h ++ entriesBytes 0 es))) h ws (omega (arith, length-append h (entriesBytes 0 es))) in
     let q = rw (begin-is time fields names info) at r in
+    let header = header-back time fields names info (entriesBytes 0 es) room t z in
     record {
-      header = header-back time fields names info (entriesBytes 0 es) room t z;
+      header = header;
       entries = q .entries;
       asExpected = q .asExpected;
       ends = q .ends;
+      counted = count-log (h ++ entriesBytes 0 es) _ es (header .numbers) q;
     }

@@ -1,16 +1,16 @@
 -- Parts of a file as places and lengths.
-use Prim.Native.Nat.{ℕ, zero, suc, _+_, _≤_, _<_}
+use Prim.Native.Nat.{ℕ, zero, suc, _+_, _*_, _≤_, _<_}
 use mathlib.Core.Path.{_≡_, refl, sym, ap, _∙_}
 use mathlib.Core.List.{List}
 use native.Mathlib.Omega.{arith}
 use native.Mathlib.Nat.{mul-le-mul-left, mul-suc}
 use borrow.Author.Tests.{eq-eqb, ne-eqb}
-use lib.ListN.{length, drop, length-drop}
+use lib.ListN.{length, take, drop, length-drop}
 use Rattle.wire.specs.Text.{textLen}
 use Rattle.wire.proofs.Orders.{else-zero}
 use Rattle.wire.proofs.Texts.{text-most}
-use Rattle.wire.specs.Log.{spanWith}
-use Rattle.mlg_rules.specs.Layout.{fieldLen}
+use Rattle.wire.specs.Log.{spanWith, Holds}
+use Rattle.mlg_rules.specs.Layout.{headerLen, fieldLen}
 use Rattle.mlg_rules.specs.Header.{numbersOf, fieldsEnd, readHeaderNumber}
 use Rattle.mlg_rules.specs.Parts.{fieldPlace, namesEnd, infoLength}
 use Rattle.mlg_rules.specs.declared.Header.{Header}
@@ -26,6 +26,12 @@ pub span-yes : (n s k : ℕ) → n ≡ 0 → _≡_ {A = Span} (record { number =
 unfolding spanWith
 span-yes zero s k e = refl
 span-yes (suc n) s k e = absurd (omega arith)
+
+-- the bytes of a part that no number refuses
+pub held : (f : List ℕ) (n : ℕ) {s k : ℕ} (t m : ℕ) {bytes : List ℕ} → n ≡ 0 → s ≡ t → k ≡ m → take m (drop t f) ≡ bytes → Holds f (spanWith n s k) bytes
+unfolding spanWith
+held f zero t m e p q r = (refl, rw (p, q) r)
+held f (suc n) t m e p q r = absurd (omega arith)
 
 -- a refusal, and a part, as both parts of a promise
 pub refused : {r : Span} (n s k x t m : ℕ) (f : List ℕ) → r ≡ spanWith x t m → x ≡ n → (x ≡ 0 → ⊥) → (r ≡ spanWith n s k) × (r .start + r .len ≤ length f)
@@ -49,6 +55,10 @@ unfolding fieldsEnd
 field-fits n h i p k =
     let a = mul-le-mul-left (fieldLen (h .version)) k in
     omega (arith, p .fields, mul-suc (fieldLen (h .version)) i)
+
+pub fields-fit : (n : ℕ) (h : Header) → Placed n h → headerLen (h .version) + fieldLen (h .version) * h .count ≤ n
+unfolding fieldsEnd
+fields-fit n h p = p .fields
 
 pub names-none : (h : Header) → h .info ≡ 0 → h .begin ≡ namesEnd h
 unfolding namesEnd

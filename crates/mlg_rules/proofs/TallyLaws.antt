@@ -1,8 +1,7 @@
--- Blocks counted one by one, and what the arms of a `match` on them know.
+-- Blocks counted one by one.
 use Prim.Native.Nat.{ℕ, zero, suc, _+_, _-_, _≤_}
 use mathlib.Core.Path.{_≡_, refl, ap}
 use mathlib.Core.List.{List, [], _∷_}
-use mathlib.Core.Logic.{⊎-elim}
 use native.Mathlib.Omega.{arith}
 use types.Run.{OneOf}
 use denote.Enum.Declared.{tagOf}
@@ -10,13 +9,13 @@ use lib.ListN.{length}
 use Rattle.mlg_rules.specs.Header.{readHeaderOf, headAnswer}
 use Rattle.mlg_rules.specs.Block.{counterAfter, typeIn, readBlockOf, blockAnswer}
 use Rattle.mlg_rules.specs.Log.{Log, lengthOf, logFrom, logOf, tallyOf, tallyHead, countBlocksOf}
+use Rattle.mlg_rules.specs.Kinds.{Ending}
 use Rattle.mlg_rules.specs.declared.Block.{Block}
 use Rattle.mlg_rules.specs.declared.Head.{Head}
 use Rattle.mlg_rules.specs.declared.Header.{Header}
 use Rattle.mlg_rules.specs.declared.Head.the-variants as head
 use Rattle.wire.specs.declared.Tally.{Tally}
 use Rattle.mlg_rules.specs.declared.Block.the-variants.{Data, Mark, End, Refused}
-use Rattle.mlg_rules.proofs.Block.{the-type}
 use Rattle.mlg_rules.proofs.Head as head-type
 use Rattle.mlg_rules.proofs.BlockLaws.{whole}
 use Rattle.mlg_rules.proofs.LogLaws.{IsBlock, Next, Stands, a-block, the-end, refused, stands-at, step, parts-length, log-end, log-refused, log-more}
@@ -41,11 +40,11 @@ stop-tally : (l n at : ℕ) (b : Block) (log : Log) → log ≡ record { blocks 
     → from l n log ≡ record { blocks = n; ending = blockAnswer l b .number; place = at }
 stop-tally l n at b log e = let z : n + 0 ≡ n = omega arith in rw (e, z)
 
-pub tally-stop : (k l n : ℕ) (f : List ℕ) (at : ℕ) (b : Block) → (k ≡ 0 → ⊥) → readBlockOf l n f at ≡ b → OneOf (2 ∷ 3 ∷ []) (tagOf the-type b)
+pub tally-stop : (k l n : ℕ) (f : List ℕ) (at : ℕ) (b : Block) → (k ≡ 0 → ⊥) → readBlockOf l n f at ≡ b → Ending b
     → from l n (logFrom k l n f at) ≡ record { blocks = n; ending = blockAnswer l b .number; place = at }
 tally-stop zero l n f at b h e g = absurd (h refl)
-tally-stop (suc k) l n f at (Data c m s r) h e g = absurd (⊎-elim (λ h. omega arith) (λ h. omega arith) g)
-tally-stop (suc k) l n f at (Mark c m s j r) h e g = absurd (⊎-elim (λ h. omega arith) (λ h. omega arith) g)
+tally-stop (suc k) l n f at (Data c m s r) h e g = absurd g
+tally-stop (suc k) l n f at (Mark c m s j r) h e g = absurd g
 tally-stop (suc k) l n f at End h e g = stop-tally l n at End _ (log-end k l n f at e)
 tally-stop (suc k) l n f at (Refused m p) h e g = stop-tally l n at (Refused m p) _ (log-refused k l n f at m p e)
 
@@ -81,9 +80,10 @@ pub count-is : (f : List ℕ) (h : Header) → readHeaderOf f ≡ head.Is h → 
 unfolding countBlocksOf tallyHead
 count-is f h e = rw e
 
--- an arm that holds data and marks
-pub tag-block : (b : Block) → OneOf (0 ∷ 1 ∷ []) (tagOf the-type b) → IsBlock b
-tag-block (Data c m s r) g = tt
-tag-block (Mark c m s k r) g = tt
-tag-block End g = absurd (⊎-elim (λ h. omega arith) (λ h. omega arith) g)
-tag-block (Refused n p) g = absurd (⊎-elim (λ h. omega arith) (λ h. omega arith) g)
+-- what has a length is a block
+pub length-block : (l : ℕ) (b : Block) → (lengthOf l b ≡ 0 → ⊥) → IsBlock b
+unfolding lengthOf
+length-block l (Data c m s r) k = tt
+length-block l (Mark c m s i r) k = tt
+length-block l End k = k refl
+length-block l (Refused n p) k = k refl

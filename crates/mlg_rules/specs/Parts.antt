@@ -3,7 +3,7 @@ use Prim.Native.Nat.{ℕ, _+_, _*_, _-_}
 use mathlib.Core.Bool.{cond}
 use mathlib.Core.List.{List}
 use lib.Dec.{eqb, leb}
-use lib.ListN.{take, drop}
+use lib.ListN.{drop}
 use Rattle.wire.specs.Order.{_if_else_, _orElse_}
 use Rattle.wire.specs.Text.{textLen}
 use Rattle.wire.specs.Log.{spanWith}
@@ -11,10 +11,6 @@ use Rattle.mlg_rules.specs.Layout.{headerLen, fieldLen}
 use Rattle.mlg_rules.specs.Header.{fieldsEnd, readHeaderNumber, numbersOf}
 use Rattle.mlg_rules.specs.declared.Header.{Header}
 use Rattle.wire.specs.declared.Span.{Span}
-
--- the fields' bytes
-unfoldable pub fieldsIn : List ℕ → Header → List ℕ
-fieldsIn f h = take (fieldsEnd h - headerLen (h .version)) (drop (headerLen (h .version)) f)
 
 -- field i's place; its bytes are as many as the layout's fields have
 abbrev pub fieldPlace : Header → ℕ → ℕ
@@ -24,17 +20,17 @@ fieldPlace h i = headerLen (h .version) + fieldLen (h .version) * i
 unfoldable pub namesEnd : Header → ℕ
 namesEnd h = cond (eqb (h .info) 0) (h .begin) (h .info)
 
-unfoldable pub namesIn : List ℕ → Header → List ℕ
-namesIn f h = take (namesEnd h - fieldsEnd h) (drop (fieldsEnd h) f)
-
 -- the info text: from the info start to its zero, none where the info start is 0
 unfoldable pub infoLength : List ℕ → Header → ℕ
 infoLength f h = cond (eqb (h .info) 0) 0 (textLen (drop (h .info) f))
 
-unfoldable pub infoIn : List ℕ → Header → List ℕ
-infoIn f h = take (infoLength f h) (drop (h .info) f)
+-- each refuses as the header reader does
 
--- each refuses as the header reader does; 23 for a field that is not there
+-- all fields, back to back
+unfoldable pub fieldsSpanOf : List ℕ → Span
+fieldsSpanOf f = spanWith (readHeaderNumber f) (headerLen (numbersOf f .version)) (fieldLen (numbersOf f .version) * numbersOf f .count)
+
+-- one field; 23 for one that is not there
 unfoldable pub fieldSpanOf : List ℕ → ℕ → Span
 fieldSpanOf f i =
     spanWith (readHeaderNumber f orElse 23 if leb (numbersOf f .count) i else 0) (fieldPlace (numbersOf f) i) (fieldLen (numbersOf f .version))

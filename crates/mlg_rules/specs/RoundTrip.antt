@@ -1,16 +1,17 @@
 -- What the writers promise together with the readers. Each statement is a type; the writers' contracts name it, and proofs/ proves it.
-use Prim.Native.Nat.{ℕ, _+_, _^_, _≤_, _<_}
+use Prim.Native.Nat.{ℕ, _+_, _*_, _^_, _≤_, _<_}
 use mathlib.Core.Path.{_≡_}
 use mathlib.Core.Bool.{true}
 use mathlib.Core.Logic.{_⊎_}
 use mathlib.Core.List.{List, [], _∷_, _++_}
 use lib.ListN.{length, getD, take, drop}
 use Rattle.wire.specs.Text.{textLen}
+use Rattle.wire.specs.Log.{partOf, Holds}
 use Rattle.mlg_rules.specs.Header.{readHeaderOf}
 use Rattle.mlg_rules.specs.Block.{counterAfter, blockLen, typeIn, counterIn, restNumber, blockOf, readBlockOf}
 use Rattle.mlg_rules.specs.Writing.{headerFor, headerBytes, writeHeaderNumber, dataBytes, writeDataNumber, markBytes, writeMarkNumber}
-use Rattle.mlg_rules.specs.Parts.{fieldsIn, namesIn, infoIn}
-use Rattle.mlg_rules.specs.Log.{Log, lengthOf, logOf}
+use Rattle.mlg_rules.specs.Parts.{fieldsSpanOf, fieldSpanOf, namesSpanOf, infoSpanOf}
+use Rattle.mlg_rules.specs.Log.{Log, lengthOf, logOf, countBlocksOf}
 use Rattle.mlg_rules.specs.Entries.{Entry, entriesBytes, Writable, entriesIn, AllAsExpected, AllPadded, rewritten, PaddedHere}
 use Rattle.mlg_rules.specs.declared.Block.{Block}
 use Rattle.mlg_rules.specs.declared.Header.{Header}
@@ -65,19 +66,31 @@ BlockSame =
     → (((counterIn t ≡ c) × PaddedHere (typeIn t) t) → rewritten (typeIn t) l c t ≡ take (blockLen l (typeIn t)) t)
     × (rewritten (typeIn t) l c t ≡ take (blockLen l (typeIn t)) t → (counterIn t ≡ c) × PaddedHere (typeIn t) t)
 
--- A header that was written reads back as given, whatever follows: its numbers, fields, names area and info.
+-- Of a file whose header is accepted: all its fields lie back to back, so that field i stands at start + 89 * i, where the call for it alone
+-- finds it too; that call refuses every other index.
+unfoldable pub FieldsPlaced : Type 0
+FieldsPlaced =
+    (f : List ℕ) (h : Header) → readHeaderOf f ≡ Is h
+    → (fieldsSpanOf f ≡ record { number = 0; start = 24; len = 89 * h .count })
+    × ((i : ℕ) → i < h .count → fieldSpanOf f i ≡ record { number = 0; start = fieldsSpanOf f .start + 89 * i; len = 89 })
+    × ((i : ℕ) → h .count ≤ i → fieldSpanOf f i ≡ record { number = 23; start = 0; len = 0 })
+
+-- A header that was written reads back as given, whatever follows, by what the calls hand out: its numbers, and the bytes of all its fields, of
+-- each field, of the names area and of info.
 pub record HeaderReads (time : ℕ) (fields names info file : List ℕ) : Type 0 where
   pub numbers : readHeaderOf file ≡ Is (headerFor 2 time fields names info)
-  pub same-fields : fieldsIn file (headerFor 2 time fields names info) ≡ fields
-  pub same-names : namesIn file (headerFor 2 time fields names info) ≡ names
-  pub same-info : infoIn file (headerFor 2 time fields names info) ≡ info
+  pub same-fields : Holds file (fieldsSpanOf file) fields
+  pub each-field : (i : ℕ) → i < headerFor 2 time fields names info .count → Holds file (fieldSpanOf file i) (take 89 (drop (89 * i) fields))
+  pub same-names : Holds file (namesSpanOf file) names
+  pub same-info : Holds file (infoSpanOf file) info
 
 unfoldable pub HeaderBack : Type 0
 HeaderBack =
     (time : ℕ) (fields names info rest : List ℕ) (room : ℕ) → time < 2 ^ 32 → writeHeaderNumber 2 time fields names info room ≡ 0
     → HeaderReads time fields names info (headerBytes 2 time fields names info ++ rest)
 
--- A log that was written reads back as given: its header, and each record and mark in turn, with right counters, to the end.
+-- A log that was written reads back as given: its header, and each record and mark in turn, with right counters, to the end. (The log's blocks
+-- are what the block reader hands out, one after the other: `LogPlaced`.)
 unfoldable pub logBytes : ℕ → List ℕ → List ℕ → List ℕ → List Entry → List ℕ
 logBytes time fields names info es = headerBytes 2 time fields names info ++ entriesBytes 0 es
 
@@ -86,6 +99,7 @@ pub record LogReads (time : ℕ) (fields names info : List ℕ) (es : List Entry
   pub entries : entriesIn (headerFor 2 time fields names info .size) file (log .blocks) ≡ es
   pub asExpected : AllAsExpected (log .blocks)
   pub ends : log .ending ≡ End
+  pub counted : countBlocksOf file ≡ record { blocks = length es; ending = 0; place = length file }
 
 unfoldable pub LogBack : Type 0
 LogBack =
@@ -100,12 +114,14 @@ unfoldable pub InLayout : List ℕ → Header → Type 0
 InLayout f h = (h .info ≡ 0) ⊎ ((0 < textLen (drop (h .info) f)) × (h .info + textLen (drop (h .info) f) + 1 ≡ h .begin))
 
 -- "A file in this layout, with right counters and zero-padded marks, rewritten from what was read gives the same bytes": no writer refuses what
--- was read, where it has the room that the file had, and what they write is the file.
+-- the calls hand out, where it has the room that the file had, and what they write is the file.
 unfoldable pub LogSame : Type 0
 LogSame =
     (f : List ℕ) (h : Header) → ((i : ℕ) → getD f i 0 < 256) → readHeaderOf f ≡ Is h → InLayout f h
     → logOf (h .size) f (h .begin) .ending ≡ End
     → AllAsExpected (logOf (h .size) f (h .begin) .blocks) → AllPadded f (logOf (h .size) f (h .begin) .blocks)
-    → (writeHeaderNumber 2 (h .time) (fieldsIn f h) (namesIn f h) (infoIn f h) (length f) ≡ 0)
-    × Writable (h .size) (entriesIn (h .size) f (logOf (h .size) f (h .begin) .blocks))
-    × (logBytes (h .time) (fieldsIn f h) (namesIn f h) (infoIn f h) (entriesIn (h .size) f (logOf (h .size) f (h .begin) .blocks)) ≡ f)
+    → let fields = partOf f (fieldsSpanOf f) in
+    let names = partOf f (namesSpanOf f) in
+    let info = partOf f (infoSpanOf f) in
+    let es = entriesIn (h .size) f (logOf (h .size) f (h .begin) .blocks) in
+    (writeHeaderNumber 2 (h .time) fields names info (length f) ≡ 0) × Writable (h .size) es × (logBytes (h .time) fields names info es ≡ f)

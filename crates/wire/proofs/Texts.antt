@@ -1,6 +1,7 @@
 -- Laws of zero-ended texts.
 use Prim.Native.Nat.{ℕ, zero, suc, _+_, _≤_, _<_}
 use mathlib.Core.Path.{_≡_, refl, ap}
+use mathlib.Core.Logic.{_≢_}
 use mathlib.Core.List.{List, [], _∷_, _++_}
 use native.Mathlib.Omega.{arith}
 use lib.ListN.{length, getD}
@@ -39,13 +40,14 @@ zeros-append [] b = omega arith
 zeros-append (zero ∷ a) b = omega (arith, zeros-append a b)
 zeros-append (suc x ∷ a) b = zeros-append a b
 
-pub zeros-most : (l : List ℕ) → zeros l ≤ length l
-zeros-most [] = omega arith
-zeros-most (zero ∷ l) = omega (arith, zeros-most l)
-zeros-most (suc b ∷ l) = omega (arith, zeros-most l)
+-- a text stops at a zero, and has none before it
+pub text-stops : (l : List ℕ) → getD l (textLen l) 0 ≡ 0
+text-stops [] = refl
+text-stops (zero ∷ l) = refl
+text-stops (suc b ∷ l) = text-stops l
 
--- a text that ends has a zero there
-pub text-zero : (l : List ℕ) → textLen l < length l → getD l (textLen l) 0 ≡ 0
-text-zero [] h = absurd (omega arith)
-text-zero (zero ∷ l) h = refl
-text-zero (suc b ∷ l) h = text-zero l (omega arith)
+pub text-plain : (l : List ℕ) (i : ℕ) → i < textLen l → getD l i 0 ≢ 0
+text-plain [] i h e = omega arith
+text-plain (zero ∷ l) i h e = omega arith
+text-plain (suc b ∷ l) zero h e = omega arith
+text-plain (suc b ∷ l) (suc i) h e = text-plain l i (omega arith) e

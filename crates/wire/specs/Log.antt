@@ -1,5 +1,8 @@
--- What the logs MLG and FRD share: a block's counter, what is handed out of a block, and parts of a file.
+-- What the logs MLG and FRD share: a block's counter, and what is handed out of a block; and parts of a file or a buffer.
 use Prim.Native.Nat.{ℕ, zero, suc, _%_}
+use mathlib.Core.Path.{_≡_}
+use mathlib.Core.List.{List}
+use lib.ListN.{take, drop}
 pub use Rattle.wire.specs.declared.Span.{Span}
 pub use Rattle.wire.specs.declared.Tally.{Tally}
 
@@ -32,3 +35,11 @@ judged refused (suc n) place x = refused (suc n) place
 unfoldable pub spanWith : (number start len : ℕ) → Span
 spanWith zero start len = record { number = 0; start = start; len = len }
 spanWith (suc n) start len = record { number = suc n; start = 0; len = 0 }
+
+-- a part's bytes
+abbrev pub partOf : List ℕ → Span → List ℕ
+partOf f s = take (s .len) (drop (s .start) f)
+
+-- a part that is not refused, and whose bytes are these
+abbrev pub Holds : List ℕ → Span → List ℕ → Type 0
+Holds f s bytes = (s .number ≡ 0) × (partOf f s ≡ bytes)

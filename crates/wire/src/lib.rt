@@ -5,7 +5,7 @@ ghost use lib.ListN.{length, take};
 ghost use Rattle.wire.specs.BigEndian.{beOf, beAt, beBytes};
 ghost use Rattle.wire.specs.Sign.{signedOf, twos};
 ghost use Rattle.wire.specs.Sum.{sumOf};
-ghost use Rattle.wire.specs.Text.{textLen, zeros};
+ghost use Rattle.wire.specs.Text.{textLen};
 ghost use Rattle.wire.specs.Put.{putAt, putOf};
 
 // What a writer hands back: a number, and how many bytes it wrote (specs/Writer.antt).
@@ -172,21 +172,6 @@ pub fn text_len(s: &[u8]) -> usize
         i += 1;
     }
     i
-}
-
-// How many zeros there are.
-pub fn zero_count(s: &[u8]) -> usize
-    ensures { λ r. ⌜ r ≡ zeros (now (s .entry)) ⌝ }
-{
-    let mut n: usize = 0;
-    let mut i = 0;
-    while i < s.len() {
-        if s[i] == 0 {
-            n += 1;
-        }
-        i += 1;
-    }
-    n
 }
 
 fn copy(out: &mut [u8], at: usize, bytes: &[u8])

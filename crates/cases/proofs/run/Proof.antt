@@ -2,7 +2,6 @@ use borrow.Author.Needs.{needs}
 use Rattle.cases.proofs.run.Statement.{statement}
 use Rattle.cases.proofs.run.Tie as tie
 use Rattle.reckonings.proofs.Reckonings.{reckoned}
-use Rattle.mlg_rules.proofs.Examples.{examples}
 
 large-buffer-requires : tie.Need-large-buffer-requires
 large-buffer-requires c κs = search needs
@@ -20,7 +19,7 @@ flush-requires : tie.Need-flush-requires
 flush-requires c κs = search needs
 
 returns : tie.Need-returns
-returns c = (reckoned, examples)
+returns c = reckoned
 
 pub run-spec : {M : Type 1} → statement M
 run-spec =

@@ -7,7 +7,7 @@ use Rattle.listing.proofs.list.Reads as list-reads
 use native.Mathlib.Omega.{arith}
 use Rattle.listing_rules.proofs.ListWritten.{list-fits}
 use Rattle.listing_rules.proofs.LongInput.{long-input}
-use Rattle.listing_rules.proofs.Examples.{examples}
+use Rattle.listing_rules.proofs.AllExamples.{examples}
 
 list-requires : tie.Need-list-requires
 list-requires c κs = search needs

@@ -7,12 +7,13 @@ use lib.ListN.{length, take, drop}
 use mathlib.Core.Path.{sym, _∙_, ap}
 use Rattle.wire.proofs.Parts.{tail-part}
 use Rattle.mlg_rules.specs.Block.{blockOf, counterAfter}
-use Rattle.mlg_rules.proofs.BlockLaws.{at-past, at-within, block-means}
+use Rattle.mlg_rules.proofs.BlockLaws.{at-past, at-within}
+use Rattle.mlg_rules.proofs.BlockNumbers.{block-told}
 
 returns : tie.Need-returns
 returns c =
     let a = c .before .before .args in
-    (block-means (a .size) (a .earlier) (a .file .now) (a .at) (sym (at-past _ _ _ _ (c .if1 .taken))), block-alone)
+    (block-told (a .size) (a .earlier) (a .file .now) (a .at) (sym (at-past _ _ _ _ (c .if1 .taken))), block-alone)
 
 sub-block-of : tie.Need-sub-block-of
 sub-block-of c = search needs
@@ -33,7 +34,7 @@ returns-2 : tie.Need-returns-2
 returns-2 c =
     let a = c .before .before .before .before .before .args in
     let if1 = c .before .before .before .if1 in (
-      block-means (a .size) (a .earlier) (a .file .now) (a .at)
+      block-told (a .size) (a .earlier) (a .file .now) (a .at)
           (c .block-of .ensures
           ∙ ap (λ (k : ℕ). blockOf (a .size) k (a .at) (take (length (a .file .now) - a .at) (drop (a .at) (a .file .now)))) (c .before .counter-of .ensures)
           ∙ ap (blockOf (a .size) (counterAfter (a .earlier)) (a .at)) (tail-part (a .file .now) (a .at))

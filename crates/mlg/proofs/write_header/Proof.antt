@@ -2,6 +2,7 @@ use borrow.Author.Needs.{needs}
 use Rattle.mlg.proofs.write_header.Statement.{statement}
 use Rattle.mlg.proofs.write_header.Tie as tie
 use mathlib.Core.Path.{refl, sym, _∙_}
+use Rattle.mlg_rules.proofs.AllExamples.{examples}
 use Rattle.mlg_rules.proofs.HeaderBack.{header-back}
 use Rattle.mlg_rules.proofs.LogBack.{log-back}
 use Rattle.mlg_rules.proofs.LogSame.{log-same}
@@ -13,7 +14,7 @@ write-header-number-requires : tie.Need-write-header-number-requires
 write-header-number-requires c κs = search needs
 
 returns : tie.Need-returns
-returns c = (refuses _ _ _ _ (c .before .write-header-number .ensures) (c .if1 .taken), (header-back, (log-back, log-same)))
+returns c = (refuses _ _ _ _ (c .before .write-header-number .ensures) (c .if1 .taken), (header-back, (log-back, (log-same, examples))))
 
 put-header-requires : tie.Need-put-header-requires
 put-header-requires c κs =
@@ -40,7 +41,7 @@ returns-2 c =
     let put-header = c .before .before .before .put-header in (
       writes _ _ _ _ _ (sym (if1 .left) ∙ write-header-number .ensures)
           (c .total-len .ensures .0 ∙ sym (header-length 2 (a .time) (a .fields .now) (a .names .now) (a .info .now))) (put-header .ensures ∙ left 0 _ _ refl),
-      (header-back, (log-back, log-same)),
+      (header-back, (log-back, (log-same, examples))),
     )
 
 pub write-header-spec : {M : Type 1} → statement M

@@ -48,7 +48,8 @@ use denote.Triple.Clauses.{ensured, lasts}
 use Rattle.bridge_rules.specs.declared.Bridge.{Bridge}
 use Rattle.bridge_rules.proofs.Bridge as B
 use Rattle.bridge_rules.proofs.Bridge.Laws as B′
-use Rattle.bridge_rules.specs.Ending.{spanOf, partOf}
+use Rattle.bridge_rules.specs.Ending.{spanOf}
+use Rattle.wire.specs.Log.{partOf}
 use Rattle.wire.specs.declared.Span.{Span}
 use Rattle.bridge.specs.declared.Shown.{Shown}
 use Rattle.bridge.proofs.Spans.{span-fits, bytes-of}

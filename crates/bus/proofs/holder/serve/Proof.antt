@@ -19,7 +19,9 @@ use Rattle.bus_rules.specs.Holder.{byteOf, placeOf, noAnswer, kindNumber, serve
 use Rattle.bus_rules.specs.Demand2.{Demand2}
 use Rattle.bus_rules.proofs.IdentLaws.{are-parts, table-small}
 use Rattle.bus_rules.proofs.Cases.{served-case, refused-case, device-after}
+use Rattle.bus_rules.specs.Examples.{Examples}
 use Rattle.bus_rules.proofs.Demand2.{IsFrame, demand2}
+use Rattle.bus_rules.proofs.AllExamples.{examples}
 
 -- the device before the call
 abbrev before : tie.Start → Device
@@ -61,12 +63,12 @@ number c =
 -- a refusal
 refused : (s : tie.Start) (n : ℕ) (r : Served) → n ≡ serveNumber (before s) (s .args .f) → n ≢ 0 → r ≡ noAnswer n
     → ((r ≡ serveOf (before s) (s .args .f)) × (s .args .memory .now ≡ deviceAfter (before s) (s .args .f) .memory))
-    × Demand2 (before s) (s .args .f) r (before s)
+    × (Demand2 (before s) (s .args .f) r (before s) × Examples)
 refused s n r h k e =
     let w = refused-case (before s) (s .args .f) n (sym h) k in
     let p = e ∙ sym (w .0) in
     let q = sym (ap (λ (v : Device). v .memory) (w .1)) in
-    ((p, q), demanded s r _ p q)
+    ((p, q), (demanded s r _ p q, examples))
 
 table-of-requires : tie.Need-table-of-requires
 table-of-requires c κs = search needs
@@ -102,7 +104,7 @@ no-answer-requires-2 c κs = search needs
 returns-2 : tie.Need-returns-2
 returns-2 c =
     let n = c .before .before in
-    refused (start n) (n .frame-number .result) _ (number n) (c .before .if2 .taken) (c .no-answer2 .ensures)
+    refused (start n) (n .frame-number .result) _ (number n) (λ z. omega (arith, c .before .if2 .taken, z)) (c .no-answer2 .ensures)
 
 cast-act : tie.Need-cast-act
 cast-act c = search needs
@@ -121,7 +123,7 @@ act-requires c κs =
     let t = n .before .before .before .before in
     let o = are-parts (start n .args .f .id) (p .result) (p .ensures) .offset in
     let b = t .table-at .ensures .0 ∙ ap (startOf (start n .args .d)) (t .before .table-of .ensures) in
-    (sym (number n) ∙ c .before .before .before .if2 .left, ap₂ (λ (x y : ℕ). x + y) b o, p .ensures)
+    (omega (arith, number n, c .before .before .before .if2 .left), ap₂ (λ (x y : ℕ). x + y) b o, p .ensures)
 
 same-length : tie.Need-same-length
 same-length c = search needs
@@ -133,7 +135,7 @@ returns-3 c =
     let e = served-case (before s) (s .args .f) (sym (number n) ∙ c .before .before .before .before .before .before .if2 .left) in
     let p = c .before .before .act .ensures .0 ∙ sym (e .0) in
     let q = c .before .before .act .ensures .1 ∙ sym (ap (λ (v : Device). v .memory) (e .1)) in
-    ((p, q), demanded s _ _ p q)
+    ((p, q), (demanded s _ _ p q, examples))
 
 pub serve-spec : {M : Type 1} → statement M
 serve-spec =

@@ -8,14 +8,16 @@ use Rattle.wire.proofs.Writes.{refuses, writes}
 use Rattle.wire.proofs.Orders.{order}
 use Rattle.frd_rules.specs.Writing.{headerBytes, writeHeaderNumber}
 use Rattle.frd_rules.specs.RoundTrip.{HeaderBack, LogBack, LogSame}
+use Rattle.frd_rules.specs.Examples.{Examples}
+use Rattle.frd_rules.proofs.AllExamples.{examples}
 use Rattle.frd_rules.proofs.HeaderBack.{header-back}
 use Rattle.frd_rules.proofs.LogBack.{log-back}
 use Rattle.frd_rules.proofs.LogSame.{log-same}
 use Rattle.frd_rules.proofs.WritingLaws.{header-length, room-short, room-left, header-put}
 
--- what every answer promises of the header and of logs
-back : (c : tie.Start) → HeaderBack (c .args .time) (c .args .signature .now) (c .args .size) × (LogBack × LogSame)
-back c = (header-back _ _ _ (search needs) (search needs), (log-back, log-same))
+-- what every answer promises of the header, of logs and of the examples
+back : (c : tie.Start) → HeaderBack (c .args .time) (c .args .signature .now) (c .args .size) × ((LogBack × LogSame) × Examples)
+back c = (header-back _ _ _ (search needs) (search needs), ((log-back, log-same), examples))
 
 returns : tie.Need-returns
 unfolding writeHeaderNumber

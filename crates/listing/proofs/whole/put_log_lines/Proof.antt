@@ -3,6 +3,7 @@ use Rattle.listing.proofs.whole.put_log_lines.Tie as tie
 use Rattle.listing.proofs.whole.put_log_lines.Reads as reads
 use Rattle.listing.proofs.whole.put_log_lines.Lts as lts
 use Rattle.listing.proofs.lines.put_block_line.Reads as put-block-line-reads
+use Rattle.mlg.proofs.length_of.Reads as length-of-reads
 use Rattle.mlg.proofs.read_block.Reads as read-block-reads
 use borrow.Author.Needs.{needs}
 use Prim.Native.Nat.{_≤_, _+_, _*_, _^_}
@@ -12,11 +13,12 @@ use lib.ListN.{length}
 use Rattle.mlg_rules.specs.Block.{readBlockOf}
 use Rattle.mlg_rules.specs.Log.{lengthOf, logFrom, logOf}
 use Rattle.mlg_rules.proofs.LogLaws.{IsBlock}
-use Rattle.mlg_rules.proofs.TallyLaws.{at-fits, tag-block}
+use Rattle.mlg_rules.proofs.KindLaws.{no-length}
+use Rattle.mlg_rules.proofs.TallyLaws.{at-fits, length-block}
 use Rattle.listing_rules.specs.Listing.{logLines}
 use Rattle.listing_rules.proofs.PutsText.{puts-as, Completes, completes-all, completes-next}
 use Rattle.listing_rules.proofs.FieldsInFile.{begin-in}
-use Rattle.listing_rules.proofs.BlockInFile.{block-in-file, ending-in-file}
+use Rattle.listing_rules.proofs.BlockInFile.{block-in-file}
 use Rattle.listing_rules.proofs.LogLines.{block-next, block-last, block-none, log-all}
 
 abbrev Inv-loop : tie.InvT-loop
@@ -32,17 +34,18 @@ abbrev μ-loop : tie.MeasureT-loop
 μ-loop out₀ at file h size left₀ place₀ n₀ next₀ out left place n next = left
 
 -- a block that is passed over, as it was read, lies within the file
-module _ (c : tie.At-match-keys1 Inv-loop μ-loop) where
-  goes : IsBlock (c .before .read-block .result)
-  goes = tag-block (c .before .read-block .result) (c .match .keys1)
+module _ (c : tie.Else1 Inv-loop μ-loop) where
+  goes : IsBlock (c .before .before .before .before .before .before .read-block .result)
+  goes = length-block _ _ (λ z. c .if1 .left (c .before .length-of .ensures ∙ z))
 
-  is : let a = c .before .before .before .before .before .before .before .args in
-      let l = c .before .before .before .loop in
-      readBlockOf (a .h .size) (l .n) (a .file .now) (l .place) ≡ c .before .read-block .result
-  is = sym (c .before .read-block .ensures .0 .0)
+  is : let a = c .before .before .before .before .before .before .before .before .before .before .before .before .args in
+      let l = c .before .before .before .before .before .before .before .before .loop in
+      readBlockOf (a .h .size) (l .n) (a .file .now) (l .place) ≡ c .before .before .before .before .before .before .read-block .result
+  is = sym (c .before .before .before .before .before .before .read-block .ensures .0 .0)
 
-  within : let a = c .before .before .before .before .before .before .before .args in
-      c .before .before .before .loop .place + lengthOf (a .h .size) (c .before .read-block .result) ≤ length (a .file .now)
+  within : let a = c .before .before .before .before .before .before .before .before .before .before .before .before .args in
+      let block = c .before .before .before .before .before .before .read-block .result in
+      c .before .before .before .before .before .before .before .before .loop .place + lengthOf (a .h .size) block ≤ length (a .file .now)
   within = at-fits _ _ _ _ _ is goes
 
 add-left : tie.Need-add-left Inv-loop μ-loop
@@ -62,41 +65,34 @@ read-block-requires c κs = tt
 
 put-block-line-requires : tie.Need-put-block-line-requires Inv-loop μ-loop
 put-block-line-requires c κs =
-    let entry = c .before .before .before .before .before .before .before .before in
-    let ending = ending-in-file (entry .args .h) (entry .args .file .now) (c .before .before .read-block .result) (c .before .match .keys2) in
-    (omega (arith, entry .pre .0, entry .pre .1), ending)
+    let entry = c .before .before .before .before .before .before .before in
+    let a = entry .args in
+    let l = c .before .before .before .loop in
+    let block = block-in-file (a .h) (a .file .now) (entry .pre .2) (l .n) (l .place) _ (sym (c .before .read-block .ensures .0 .0)) in
+    (omega (arith, entry .pre .0, entry .pre .1), block)
+
+length-of-requires : tie.Need-length-of-requires Inv-loop μ-loop
+length-of-requires c κs = tt
 
 same-length : tie.Need-same-length Inv-loop μ-loop
 same-length c = search needs
 
 returns : tie.Need-returns Inv-loop μ-loop
 returns c =
-    let keys = c .before .before .before .before .match .keys2 in
-    let read = c .before .before .before .before .before .read-block in
-    let some = c .before .before .before .before .before .before .loop-test .taken in
-    let l = c .before .before .before .before .before .before .before .loop in
-    let a = c .before .before .before .before .before .before .before .before .before .before .before .args in
-    let last = block-last (a .h) (a .file .now) (l .left) (l .n) (l .place) (read .result) some (sym (read .ensures .0 .0)) keys in
-    l .inv .5 _ _ (puts-as _ (sym last) (c .before .before .put-block-line .ensures .0))
-
-put-block-line-requires-2 : tie.Need-put-block-line-requires-2 Inv-loop μ-loop
-put-block-line-requires-2 c κs =
-    let entry = c .before .before .before .before .before .before .before .before in
-    let a = entry .args in
-    let l = c .before .before .before .before .loop in
-    let block = block-in-file (a .h) (a .file .now) (entry .pre .2) (l .n) (l .place) _ (is (c .before)) (goes (c .before)) in
-    (omega (arith, entry .pre .0, entry .pre .1), block)
-
-length-of-requires : tie.Need-length-of-requires Inv-loop μ-loop
-length-of-requires c κs = tt
+    let line = c .before .before .before .before .put-block-line .ensures in
+    let read = c .before .before .before .before .before .before .read-block in
+    let some = c .before .before .before .before .before .before .before .loop-test .taken in
+    let l = c .before .before .before .before .before .before .before .before .loop in
+    let a = c .before .before .before .before .before .before .before .before .before .before .before .before .args in
+    let ends = no-length _ (read .result) (sym (c .before .length-of .ensures) ∙ c .if1 .taken) in
+    let last = block-last (a .h) (a .file .now) (l .left) (l .n) (l .place) (read .result) some (sym (read .ensures .0 .0)) ends in
+    l .inv .5 _ _ (puts-as _ (sym last) (line .0))
 
 add-place : tie.Need-add-place Inv-loop μ-loop
-add-place c = omega (arith, c .length-of .ensures, within (c .before .before .before .before .before))
+add-place c = omega (arith, c .before .length-of .ensures, within c)
 
 add-n : tie.Need-add-n Inv-loop μ-loop
-add-n c =
-    let pre = c .before .before .before .before .before .before .before .before .before .before .before .before .pre in
-    omega (arith, pre .1)
+add-n c = omega (arith, c .before .before .before .before .before .before .before .before .before .before .before .before .pre .1)
 
 sub-left : tie.Need-sub-left Inv-loop μ-loop
 sub-left c = search needs
@@ -106,36 +102,32 @@ loop-less c = search needs
 
 loop-again : tie.Need-loop-again Inv-loop μ-loop
 loop-again c =
-    let block = c .before .before .before .before .before in
-    let len = c .length-of .ensures in
-    let line = c .before .before .before .put-block-line2 .ensures in
-    let some = block .before .before .loop-test .taken in
-    let l = block .before .before .before .loop in
-    let a = block .before .before .before .before .before .before .before .args in
-    let next = block-next (a .h) (a .file .now) (l .left) (l .n) (l .place) _ some (is block) (goes block) in (
+    let len = c .before .length-of .ensures in
+    let line = c .before .before .before .before .put-block-line .ensures in
+    let some = c .before .before .before .before .before .before .before .loop-test .taken in
+    let l = c .before .before .before .before .before .before .before .before .loop in
+    let a = c .before .before .before .before .before .before .before .before .before .before .before .before .args in
+    let next = block-next (a .h) (a .file .now) (l .left) (l .n) (l .place) _ some (is c) (goes c) in (
       refl,
-      omega (arith, len, within block),
+      omega (arith, len, within c),
       omega arith,
       omega (arith, line .1, l .inv .3),
       line .0 .same-length ∙ l .inv .4,
       rw len (completes-next (l .inv .5) next (line .0)),
     )
 
-put-block-line-requires-3 : tie.Need-put-block-line-requires-3 Inv-loop μ-loop
-put-block-line-requires-3 c κs =
-    let pre = c .before .before .before .before .before .before .pre in
-    (omega (arith, pre .0, pre .1), tt)
+put-block-line-requires-2 : tie.Need-put-block-line-requires-2 Inv-loop μ-loop
+put-block-line-requires-2 c κs = let pre = c .before .before .before .before .before .before .pre in (omega (arith, pre .0, pre .1), tt)
 
 same-length-2 : tie.Need-same-length-2 Inv-loop μ-loop
 same-length-2 c = search needs
 
 returns-2 : tie.Need-returns-2 Inv-loop μ-loop
 returns-2 c =
-    let none = c .before .before .before .before .loop-test .left in
     let l = c .before .before .before .before .before .loop in
     let a = c .before .before .before .before .before .before .before .before .before .args in
-    let last = block-none (a .h) (a .file .now) (l .left) (l .n) (l .place) none in
-    l .inv .5 _ _ (puts-as _ (sym last) (c .before .before .put-block-line3 .ensures .0))
+    let last = block-none (a .h) (a .file .now) (l .left) (l .n) (l .place) (c .before .before .before .before .loop-test .left) in
+    l .inv .5 _ _ (puts-as _ (sym last) (c .before .before .put-block-line2 .ensures .0))
 
 pub put-log-lines-spec : {M : Type 1} → statement M
 put-log-lines-spec =
@@ -148,15 +140,14 @@ put-log-lines-spec =
     loop-holds
     read-block-requires
     put-block-line-requires
+    length-of-requires
     same-length
     returns
-    put-block-line-requires-2
-    length-of-requires
     add-place
     add-n
     sub-left
     loop-less
     loop-again
-    put-block-line-requires-3
+    put-block-line-requires-2
     same-length-2
     returns-2)

@@ -1,7 +1,6 @@
 use borrow.Author.Needs.{needs}
 use Rattle.mlg.proofs.fields.field_at.Statement.{statement}
 use Rattle.mlg.proofs.fields.field_at.Tie as tie
-use Rattle.mlg_rules.specs.Area.{areaOf}
 use Prim.Native.Nat.{_+_, _-_}
 use mathlib.Core.Path.{_≡_, _∙_, ap}
 use native.Mathlib.Omega.{arith}
@@ -18,7 +17,7 @@ field-len-requires c κs = search needs
 
 -- the field's bytes in the fields', and how many they are
 abbrev entry : tie.After-field-len → tie.Start
-entry n = n .before .before .before .before
+entry n = n .before .before
 
 field-is : (n : tie.After-field-len) → let a = entry n .args in
     take (a .at + n .field-len .result - a .at) (drop (a .at) (a .fields .now)) ≡ take (fieldLen (a .version)) (drop (a .at) (a .fields .now))
@@ -28,20 +27,20 @@ field-long : (n : tie.After-field-len) → let a = entry n .args in
     length (take (a .at + n .field-len .result - a .at) (drop (a .at) (a .fields .now))) ≡ fieldLen (a .version)
 field-long n =
     let a = entry n .args in
-    let room = n .before .before .before .before .pre in
+    let room = n .before .before .pre in
     ap length (field-is n) ∙ length-take-le (fieldLen (a .version)) (drop (a .at) (a .fields .now)) (simp length-drop (omega (arith, room)))
 
 add-d : tie.Need-add-d
-add-d c = omega (arith, field-least (c .before .before .before .before .args .version), c .field-len .ensures)
+add-d c = omega (arith, field-least (c .before .before .args .version), c .field-len .ensures)
 
 sub-d : tie.Need-sub-d
-sub-d c = omega (arith, field-least (c .before .before .before .before .args .version), c .field-len .ensures)
+sub-d c = omega (arith, field-least (c .before .before .args .version), c .field-len .ensures)
 
 part-d-start : tie.Need-part-d-start
-part-d-start c = omega (arith, field-least (c .before .before .before .before .args .version), c .field-len .ensures)
+part-d-start c = omega (arith, field-least (c .before .before .args .version), c .field-len .ensures)
 
 part-d-end : tie.Need-part-d-end
-part-d-end c = omega (arith, field-least (c .before .before .before .before .args .version), c .field-len .ensures)
+part-d-end c = omega (arith, field-least (c .before .before .args .version), c .field-len .ensures)
 
 field-number-requires : tie.Need-field-number-requires
 field-number-requires c κs = field-long (c .before)
@@ -61,8 +60,8 @@ returns : tie.Need-returns
 returns c =
     let n = c .before .before .before .before in
     let a = entry n .args in
-    let number = ap (fieldNumber (a .base) (areaOf (a .names .now) (a .info .now))) (field-is n) in
-    (c .before .before .field-number .ensures ∙ number, c .size-of .ensures ∙ ap fieldSize (field-is n))
+    let number = c .before .before .field-number .ensures in
+    ((λ area long places. number area long places ∙ ap (fieldNumber (a .base) area) (field-is n)), c .size-of .ensures ∙ ap fieldSize (field-is n))
 
 pub field-at-spec : {M : Type 1} → statement M
 field-at-spec =

@@ -7,7 +7,7 @@ use lib.ListN.{length}
 use Rattle.mlg_rules.specs.Writing.{headerFor}
 use Rattle.mlg_rules.proofs.Fits.{fit, file-most}
 use Rattle.mlg_rules.proofs.HeaderBytes.{start-most}
-use Rattle.mlg_rules.proofs.LayoutLaws.{field-least, fields-fit}
+use Rattle.mlg_rules.proofs.LayoutLaws.{field-least, whole-fields-fit}
 
 field-len-requires : tie.Need-field-len-requires
 field-len-requires c κs = search needs
@@ -19,7 +19,7 @@ cast-count : tie.Need-cast-count
 cast-count c = rw (c .field-len .ensures) (omega (arith, fit _ _ _ _ (c .before .before .before .before .pre) .few))
 
 sizes-of-requires : tie.Need-sizes-of-requires
-sizes-of-requires c κs = rw (c .field-len .ensures) (fields-fit (c .before .before .before .before .args .version) _)
+sizes-of-requires c κs = rw (c .field-len .ensures) (whole-fields-fit (c .before .before .before .before .args .version) _)
 
 cast-size : tie.Need-cast-size
 cast-size c =

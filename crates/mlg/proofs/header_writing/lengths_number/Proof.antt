@@ -13,7 +13,7 @@ use Rattle.mlg_rules.specs.Layout.{headerLen, fieldLen}
 use Rattle.mlg_rules.specs.Area.{areaOf}
 use Rattle.mlg_rules.specs.Writing.{lengthsNumber}
 use Rattle.mlg_rules.proofs.Fits.{too-long, not-long, ended-most}
-use Rattle.mlg_rules.proofs.LayoutLaws.{field-least, fields-fit, fields-few, header-most}
+use Rattle.mlg_rules.proofs.LayoutLaws.{field-least, whole-fields-fit, fields-few, header-most}
 
 field-len-requires : tie.Need-field-len-requires
 field-len-requires c κs = search needs
@@ -36,7 +36,7 @@ cast-sizes-of : tie.Need-cast-sizes-of
 cast-sizes-of c = search needs
 
 sizes-of-requires : tie.Need-sizes-of-requires
-sizes-of-requires c κs = rw (c .before .before .field-len .ensures) (fields-fit (c .before .before .before .before .before .before .args .version) _)
+sizes-of-requires c κs = rw (c .before .before .field-len .ensures) (whole-fields-fit (c .before .before .before .before .before .before .args .version) _)
 
 returns-3 : tie.Need-returns-3
 unfolding lengthsNumber

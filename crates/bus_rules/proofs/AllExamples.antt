@@ -1,0 +1,32 @@
+-- The examples, by computing them.
+use mathlib.Core.Path.{refl}
+use Rattle.bus_rules.specs.Examples.{Examples}
+use Rattle.bus_rules.proofs.Computing.{bus}
+
+pub examples : Examples
+unfolding bus
+examples = record {
+  signature = (refl, refl);
+  rpm = (refl, refl);
+  query = (refl, refl);
+  stored = (refl, refl);
+  unsound = (refl, refl);
+  tooLong = (refl, refl);
+  noMemory = (refl, refl);
+  tooLarge = (refl, refl);
+  spareBit = (refl, refl);
+  nineLong = (refl, refl);
+  elsewhere = (refl, refl);
+  reply = (refl, refl);
+  shortRequest = (refl, refl);
+  shortQuery = (refl, refl);
+  emptyQuery = (refl, refl);
+  topBit = (refl, refl);
+  readOnly = (refl, refl);
+  noRight = (refl, refl);
+  nine = (refl, refl);
+  five = (refl, refl);
+  table32 = refl;
+  over29Bits = refl;
+  count16 = refl;
+}

@@ -1,0 +1,90 @@
+-- What the definitions make of 002's worked examples, and of other frames to a small device. All that is asked and answered is written out.
+use Prim.Native.Nat.{ℕ, _-_}
+use mathlib.Core.Path.{_≡_}
+use mathlib.Core.List.{List, [], _∷_, _++_}
+use lib.ListN.{length, replicate}
+use Rattle.bus_rules.specs.Device.{Directory, Device, device}
+use Rattle.bus_rules.specs.Frames.{Frame}
+use Rattle.bus_rules.specs.Ident.{packOf, unpackOf}
+use Rattle.bus_rules.specs.Request.{requestBytesOf}
+use Rattle.bus_rules.specs.declared.Packed.the-variants as P
+use Rattle.bus_rules.specs.declared.Unpacked.the-variants as U
+use Rattle.bus_rules.specs.Holder.{Served, serveOf, deviceAfter}
+
+-- of a device: table 4 has 2 bytes and no right, table 7 has 8 bytes to read, table 15 so many to read and write
+abbrev pub tables : (own size : ℕ) → Directory
+tables own size = record {
+  sizes = replicate 4 0 ++ 2 ∷ 0 ∷ 0 ∷ 8 ∷ replicate 7 0 ++ size ∷ replicate 16 0;
+  rights = replicate 7 0 ++ 1 ∷ replicate 7 0 ++ 2 ∷ replicate 16 0;
+  «table_blocking» = 0x0102;
+  «write_blocking» = 0x0304;
+  own = own;
+}
+
+-- 002's device 0: "RPM .. in table 7, offset 6" is 14 FE, and table 15 is the serial signature, whose last four bytes are given
+abbrev pub holds : (last : List ℕ) → Device
+holds last =
+    device (tables 0 20)
+    (0xA0 ∷ 0xA1
+    ∷ 0 ∷ 0 ∷ 0 ∷ 0 ∷ 0 ∷ 0 ∷ 0x14 ∷ 0xFE
+    ∷ 0x4D ∷ 0x53 ∷ 0x33 ∷ 0x20 ∷ 0x46 ∷ 0x6F ∷ 0x72 ∷ 0x6D ∷ 0x61 ∷ 0x74 ∷ 0x20 ∷ 0x30 ∷ 0x34 ∷ 0x33 ∷ 0x35 ∷ 0x2E ∷ last)
+
+abbrev pub holder : Device
+holder = holds (0x31 ∷ 0x34 ∷ 0x20 ∷ 0x00 ∷ [])
+
+-- a frame by its identifier, its length, and its bytes before zeros
+abbrev pub frame : (id len : ℕ) → List ℕ → Frame
+frame id len bytes = record { id = id; len = len; bytes = bytes ++ replicate (8 - length bytes) 0 }
+
+-- a frame is answered, and the device stays as it was
+abbrev pub Answers : Device → Frame → Frame → Type 0
+Answers e f g = (serveOf e f ≡ record { number = 0; frames = 1; frame = g }) × (deviceAfter e f ≡ e)
+
+-- a number and no frame
+abbrev pub alone : ℕ → Served
+alone n = record { number = n; frames = 0; frame = frame 0 0 [] }
+
+-- that is all a refusal answers, and the device stays as it was
+abbrev pub Refuses : Device → Frame → ℕ → Type 0
+Refuses e f n = (serveOf e f ≡ alone n) × (deviceAfter e f ≡ e)
+
+-- frames from device 7, some with bytes past their length that say otherwise; then parts that neither an identifier nor request bytes hold
+pub record Examples : Type 0 where
+  -- 002, 4.1: "id=0x40b878, DLC=3, Data = 0x06 0x00 0x04" brings "id=0x103b0 .. 0x31 0x34 0x20 0x00"
+  pub signature : Answers holder (frame 0x40B878 3 (0x06 ∷ 0x00 ∷ 0x04 ∷ 0xFF ∷ []))
+      (frame 0x103B0 4 (0x31 ∷ 0x34 ∷ 0x20 ∷ 0x00 ∷ []))
+  -- 002, 4.2: "id=0x18b838, DLC=3, Data = 0x07 0x00 0x42" brings "id=0x903b8, DLC=2, Data = 0x14 0xfe"
+  pub rpm : Answers holder (frame 0x18B838 3 (0x07 ∷ 0x00 ∷ 0x42 ∷ 0xFF ∷ []))
+      (frame 0x903B8 2 (0x14 ∷ 0xFE ∷ []))
+  -- XTND `80 06 10 45`: 2 and the blocking factors, to table 6, offset 130
+  pub query : Answers holder (frame 0x3B800 4 (0x80 ∷ 0x06 ∷ 0x10 ∷ 0x45 ∷ 0xFF ∷ []))
+      (frame 0x20903B0 5 (0x02 ∷ 0x01 ∷ 0x02 ∷ 0x03 ∷ 0x04 ∷ []))
+  -- CMD, table 15, offset 17, two bytes
+  pub stored : (serveOf holder (frame 0x443878 2 (0xB0 ∷ 0xB1 ∷ 0xFF ∷ [])) ≡ alone 0)
+      × (deviceAfter holder (frame 0x443878 2 (0xB0 ∷ 0xB1 ∷ 0xFF ∷ [])) ≡ holds (0x31 ∷ 0xB0 ∷ 0xB1 ∷ 0x00 ∷ []))
+  -- no memory: 11 before 10, of own number 16 and of a table of 2,057 bytes
+  pub unsound : Refuses (device (tables 16 20) []) (frame 0x40B878 3 (0x06 ∷ 0x00 ∷ 0x04 ∷ [])) 11
+  pub tooLong : Refuses (device (tables 0 2057) []) (frame 0x40B878 3 (0x06 ∷ 0x00 ∷ 0x04 ∷ [])) 11
+  pub noMemory : Refuses (device (tables 0 2056) []) (frame 0x40B878 3 (0x06 ∷ 0x00 ∷ 0x04 ∷ [])) 10
+  -- 1, 2, 3, 4: nine bytes to device 1, with a spare bit and bit 29, then without
+  pub tooLarge : Refuses holder (frame 0x20403881 9 []) 1
+  pub spareBit : Refuses holder (frame 0x403881 9 []) 2
+  pub nineLong : Refuses holder (frame 0x403880 9 []) 3
+  pub elsewhere : Refuses holder (frame 0x403880 8 []) 4
+  -- RSP gets 5
+  pub reply : Refuses holder (frame 0x413878 1 (0 ∷ [])) 5
+  -- a REQ of length 2, a query of length 3, XTND of length 0, and a top bit of the first request byte
+  pub shortRequest : Refuses holder (frame 0x40B878 2 (0x06 ∷ 0x00 ∷ 0x04 ∷ [])) 6
+  pub shortQuery : Refuses holder (frame 0x3B800 3 (0x80 ∷ 0x06 ∷ 0x10 ∷ 0x45 ∷ [])) 6
+  pub emptyQuery : Refuses holder (frame 0x3B800 0 (0x81 ∷ [])) 6
+  pub topBit : Refuses holder (frame 0x40B878 3 (0x26 ∷ 0x00 ∷ 0x04 ∷ [])) 6
+  -- CMD to table 7, REQ to table 4
+  pub readOnly : Refuses holder (frame 0x183838 2 (0xB0 ∷ 0xB1 ∷ [])) 7
+  pub noRight : Refuses holder (frame 0xB820 3 (0x06 ∷ 0x00 ∷ 0x02 ∷ [])) 7
+  -- nine bytes of table 15 from offset 16: 9 before 8; five bytes are 8
+  pub nine : Refuses holder (frame 0x40B878 3 (0x06 ∷ 0x00 ∷ 0x09 ∷ [])) 9
+  pub five : Refuses holder (frame 0x403878 5 (0xB0 ∷ 0xB1 ∷ 0xB2 ∷ 0xB3 ∷ 0xB4 ∷ [])) 8
+  -- table 32, the identifier 2^29, a count of 16
+  pub table32 : packOf (record { offset = 0; kind = 0; from = 0; to = 0; table = 32 }) ≡ P.Refused 7
+  pub over29Bits : unpackOf 0x20000000 ≡ U.Refused 1
+  pub count16 : requestBytesOf (record { table = 0; offset = 0; count = 16 }) ≡ record { number = 9; bytes = replicate 3 0 }
