@@ -3,14 +3,15 @@ PREFIX = /usr/local
 VERSION = 0.1.0
 
 archive = target/staticlib/libhoneygimlet.a
-include = $(DESTDIR)$(PREFIX)/include
-lib = $(DESTDIR)$(PREFIX)/lib
+includedir = $(DESTDIR)$(PREFIX)/include
+libdir = $(DESTDIR)$(PREFIX)/lib
 
-# the C library, proved and built, and the program loglist; rt itself sees what is up to date
+# the C library, proved and built, and the program loglist
 all: library loglist
 
+# rt staticlib honeygimlet, unless nothing changed since
 library:
-	rt staticlib honeygimlet
+	.ci/archive
 
 loglist:
 	rt check loglist
@@ -23,12 +24,12 @@ examples: library
 
 # header, archive and pkg-config file
 install: library
-	install -d $(include) $(lib)/pkgconfig
-	install -m 644 include/honeygimlet.h $(include)/honeygimlet.h
-	install -m 644 $(archive) $(lib)/libhoneygimlet.a
+	install -d "$(includedir)" "$(libdir)/pkgconfig"
+	install -m 644 include/honeygimlet.h "$(includedir)/honeygimlet.h"
+	install -m 644 $(archive) "$(libdir)/libhoneygimlet.a"
 	printf '%s\n' 'prefix=$(PREFIX)' 'includedir=$${prefix}/include' 'libdir=$${prefix}/lib' '' \
 	    'Name: honeygimlet' 'Description: 29-bit CAN protocol of Megasquirt controllers, bridge, MLG and FRD logs' 'Version: $(VERSION)' \
-	    'Cflags: -I$${includedir}' 'Libs: -L$${libdir} -lhoneygimlet' >$(lib)/pkgconfig/honeygimlet.pc
+	    'Cflags: -I$${includedir}' 'Libs: -L$${libdir} -lhoneygimlet' >"$(libdir)/pkgconfig/honeygimlet.pc"
 
 # everything that is checked
 check:
@@ -37,4 +38,5 @@ check:
 clean:
 	rm -rf target
 
+.NOTPARALLEL:
 .PHONY: all library loglist examples install check clean

@@ -9,8 +9,22 @@
  * the length beside it says, fewer than 2^63, and memory that a call may write overlaps no other memory lent to that call.
  * What is handed in by value is initialised: `hg_bridge b = {0};` before the first reset, `hg_frame f = {0};` before its bytes are set.
  *
- * The library has no data of its own, allocates nothing and keeps nothing between calls: its calls are re-entrant, and threads that
- * lend them different memory do not meet.
+ * The library has no variables, allocates nothing and keeps nothing between calls: its calls are re-entrant, and threads that lend
+ * them different memory do not meet. No call's time grows with a product of two lengths. What it grows with, and the bytes of stack
+ * that a call takes at most, beside its arguments, its answer and what memcpy takes (the first row that fits):
+ *
+ *   hg_bus_*                                  nothing                               180
+ *   hg_bridge_*                               nothing                               664
+ *   hg_mlg_read_block                         record length                          88
+ *   hg_mlg_write_data                         record length                          16
+ *   hg_mlg_write_mark, hg_mlg_*_value         nothing                                88
+ *   hg_mlg_write_header                       fields, names and info                712
+ *   hg_mlg_read_header, hg_mlg_*_span         data begin: the header is judged      744
+ *   hg_mlg_count_blocks                       length of the file                    808
+ *   hg_mlg_list                               length of the file, at most 65,536  1,048
+ *   hg_frd_count_blocks                       number of blocks                      104
+ *   hg_frd_write_data                         record length                           8
+ *   hg_frd_*                                  nothing                                72
  *
  * "Numbers" in the comments are the refusals in the order in which they are judged; 0, done, is left out.
  */
@@ -163,7 +177,7 @@ hg_served hg_bus_serve(hg_directory directory, uint8_t *memory, size_t len, hg_f
 enum { HG_PHASE_FREE = 0, HG_PHASE_READY = 1, HG_PHASE_WAITING = 2, HG_PHASE_DONE = 3, HG_PHASE_GAVE_UP = 4 };
 enum { HG_READ = 0, HG_WRITE = 1 };
 
-/* A slot: free (all 0), or held by a transfer. Only the calls write it; a state that they cannot make is refused with 11. */
+/* A slot: free (all 0), or held by a transfer. Only the calls write it; a state that is not sound is refused with 11. */
 typedef struct {
     uint32_t ticket;
     uint16_t offset;
@@ -190,6 +204,7 @@ typedef struct {
 } hg_bridge;
 HG_SIZE(hg_bridge, 72);
 
+/* Bytes of the buffer, and the most bytes of a transfer. */
 enum { HG_BUFFER = 512, HG_MOST = 128 };
 
 typedef struct {
@@ -311,14 +326,15 @@ enum {
     HG_MLG_NAME_LEN = 34,
     HG_MLG_UNITS_AT = 35,
     HG_MLG_UNITS_LEN = 10,
-    HG_MLG_STYLE_AT = 45,       /* how it is displayed: 0 number, 1 hex, 2 bits, 3 date, 4 on/off, 5 yes/no, 6 high/low, 7 active, 8 true */
+    HG_MLG_STYLE_AT = 45,       /* how it is displayed: 0 number, 1 hex, 2 bits, 3 date, 4 on/off, 5 yes/no, 6 high/low,
+                                   7 active/inactive, 8 true/false */
     HG_MLG_SCALE_AT = 46,       /* f32: a shown value is (raw + transform) * scale */
     HG_MLG_TRANSFORM_AT = 50,   /* f32 */
-    HG_MLG_DIGITS_AT = 54,      /* decimal places displayed */
+    HG_MLG_DIGITS_AT = 54,      /* decimal places displayed, signed */
     HG_MLG_CATEGORY_AT = 55,
     HG_MLG_CATEGORY_LEN = 34,
     /* a bit field has these between its style and its category: */
-    HG_MLG_BIT_STYLE_AT = 46,   /* how each bit is displayed */
+    HG_MLG_BIT_STYLE_AT = 46,   /* how each bit is displayed, without 3 */
     HG_MLG_BIT_NAMES_AT = 47,   /* 32 bits: the place in the file of the first of its names, one for each bit, each ended by a zero */
     HG_MLG_BIT_COUNT_AT = 51    /* how many bits have names, from the lowest on; 0: none, and the place is not looked at */
 };
@@ -361,16 +377,13 @@ typedef struct {
 } hg_written;
 HG_SIZE(hg_written, 16);
 
-/*
- * A file's header. Numbers: 20, 21, 22, 20 (fields cut), 23; for each field 24, 28, 23, 28; then 23, 28.
- * Takes time that grows with data begin alone, whatever the fields say.
- */
+/* A file's header. Numbers: 20, 21, 22, 20 (fields cut), 23; for each field 24, 28, 23, 28; then 23, 28. */
 hg_mlg_header hg_mlg_read_header(const uint8_t *file, size_t len);
 
 /*
  * What stands at a place of a file whose records have length `size`, after `earlier` blocks. A data block takes size + HG_MLG_DATA
  * bytes, a mark HG_MLG_MARK; the next block stands after it. A place equal to the length is the end.
- * Numbers: 23 (place past the file), 25, 20, 28 (mark) or 26 (data). Takes time that grows with the record.
+ * Numbers: 23 (place past the file), 25, 20, 28 (mark) or 26 (data).
  */
 hg_mlg_block hg_mlg_read_block(const uint8_t *file, size_t len, uint16_t size, uint64_t earlier, size_t place);
 
@@ -385,14 +398,17 @@ typedef struct {
 } hg_tally;
 HG_SIZE(hg_tally, 24);
 
-/* Counts the blocks of a file. Takes time that grows with the file. */
+/* Counts the blocks of a file. */
 hg_tally hg_mlg_count_blocks(const uint8_t *file, size_t len);
 
 /*
- * Parts of a file: the 89 bytes of field `index`, counted from 0; the names area, from the fields' end to the info or to data
- * begin; the info text without its zero (start 0 and no bytes where there is none).
+ * Parts of a file: all its fields, of which the 89 bytes of field i, counted from 0, stand at start + 89 * i; the 89 bytes of
+ * field `index`; the names area, from the fields' end to the info or to data begin; the info text without its zero (start 0 and
+ * no bytes where there is none). Each call judges the whole header: a loop over the fields asks hg_mlg_fields_span once, not
+ * hg_mlg_field_span for each.
  * Numbers: as hg_mlg_read_header, then 23 for a field that is not there.
  */
+hg_span hg_mlg_fields_span(const uint8_t *file, size_t len);
 hg_span hg_mlg_field_span(const uint8_t *file, size_t len, uint16_t index);
 hg_span hg_mlg_names_span(const uint8_t *file, size_t len);
 hg_span hg_mlg_info_span(const uint8_t *file, size_t len);
@@ -405,14 +421,14 @@ enum { HG_LISTING = 327680 };
 hg_written hg_mlg_list(uint8_t *out, size_t len, const uint8_t *file, size_t file_len);
 
 /*
- * Writes a header: fields of 89 bytes each, the names area, and the info text without its zero (empty: none). Takes time that grows with
- * what it is given, and writes HG_MLG_HEADER bytes, the fields, the names, and the info with a zero: the first block follows.
+ * Writes a header: fields of 89 bytes each, the names area, and the info text without its zero (empty: none). It
+ * writes HG_MLG_HEADER bytes, the fields, the names, and the info with a zero; the first block follows.
  * Numbers: 23 (fields not a multiple of 89 bytes or over 65,535, sizes summing over 65,535, over 2^32-1 bytes), 28 (zero in
  * info), then the reader's for the fields, then 27.
  */
 hg_written hg_mlg_write_header(uint8_t *out, size_t len, uint32_t time, const uint8_t *fields, size_t fields_len, const uint8_t *names, size_t names_len, const uint8_t *info, size_t info_len);
 
-/* Writes a data block after `earlier` blocks, of both kinds. Numbers: 23 (record not of length `size`), 27. Takes time that grows with the record. */
+/* Writes a data block after `earlier` blocks, of both kinds. Numbers: 23 (record not of length `size`), 27. */
 hg_written hg_mlg_write_data(uint8_t *out, size_t len, uint16_t size, uint64_t earlier, uint16_t time, const uint8_t *record, size_t record_len);
 
 /* Writes a mark after `earlier` blocks. Numbers: 28 (text over 49 bytes, or holding a zero), 27. */
@@ -469,7 +485,7 @@ hg_frd_header hg_frd_read_header(const uint8_t *file, size_t len);
  */
 hg_frd_block hg_frd_read_block(const uint8_t *file, size_t len, uint16_t size, uint64_t earlier, size_t place);
 
-/* Counts the blocks of a file. Takes time that grows with the number of its blocks. */
+/* Counts the blocks of a file. */
 hg_tally hg_frd_count_blocks(const uint8_t *file, size_t len);
 
 /* The 63 bytes of the signature. Numbers: as hg_frd_read_header. */
@@ -478,11 +494,13 @@ hg_span hg_frd_read_signature(const uint8_t *file, size_t len);
 /* Writes a header. Numbers: 23 (signature not of 63 bytes), 27. */
 hg_written hg_frd_write_header(uint8_t *out, size_t len, uint32_t time, const uint8_t *signature, size_t signature_len, uint16_t size);
 
-/* Writes a data block after `earlier` blocks, of both kinds. Numbers: 23 (record not of length `size`), 27. Takes time that grows with the record. */
+/* Writes a data block after `earlier` blocks, of both kinds. Numbers: 23 (record not of length `size`), 27. */
 hg_written hg_frd_write_data(uint8_t *out, size_t len, uint16_t size, uint64_t earlier, const uint8_t *record, size_t record_len);
 
 /* Writes a time block after `earlier` blocks. Number: 27. */
 hg_written hg_frd_write_time(uint8_t *out, size_t len, uint64_t earlier, uint32_t time);
+
+#undef HG_SIZE
 
 #ifdef __cplusplus
 }

@@ -78,8 +78,12 @@ faults! {
     TallyWithoutMarks,
     TallyEndsAtWrongCounter,
     TallyWithoutPlaceAtEnd,
+    FieldsWithoutTheLast,
+    FieldAlwaysTheFirst,
     FieldAfterTheLast,
+    NamesEmpty,
     NamesToBegin,
+    InfoEmpty,
     InfoWithItsZero,
     EmptyInfoStartsAt0,
     // FRD
@@ -383,8 +387,19 @@ impl Side for Faulty {
         tally
     }
 
+    fn mlg_fields_span(&self, file: &[u8]) -> Span {
+        let mut span = Model.mlg_fields_span(file);
+        if self.has(FieldsWithoutTheLast) {
+            span.len = span.len.saturating_sub(mlg::FIELD);
+        }
+        span
+    }
+
     fn mlg_field_span(&self, file: &[u8], index: u16) -> Span {
         let header = Model.mlg_read_header(file);
+        if self.has(FieldAlwaysTheFirst) && header.number == 0 && index < header.count {
+            return Model.mlg_field_span(file, 0);
+        }
         if self.has(FieldAfterTheLast) && header.number == 0 && index == header.count {
             return Span { number: 0, start: 24 + 89 * index as usize, len: 89 };
         }
@@ -393,6 +408,9 @@ impl Side for Faulty {
 
     fn mlg_names_span(&self, file: &[u8]) -> Span {
         let mut span = Model.mlg_names_span(file);
+        if self.has(NamesEmpty) {
+            span.len = 0;
+        }
         if self.has(NamesToBegin) && span.number == 0 {
             span.len = Model.mlg_read_header(file).begin as usize - span.start;
         }
@@ -401,6 +419,9 @@ impl Side for Faulty {
 
     fn mlg_info_span(&self, file: &[u8]) -> Span {
         let mut span = Model.mlg_info_span(file);
+        if self.has(InfoEmpty) {
+            span.len = 0;
+        }
         if self.has(InfoWithItsZero) && span.start != 0 {
             span.len += 1;
         }

@@ -31,6 +31,7 @@ extern "C" {
     fn hg_mlg_read_header(file: *const u8, len: usize) -> MlgHeader;
     fn hg_mlg_read_block(file: *const u8, len: usize, size: u16, earlier: u64, place: usize) -> MlgBlock;
     fn hg_mlg_count_blocks(file: *const u8, len: usize) -> Tally;
+    fn hg_mlg_fields_span(file: *const u8, len: usize) -> Span;
     fn hg_mlg_field_span(file: *const u8, len: usize, index: u16) -> Span;
     fn hg_mlg_names_span(file: *const u8, len: usize) -> Span;
     fn hg_mlg_info_span(file: *const u8, len: usize) -> Span;
@@ -136,6 +137,10 @@ impl Side for Library {
 
     fn mlg_count_blocks(&self, file: &[u8]) -> Tally {
         unsafe { hg_mlg_count_blocks(file.as_ptr(), file.len()) }
+    }
+
+    fn mlg_fields_span(&self, file: &[u8]) -> Span {
+        unsafe { hg_mlg_fields_span(file.as_ptr(), file.len()) }
     }
 
     fn mlg_field_span(&self, file: &[u8], index: u16) -> Span {

@@ -27,6 +27,7 @@ pub trait Side {
     fn mlg_read_header(&self, file: &[u8]) -> MlgHeader;
     fn mlg_read_block(&self, file: &[u8], size: u16, earlier: u64, place: usize) -> MlgBlock;
     fn mlg_count_blocks(&self, file: &[u8]) -> Tally;
+    fn mlg_fields_span(&self, file: &[u8]) -> Span;
     fn mlg_field_span(&self, file: &[u8], index: u16) -> Span;
     fn mlg_names_span(&self, file: &[u8]) -> Span;
     fn mlg_info_span(&self, file: &[u8]) -> Span;
@@ -231,6 +232,10 @@ impl Side for Model {
     fn mlg_count_blocks(&self, file: &[u8]) -> Tally {
         let (blocks, ending, place) = mlg::count_blocks(file);
         Tally { blocks, ending, place }
+    }
+
+    fn mlg_fields_span(&self, file: &[u8]) -> Span {
+        span_of(mlg::fields_span(file))
     }
 
     fn mlg_field_span(&self, file: &[u8], index: u16) -> Span {

@@ -226,6 +226,7 @@ fn blocks_of_both_formats() {
 fn counts_and_parts() {
     let mut file = mlg::write_header(1000, 0, &[0; 2 * 89], b"n\0", b"info").unwrap();
     assert_eq!(mlg::count_blocks(&file), (0, 0, 209));
+    assert_eq!(mlg::fields_span(&file), Ok((24, 178)));
     assert_eq!(mlg::field_span(&file, 1), Ok((113, 89)));
     assert_eq!(mlg::field_span(&file, 2), Err(23));
     assert_eq!(mlg::names_span(&file), Ok((202, 2)));
@@ -237,8 +238,10 @@ fn counts_and_parts() {
     assert_eq!(mlg::count_blocks(&file), (2, 25, 270));
     file[23] = 3;
     assert_eq!(mlg::count_blocks(&file), (0, 20, 0));
+    assert_eq!(mlg::fields_span(&file), Err(20));
     assert_eq!(mlg::field_span(&file, 9), Err(20));
     let bare = mlg::write_header(24, 0, b"", b"", b"").unwrap();
+    assert_eq!(mlg::fields_span(&bare), Ok((24, 0)));
     assert_eq!(mlg::names_span(&bare), Ok((24, 0)));
     assert_eq!(mlg::info_span(&bare).map(|(_, count)| count), Ok(0));
 

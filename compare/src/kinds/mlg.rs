@@ -86,10 +86,17 @@ fn parts(rng: &mut Rng, judge: &mut Judge, file: &[u8], header: &MlgHeader) -> O
         let one = Model.mlg_field_span(file, index);
         judge.answer("mlg_field_span", one, side.mlg_field_span(file, index), &input)?;
     }
+    let one = Model.mlg_fields_span(file);
+    judge.answer("mlg_fields_span", one, side.mlg_fields_span(file), &input)?;
     let one = Model.mlg_names_span(file);
     judge.answer("mlg_names_span", one, side.mlg_names_span(file), &input)?;
     judge.answer("mlg_info_span", Model.mlg_info_span(file), side.mlg_info_span(file), &input)?;
     Ok(())
+}
+
+/// The bytes of a part, where the library says that it is; none where it says a part that is not there.
+fn part(file: &[u8], span: Span) -> &[u8] {
+    file.get(span.start..span.start.saturating_add(span.len)).unwrap_or(&[])
 }
 
 /// A file in this layout, with right counters and zero-padded marks, rewritten from what
@@ -108,8 +115,12 @@ fn rewrite(judge: &mut Judge, file: &[u8]) -> Outcome {
     if read.number != 0 || !mlg::in_layout(file, &header) {
         return Ok(());
     }
-    let fields = &file[mlg::HEADER..header.fields_end()];
-    let (names, info) = (mlg::names_area(file, &header), mlg::info_text(file, &header));
+    let input = || format!("file {}", hex(file));
+    let fields = part(file, side.mlg_fields_span(file));
+    let each: Vec<u8> =
+        (0..read.count).flat_map(|index| part(file, side.mlg_field_span(file, index))).copied().collect();
+    judge.same("fields one by one", &hex(fields), &hex(&each), &input)?;
+    let (names, info) = (part(file, side.mlg_names_span(file)), part(file, side.mlg_info_span(file)));
     let mut again = vec![0; file.len()];
     let mut at = side.mlg_write_header(&mut again, header.time, fields, names, info).len;
     let mut earlier = 0;
@@ -128,5 +139,5 @@ fn rewrite(judge: &mut Judge, file: &[u8]) -> Outcome {
         at += written.len;
         earlier += 1;
     }
-    judge.same("file rewritten", &hex(file), &hex(&again), &|| format!("file {}", hex(file)))
+    judge.same("file rewritten", &hex(file), &hex(&again), &input)
 }

@@ -215,6 +215,12 @@ pub fn count_blocks(file: &[u8]) -> (u64, Number, usize) {
     }
 }
 
+/// Where all the fields start, which is the header's end, and their bytes' number.
+pub fn fields_span(file: &[u8]) -> Result<(usize, usize), Number> {
+    let header = read_header(file)?;
+    Ok((HEADER, FIELD * header.count as usize))
+}
+
 /// Where a field's 89 bytes start, and their number; 23 for a field that is not there.
 pub fn field_span(file: &[u8], index: u16) -> Result<(usize, usize), Number> {
     let header = read_header(file)?;

@@ -1,0 +1,257 @@
+/*
+ * Calls every entry of the header file, with arguments by the names of its parameters and with numbers that tell them apart, and
+ * prints every answer by the names of its fields. The Rust program `entries` makes the same calls on the model and prints the same
+ * lines; .ci/tests/entries compares them. entries.inc is made of the header file by entries.awk.
+ */
+#include "honeygimlet.h"
+
+#include <stdio.h>
+#include <string.h>
+
+static void put_uint8_t(uint8_t x) { printf("%u", (unsigned)x); }
+static void put_uint16_t(uint16_t x) { printf("%u", (unsigned)x); }
+static void put_uint32_t(uint32_t x) { printf("%lu", (unsigned long)x); }
+static void put_uint64_t(uint64_t x) { printf("%llu", (unsigned long long)x); }
+static void put_int64_t(int64_t x) { printf("%lld", (long long)x); }
+static void put_size_t(size_t x) { printf("%zu", x); }
+
+static void put_float(float x) {
+    uint32_t bits;
+    memcpy(&bits, &x, sizeof bits);
+    printf("bits %08lx", (unsigned long)bits);
+}
+
+static void put_bytes(const uint8_t *bytes, size_t len) {
+    for (size_t i = 0; i < len; i++) printf("%02x", bytes[i]);
+}
+
+#include "entries.inc"
+
+/* The answer of an entry, printed: CALL(hg_bus_unpack, .id = 4). */
+#define CALL(entry, ...) call_##entry((struct arguments_##entry){__VA_ARGS__})
+
+/* A pattern: byte i is first + 7 i. */
+static void fill(uint8_t *bytes, size_t len, uint8_t first) {
+    for (size_t i = 0; i < len; i++) bytes[i] = (uint8_t)(first + 7 * i);
+}
+
+static void identifiers(void) {
+    hg_parts parts = {.offset = 1234, .kind = HG_RSP, .from = 3, .to = 5, .table = 22};
+    hg_packed packed = CALL(hg_bus_pack, .parts = parts);
+    CALL(hg_bus_pack, .parts = {.offset = 1234, .kind = 8, .from = 3, .to = 5, .table = 22});
+    CALL(hg_bus_pack, .parts = {.offset = 1234, .kind = 2, .from = 3, .to = 5, .table = 32});
+    CALL(hg_bus_pack, .parts = {.offset = 2048, .kind = 2, .from = 3, .to = 5, .table = 22});
+    CALL(hg_bus_unpack, .id = packed.id);
+    CALL(hg_bus_unpack, .id = packed.id + 1);
+    CALL(hg_bus_unpack, .id = (uint32_t)1 << 29);
+}
+
+static void requests(void) {
+    CALL(hg_bus_read_request, .first = 0x16, .second = 0x9A, .third = 0x4B);
+    CALL(hg_bus_read_request, .first = 0x16, .second = 0x9A, .third = 0x5B);
+    CALL(hg_bus_request_bytes, .request = {.table = 22, .count = 11, .offset = 1234});
+    CALL(hg_bus_request_bytes, .request = {.table = 22, .count = 16, .offset = 1234});
+}
+
+/* A frame of parts and bytes. */
+static hg_frame framed(hg_parts parts, const char *bytes, uint8_t len) {
+    hg_frame frame = {.id = hg_bus_pack(parts).id, .len = len, .bytes = {0}};
+    memcpy(frame.bytes, bytes, len);
+    return frame;
+}
+
+static void holder(void) {
+    hg_directory directory = {.table_blocking = 0x1234, .write_blocking = 0x5678, .own = 9};
+    hg_directory unsound;
+    uint8_t memory[50];
+    hg_parts to_22 = {.offset = 17, .kind = HG_CMD, .from = 3, .to = 9, .table = 22};
+    hg_frame command = framed(to_22, "store", 5);
+    hg_frame request, query;
+    to_22.kind = HG_REQ;
+    request = framed(to_22, "\x04\x25\x86", 3); /* six bytes, to table 4 and offset 300 */
+    to_22.kind = HG_XTND;
+    query = framed(to_22, "\x80\x04\x25\x85", 4);
+    directory.sizes[3] = 20, directory.rights[3] = 1;
+    directory.sizes[22] = 30, directory.rights[22] = 2;
+    unsound = directory, unsound.own = 16;
+    fill(memory, sizeof memory, 1);
+    CALL(hg_bus_serve, .directory = directory, .memory = memory, .len = sizeof memory, .frame = command);
+    CALL(hg_bus_serve, .directory = directory, .memory = memory, .len = sizeof memory, .frame = request);
+    CALL(hg_bus_serve, .directory = directory, .memory = memory, .len = sizeof memory, .frame = query);
+    CALL(hg_bus_serve, .directory = unsound, .memory = memory, .len = sizeof memory, .frame = command);
+    CALL(hg_bus_serve, .directory = directory, .memory = memory, .len = sizeof memory - 1, .frame = command);
+    command.len = 9;
+    CALL(hg_bus_serve, .directory = directory, .memory = memory, .len = sizeof memory, .frame = command);
+}
+
+/* A reply of device 5 to device 9, for a place of its buffer. */
+static hg_frame reply(uint16_t place, const char *bytes, uint8_t len) {
+    hg_parts parts = {.offset = place, .kind = HG_RSP, .from = 5, .to = 9, .table = 6};
+    return framed(parts, bytes, len);
+}
+
+/* A write of ten bytes in slot 0, ticket 1, and a read of twelve in slot 1, ticket 2. */
+static hg_bridge openings(uint8_t *buffer) {
+    uint8_t bytes[10];
+    hg_changed fresh = CALL(hg_bridge_reset, .b = {.issued = 7, .own = 8, .last = 2}, .own = 9);
+    hg_opened first, second;
+    CALL(hg_bridge_reset, .b = fresh.bridge, .own = 16);
+    fill(bytes, sizeof bytes, 200);
+    first = CALL(hg_bridge_open_write, .b = fresh.bridge, .buffer = buffer, .len = HG_BUFFER, .device = 4, .table = 21, .offset = 300,
+                 .bytes = bytes, .count = sizeof bytes);
+    CALL(hg_bridge_open_write, .b = first.bridge, .buffer = buffer, .len = HG_BUFFER, .device = 4, .table = 21, .offset = 2047,
+         .bytes = bytes, .count = sizeof bytes);
+    second = CALL(hg_bridge_open_read, .b = first.bridge, .buffer = buffer, .len = HG_BUFFER, .device = 5, .table = 22, .offset = 100,
+                  .count = 12);
+    CALL(hg_bridge_open_read, .b = first.bridge, .buffer = buffer, .len = HG_BUFFER, .device = 16, .table = 22, .offset = 100,
+         .count = 12);
+    CALL(hg_bridge_open_read, .b = first.bridge, .buffer = buffer, .len = HG_BUFFER, .device = 5, .table = 22, .offset = 100,
+         .count = 129);
+    return second.bridge;
+}
+
+static void bridge_by_value(void) {
+    uint8_t buffer[HG_BUFFER];
+    hg_bridge b;
+    fill(buffer, sizeof buffer, 1);
+    b = openings(buffer);
+    for (int turn = 1; turn <= 3; turn++) b = CALL(hg_bridge_turn, .b = b, .buffer = buffer, .len = sizeof buffer).bridge;
+    CALL(hg_bridge_turn, .b = b, .buffer = buffer, .len = sizeof buffer - 1);
+    b = CALL(hg_bridge_frame, .b = b, .buffer = buffer, .len = sizeof buffer, .frame = reply(128, "a reply.", 8)).bridge;
+    CALL(hg_bridge_frame, .b = b, .buffer = buffer, .len = sizeof buffer, .frame = reply(128, "a reply.", 8));
+    b = CALL(hg_bridge_turn, .b = b, .buffer = buffer, .len = sizeof buffer).bridge;
+    CALL(hg_bridge_status, .b = b, .ticket = 2);
+    CALL(hg_bridge_span, .b = b, .buffer = buffer, .len = sizeof buffer, .ticket = 2);
+    b = CALL(hg_bridge_frame, .b = b, .buffer = buffer, .len = sizeof buffer, .frame = reply(136, "more", 4)).bridge;
+    CALL(hg_bridge_status, .b = b, .ticket = 2);
+    CALL(hg_bridge_status, .b = b, .ticket = 3);
+    CALL(hg_bridge_span, .b = b, .buffer = buffer, .len = sizeof buffer, .ticket = 2);
+    CALL(hg_bridge_span, .b = b, .buffer = buffer, .len = sizeof buffer, .ticket = 1);
+    b = CALL(hg_bridge_close, .b = b, .ticket = 1).bridge;
+    CALL(hg_bridge_close, .b = b, .ticket = 1);
+}
+
+static void bridge_in_place(void) {
+    uint8_t buffer[HG_BUFFER];
+    hg_bridge b;
+    fill(buffer, sizeof buffer, 1);
+    b = openings(buffer);
+    for (int turn = 1; turn <= 3; turn++) CALL(hg_bridge_turn_in_place, .b = &b, .buffer = buffer, .len = sizeof buffer);
+    CALL(hg_bridge_turn_in_place, .b = &b, .buffer = buffer, .len = sizeof buffer - 1);
+    CALL(hg_bridge_frame_in_place, .b = &b, .buffer = buffer, .len = sizeof buffer, .frame = reply(128, "a reply.", 8));
+    CALL(hg_bridge_frame_in_place, .b = &b, .buffer = buffer, .len = sizeof buffer, .frame = reply(128, "a reply.", 8));
+    CALL(hg_bridge_turn_in_place, .b = &b, .buffer = buffer, .len = sizeof buffer);
+    CALL(hg_bridge_close_in_place, .b = &b, .ticket = 1);
+    CALL(hg_bridge_close_in_place, .b = &b, .ticket = 1);
+}
+
+/* A field with its type and name. */
+static uint8_t *field(uint8_t *at, uint8_t type, const char *name) {
+    memset(at, 0, HG_MLG_FIELD);
+    at[HG_MLG_TYPE_AT] = type;
+    memcpy(at + HG_MLG_NAME_AT, name, strlen(name));
+    return at;
+}
+
+/* An MLG of three fields, two names, an info text, and three blocks: data at 311, a mark at 320, data at 374. */
+static void mlg_writers(uint8_t *file, const uint8_t *fields) {
+    uint8_t text[50];
+    const uint8_t *names = (const uint8_t *)"on\0off", *info = (const uint8_t *)"an info text";
+    const uint8_t *record = (const uint8_t *)"\xFF\x38\x07\x03";
+    CALL(hg_mlg_write_header, .out = file, .len = 320, .time = 0x11223344, .fields = fields, .fields_len = 267, .names = names,
+         .names_len = 7, .info = info, .info_len = 12);
+    CALL(hg_mlg_write_header, .out = file, .len = 310, .time = 0x11223344, .fields = fields, .fields_len = 267, .names = names,
+         .names_len = 7, .info = info, .info_len = 12);
+    CALL(hg_mlg_write_header, .out = file, .len = 400, .time = 0x11223344, .fields = fields, .fields_len = 266, .names = names,
+         .names_len = 7, .info = info, .info_len = 12);
+    CALL(hg_mlg_write_data, .out = file + 311, .len = 10, .size = 4, .earlier = 1000, .time = 0x0102, .record = record, .record_len = 4);
+    CALL(hg_mlg_write_data, .out = file + 311, .len = 10, .size = 4, .earlier = 1000, .time = 0x0102, .record = record, .record_len = 3);
+    CALL(hg_mlg_write_mark, .out = file + 320, .len = 54, .earlier = 1001, .time = 0x0304, .text = (const uint8_t *)"knock", .text_len = 5);
+    fill(text, sizeof text, 1);
+    CALL(hg_mlg_write_mark, .out = file + 320, .len = 54, .earlier = 1001, .time = 0x0304, .text = text, .text_len = 50);
+    CALL(hg_mlg_write_data, .out = file + 374, .len = 9, .size = 4, .earlier = 7, .time = 0x0506, .record = record, .record_len = 4);
+}
+
+static void mlg_readers(const uint8_t *file) {
+    uint8_t listing[300];
+    CALL(hg_mlg_read_header, .file = file, .len = 383);
+    CALL(hg_mlg_read_header, .file = file, .len = 23);
+    CALL(hg_mlg_read_block, .file = file, .len = 383, .size = 4, .earlier = 1000, .place = 311);
+    CALL(hg_mlg_read_block, .file = file, .len = 383, .size = 4, .earlier = 7, .place = 320);
+    CALL(hg_mlg_read_block, .file = file, .len = 383, .size = 4, .earlier = 7, .place = 383);
+    CALL(hg_mlg_read_block, .file = file, .len = 383, .size = 5, .earlier = 1000, .place = 311);
+    CALL(hg_mlg_read_block, .file = file, .len = 383, .size = 4, .earlier = 7, .place = 384);
+    CALL(hg_mlg_count_blocks, .file = file, .len = 383);
+    CALL(hg_mlg_count_blocks, .file = file, .len = 380);
+    CALL(hg_mlg_fields_span, .file = file, .len = 383);
+    CALL(hg_mlg_fields_span, .file = file, .len = 23);
+    CALL(hg_mlg_field_span, .file = file, .len = 383, .index = 2);
+    CALL(hg_mlg_field_span, .file = file, .len = 383, .index = 3);
+    CALL(hg_mlg_names_span, .file = file, .len = 383);
+    CALL(hg_mlg_names_span, .file = file, .len = 23);
+    CALL(hg_mlg_info_span, .file = file, .len = 383);
+    CALL(hg_mlg_info_span, .file = file, .len = 23);
+    fill(listing, sizeof listing, 1);
+    CALL(hg_mlg_list, .out = listing, .len = sizeof listing, .file = file, .file_len = 383);
+    CALL(hg_mlg_list, .out = listing, .len = 20, .file = file, .file_len = 383);
+}
+
+static void mlg(void) {
+    uint8_t file[400], fields[3 * HG_MLG_FIELD], *scaled, *bits;
+    const uint8_t *raw = (const uint8_t *)"\xFF\x38";
+    scaled = field(fields, HG_MLG_S16, "map");
+    memcpy(scaled + HG_MLG_SCALE_AT, "\x3F\x00\x00\x00", 4);     /* 0.5 */
+    memcpy(scaled + HG_MLG_TRANSFORM_AT, "\x40\x80\x00\x00", 4); /* 4 */
+    field(fields + HG_MLG_FIELD, HG_MLG_U08, "tps");
+    bits = field(fields + 2 * HG_MLG_FIELD, HG_MLG_BITS_U08, "pump");
+    memcpy(bits + HG_MLG_BIT_NAMES_AT, "\x00\x00\x01\x23", 4); /* 291 */
+    bits[HG_MLG_BIT_COUNT_AT] = 2;
+    fill(file, sizeof file, 1);
+    mlg_writers(file, fields);
+    mlg_readers(file);
+    CALL(hg_mlg_raw_value, .field = scaled, .field_len = HG_MLG_FIELD, .raw = raw, .raw_len = 2);
+    CALL(hg_mlg_raw_value, .field = scaled, .field_len = HG_MLG_FIELD, .raw = raw, .raw_len = 1);
+    CALL(hg_mlg_shown_value, .field = scaled, .field_len = HG_MLG_FIELD, .raw = raw, .raw_len = 2);
+    CALL(hg_mlg_shown_value, .field = bits, .field_len = HG_MLG_FIELD, .raw = raw, .raw_len = 1);
+}
+
+/* An FRD of two blocks: data at 81, a time at 88. */
+static void frd_writers(uint8_t *file) {
+    uint8_t signature[63];
+    const uint8_t *record = (const uint8_t *)"bytes";
+    fill(signature, sizeof signature, 33);
+    CALL(hg_frd_write_header, .out = file, .len = 90, .time = 0x55667788, .signature = signature, .signature_len = 63, .size = 5);
+    CALL(hg_frd_write_header, .out = file, .len = 90, .time = 0x55667788, .signature = signature, .signature_len = 62, .size = 5);
+    CALL(hg_frd_write_data, .out = file + 81, .len = 8, .size = 5, .earlier = 1000, .record = record, .record_len = 5);
+    CALL(hg_frd_write_data, .out = file + 81, .len = 8, .size = 5, .earlier = 1000, .record = record, .record_len = 4);
+    CALL(hg_frd_write_time, .out = file + 88, .len = 7, .earlier = 1001, .time = 0x99AABBCC);
+    CALL(hg_frd_write_time, .out = file + 88, .len = 5, .earlier = 1001, .time = 0x99AABBCC);
+}
+
+static void frd(void) {
+    uint8_t file[100];
+    fill(file, sizeof file, 1);
+    frd_writers(file);
+    CALL(hg_frd_read_header, .file = file, .len = 94);
+    CALL(hg_frd_read_header, .file = file, .len = 80);
+    CALL(hg_frd_read_block, .file = file, .len = 94, .size = 5, .earlier = 1000, .place = 81);
+    CALL(hg_frd_read_block, .file = file, .len = 94, .size = 5, .earlier = 7, .place = 88);
+    CALL(hg_frd_read_block, .file = file, .len = 94, .size = 5, .earlier = 7, .place = 94);
+    CALL(hg_frd_read_block, .file = file, .len = 94, .size = 20, .earlier = 7, .place = 81);
+    CALL(hg_frd_count_blocks, .file = file, .len = 94);
+    CALL(hg_frd_count_blocks, .file = file, .len = 93);
+    CALL(hg_frd_read_signature, .file = file, .len = 94);
+    CALL(hg_frd_read_signature, .file = file, .len = 80);
+}
+
+int main(void) {
+    layout();
+    identifiers();
+    requests();
+    holder();
+    bridge_by_value();
+    bridge_in_place();
+    mlg();
+    frd();
+    return 0;
+}
