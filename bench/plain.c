@@ -312,19 +312,19 @@ static unsigned size_of(uint8_t kind) { return kind < 13 ? sizes[kind] : 0; }
 
 static bool has_zero(const uint8_t *text, size_t len) { return memchr(text, 0, len) != NULL; }
 
-/* Whether that many zero-ended names stand from a place on. */
-static bool has_names(const uint8_t *p, const uint8_t *end, unsigned names)
+/* The places of the last 32 zeros, from the end back, each counted from 1; 0 where there are fewer. */
+static void last_zeros(const uint8_t *area, size_t len, size_t last[32])
 {
-    for (; names > 0; names--) {
-        p = memchr(p, 0, (size_t)(end - p));
-        if (p == NULL)
-            return false;
-        p++;
+    for (int k = 0; k < 32; k++) {
+        while (len > 0 && area[len - 1] != 0)
+            len--;
+        last[k] = len;
+        if (len > 0)
+            len--;
     }
-    return true;
 }
 
-static uint8_t field_number(const uint8_t *file, const uint8_t *d, size_t fields_end, size_t begin)
+static uint8_t field_number(const uint8_t *d, size_t fields_end, size_t begin, const size_t last[32])
 {
     unsigned size = size_of(d[0]);
     bool bit_field = d[0] >= 10;
@@ -337,7 +337,7 @@ static uint8_t field_number(const uint8_t *file, const uint8_t *d, size_t fields
     size_t index = be32(d + 47);
     if (index < fields_end || index >= begin)
         return 23;
-    return has_names(file + index, file + begin, d[51]) ? 0 : 28;
+    return last[d[51] - 1] <= index - fields_end ? 28 : 0;
 }
 
 static uint8_t header_number(const uint8_t *file, size_t len, hg_mlg_header *h)
@@ -356,15 +356,17 @@ static uint8_t header_number(const uint8_t *file, size_t len, hg_mlg_header *h)
         return 23;
     if (h->info != 0 && (h->info < end || h->info >= h->begin))
         return 23;
+    size_t last[32];
+    last_zeros(file + end, h->begin - end, last);
     for (const uint8_t *d = file + 24; d < file + end; d += 89) {
-        uint8_t number = field_number(file, d, end, h->begin);
+        uint8_t number = field_number(d, end, h->begin, last);
         if (number != 0)
             return number;
         total += size_of(d[0]);
     }
     if (total != h->size)
         return 23;
-    if (h->info != 0 && !has_zero(file + h->info, h->begin - h->info))
+    if (h->info != 0 && last[0] <= h->info - end)
         return 28;
     return 0;
 }
