@@ -8,7 +8,7 @@ use mathlib.Core.Bool.{Bool, true, false, cond, not, _&&_, _||_, false≢true, t
 use native.Mathlib.Nat.{add-suc, suc-add, add-zero}
 use native.Mathlib.Omega.{arith}
 use native.Mathlib.Decide.{decLt, ℕ-discrete}
-use lib.ListN.{length, getD, List·getD-eq-default}
+use lib.ListN.{length, getD, drop, List·getD-eq-default}
 use lib.Dec.{eqb, ltb, leb}
 use borrow.Author.Tests.{eqb-true, eqb-false, eq-eqb, lt-ltb, le-ltb, leb-true, not-true}
 use Rattle.bus_rules.specs.Ident.{idOf, idFrom}
@@ -18,16 +18,21 @@ use Rattle.bus_rules.specs.declared.Served.{Served}
 use Rattle.bus_rules.specs.Device.{Device}
 use Rattle.bus_rules.proofs.Replies.{answerer-unchanged}
 use Rattle.bridge_rules.specs.State.{Frame}
-use Rattle.bridge_rules.specs.Opening.{read, isWrite, askDevice}
+use Rattle.bridge_rules.specs.Answers.{Buffers, plain, rightLengths}
+use Rattle.bridge_rules.specs.Opening.{read, check, isWrite, isCheck, askDevice, askGiven}
 use Rattle.bridge_rules.specs.Incoming.{contentNumber}
 use Rattle.bridge_rules.specs.Call.{Lent, itsOwn, other, Call, opening, turn, frame, status, bytes, close, reset}
 use Rattle.bridge_rules.specs.Run.{Run, Lawful, ShapedLent, Shaped, Transfer, Closing, Stands, isTurn, accepted, turns, chunks, answer, ledger}
+use Rattle.bridge_rules.specs.Run.{Done, statusAt, shownAt}
 use Rattle.bridge_rules.specs.Replies.{requestFrame, matchesCall, Matches, Sent, Replied}
-use Rattle.bridge_rules.specs.Device.{Timeline, Arrives, Own, range, NotAfter, Meanwhile, Unwritten}
+use Rattle.bridge_rules.specs.Device.{Timeline, Arrives, Own, range, NotAfter, Meanwhile, Current, Unwritten, Premises}
 use Rattle.bridge_examples.specs.Examples.{directory, memory, holding, after, run, reply, before, DoneRead, alone, unchanging, AloneShows}
 use Rattle.bridge_examples.specs.Examples.{together, written, TogetherShows, restarted, writtenOnce, RestartedShows, torn, overwritten, TornShows}
-use Rattle.bridge_examples.specs.Examples.{forged, ForgedShows, late, slow, LateShows, Examples}
+use Rattle.bridge_examples.specs.Examples.{forged, ForgedShows, late, slow, LateShows, CheckedWrite, eight, ten, onTime, toClosed, readingBack, stored}
+use Rattle.bridge_examples.specs.Examples.{StoredShows, unplugged, UnpluggedShows, dropped, DroppedShows, afterClosing, prompt, lateEqual}
+use Rattle.bridge_examples.specs.Examples.{LateEqualShows, lateOther, hundred, LateOtherShows, closedCheck, lateChecked, LateCheckShows, Examples}
 use Rattle.bridge_rules.proofs.Computing.{everything}
+use Rattle.bridge_rules.proofs.NumberLaws.{lengths-true}
 use Rattle.bridge_rules.proofs.Search.{and-true, some-eq}
 use Rattle.bridge_rules.proofs.CallCases.{isFrame}
 
@@ -46,43 +51,51 @@ every-at p k (c ∷ cs) e (suc i) l =
     ap (λ (n : ℕ). p n (getD cs i (status 0))) (add-suc k i ∙ sym (suc-add k i))
     ∙ every-at p (suc k) cs (and-true (p k c) (every p (suc k) cs) e .1) i (omega arith)
 
+at-event : (p : ℕ → Call → Bool) (cs : List Call) → every p 0 cs ≡ true → (m : ℕ) → m < length cs → p m (run cs .calls m) ≡ true
+at-event p cs e m l = ap (λ (n : ℕ). p n (getD cs m (status 0))) (sym (zero-plus m)) ∙ every-at p 0 cs e m l
+  where
+    zero-plus : (n : ℕ) → 0 + n ≡ n
+    zero-plus n = omega arith
+
 -- of every event, where the test holds of a status call, which stands past the end
 all-events : (p : ℕ → Call → Bool) (cs : List Call) → every p 0 cs ≡ true → ((k : ℕ) → p k (status 0) ≡ true) → (m : ℕ)
     → p m (run cs .calls m) ≡ true
 all-events p cs e d m = go (decLt m (length cs))
   where
     go : Dec (m < length cs) → p m (getD cs m (status 0)) ≡ true
-    go (yes l) = ap (λ (n : ℕ). p n (getD cs m (status 0))) (sym (zero-plus m)) ∙ every-at p 0 cs e m l
-      where
-        zero-plus : (n : ℕ) → 0 + n ≡ n
-        zero-plus n = omega arith
+    go (yes l) = at-event p cs e m l
     go (no l) = subst (λ (c : Call). p m c ≡ true) (sym (List·getD-eq-default cs (status 0) {n = m} (omega arith))) (d m)
 
-shapedLent : Lent → Bool
+shapedLent : Lent Buffers → Bool
 shapedLent itsOwn = true
-shapedLent (other l) = not (eqb (length l) 512)
+shapedLent (other l) = not (rightLengths l)
+
+shapedList : Lent (List ℕ) → Bool
+shapedList itsOwn = true
+shapedList (other l) = not (eqb (length l) 512)
 
 shaped : Call → Bool
 shaped (opening l a) = shapedLent l
 shaped (turn l) = shapedLent l
 shaped (frame l f) = shapedLent l && eqb (length (f .bytes)) 8
 shaped (status t) = true
-shaped (bytes l t) = shapedLent l
+shaped (bytes l t) = shapedList l
 shaped (close t) = true
 shaped (reset o) = true
 
-lent-shaped : (l : Lent) → shapedLent l ≡ true → ShapedLent l
+lent-shaped : (l : Lent Buffers) → shapedLent l ≡ true → ShapedLent l
 unfolding shapedLent
 lent-shaped itsOwn e = tt
-lent-shaped (other l) e = eqb-false (length l) 512 (not-true _ e)
+lent-shaped (other l) e = λ h. true≢false (sym (lengths-true l h) ∙ not-true _ e)
 
 call-shaped : (c : Call) → shaped c ≡ true → Shaped c
-unfolding shaped
+unfolding shaped shapedList
 call-shaped (opening l a) e = lent-shaped l e
 call-shaped (turn l) e = lent-shaped l e
 call-shaped (frame l f) e = let z = and-true (shapedLent l) (eqb (length (f .bytes)) 8) e in (lent-shaped l (z .0), eqb-true _ 8 (z .1))
 call-shaped (status t) e = tt
-call-shaped (bytes l t) e = lent-shaped l e
+call-shaped (bytes itsOwn t) e = tt
+call-shaped (bytes (other l) t) e = eqb-false (length l) 512 (not-true _ e)
 call-shaped (close t) e = tt
 call-shaped (reset o) e = tt
 
@@ -114,7 +127,8 @@ module _ (cs : List Call) where
   unfolding shaped
   run-lawful e = record {
     own = omega arith;
-    buffer = refl;
+    first = refl;
+    second = refl;
     shaped = λ k. call-shaped (run cs .calls k) (all-events (λ k c. shaped c) cs e (λ k. refl) k);
   }
 
@@ -181,7 +195,7 @@ module _ (cs : List Call) where
       stands = s (suc j) (omega arith);
       j = j;
       before = omega arith;
-      sent = record { stands = s j g; isRead = rd; chunk = l; turned = a; yields = y };
+      sent = record { stands = s j g; asks = rd; chunk = l; turned = a; yields = y };
       soon = t;
       unmatched = λ m a b. absurd (omega arith);
     };
@@ -574,6 +588,37 @@ forged-shows = record {
   forgery = forged-forgery;
 }
 
+-- ── a transfer that is closed ──────────────────────────────────────────────────────────────────────────────────────
+
+-- a reply that x takes at m answers a request of y, which event e closed before: it is not current
+not-current : (r : Run) (x y : Transfer r) (n c m k j e : ℕ) (f : Frame) (t : Timeline) → x .at < m → m < n → Replied r x c m
+    → r .calls m ≡ frame itsOwn f → contentNumber (ledger r m .own) f ≡ 0 → idFrom (f .id) ≡ askDevice (x .ask)
+    → Sent r y k j → t .asked m ≡ j → y .at < e → e < m → Closing r y e → ¬ Current r x n t
+not-current r x y n c m k j e f t a b p q z d s u l l′ h current =
+    current m f arrives y k (subst (Sent r y k) (sym u) s) .1 e l l′ h
+  where
+    arrives : Arrives r x n m f
+    arrives = record { since = a; c = c; m′ = m; before = b; last = p; until = omega arith; call = q; passes = z; device = d }
+
+module _ (cs : List Call) where
+  abbrev closing : List Call
+  closing = opening itsOwn (read 5 7 0 8) ∷ turn itsOwn ∷ close 1 ∷ cs
+
+  closed-x : Transfer (run closing)
+  unfolding everything
+  closed-x = record { at = 0; lent = itsOwn; ask = read 5 7 0 8; call = refl; accepted = refl }
+
+  -- call 1 sent its request, and call 2 closed it: no reply to it that another transfer takes is current
+  closed-read : (x : Transfer (run closing)) (n c m : ℕ) (f : Frame) (t : Timeline) → x .at < m → m < n → 2 < m → Replied (run closing) x c m
+      → run closing .calls m ≡ frame itsOwn f → contentNumber (ledger (run closing) m .own) f ≡ 0 → idFrom (f .id) ≡ askDevice (x .ask)
+      → t .asked m ≡ 1 → ¬ Current (run closing) x n t
+  unfolding everything closed-x
+  closed-read x n c m f t a b l p q z d e =
+      not-current (run closing) x closed-x n c m 0 1 2 f t a b p q z d sent e (omega arith) l (refl, inl refl)
+    where
+      sent : Sent (run closing) closed-x 0 1
+      sent = record { stands = (omega arith, λ m a b. absurd (omega arith)); asks = refl; chunk = omega arith; turned = refl; yields = refl }
+
 -- ── late ───────────────────────────────────────────────────────────────────────────────────────────────────────────
 
 late-x : Transfer (run late)
@@ -584,24 +629,9 @@ late-stands : (n : ℕ) → late-x .at < n → Stands (run late) late-x n
 unfolding everything every late reply late-x
 late-stands n l = still-stands late 3 refl late-x n (omega arith) l
 
-late-closed : Transfer (run late)
-unfolding everything late reply
-late-closed = record { at = 0; lent = itsOwn; ask = read 5 7 0 8; call = refl; accepted = refl }
-
-late-sent : Sent (run late) late-closed 0 1
-unfolding everything late reply late-closed
-late-sent = record {
-  stands = (omega arith, λ m a b. absurd (omega arith));
-  isRead = refl;
-  chunk = omega arith;
-  turned = refl;
-  yields = refl;
-}
-
--- call 2 closed it
-late-gone : ¬ Stands (run late) late-closed 5
-unfolding everything late reply late-closed
-late-gone s = s .1 2 (omega arith) (omega arith) (refl, inl refl)
+late-replied : Replied (run late) late-x 0 5
+unfolding everything late reply late-x
+late-replied = replied-next late late-x 0 4 late-stands (omega arith) refl (omega arith) refl refl (omega arith) refl
 
 late-own5 : Own (run late) slow 5 (reply 5 0 (100 ∷ 101 ∷ 102 ∷ 103 ∷ 104 ∷ 105 ∷ 106 ∷ 107 ∷ []))
 unfolding everything late reply directory memory
@@ -628,7 +658,259 @@ late-shows = record {
   first = not-after late 5 5 slow refl (λ m l. omega arith) late-x 6;
   unwritten = record { sameTables = λ τ τ′ a b. refl; unchanged = λ τ τ′ a b. refl };
   asked = refl;
-  closed = (late-closed, late-sent, late-gone);
+  closed = closed-read (drop 3 late) late-x 6 0 5 _ slow (omega arith) (omega arith) (omega arith) late-replied refl refl refl refl;
+}
+
+-- ── checked writes ─────────────────────────────────────────────────────────────────────────────────────────────────
+
+checked-write : (cs : List Call) (x : Transfer (run cs)) (n number : ℕ) → every (λ k c. shaped c) 0 cs ≡ true → isCheck (x .ask) ≡ true
+    → Stands (run cs) x n → statusAt (run cs) x n ≡ number → shownAt (run cs) x n ≡ plain number
+    → CheckedWrite cs (x .at) n (askGiven (x .ask)) number
+checked-write cs x n number e c s a h =
+    record { lawful = run-lawful cs e; x = x; opened = refl; checks = c; given = refl; stands = s; answers = a; shown = h }
+
+module _ (a b : ℕ) where
+  back-x : Transfer (run (readingBack a b))
+  unfolding everything readingBack reply
+  back-x = record { at = 0; lent = itsOwn; ask = check 5 7 6 ten; call = refl; accepted = refl }
+
+  back-stands : (n : ℕ) → back-x .at < n → Stands (run (readingBack a b)) back-x n
+  unfolding everything every readingBack reply back-x
+  back-stands n l = still-stands (readingBack a b) 0 refl back-x n (omega arith) l
+
+  back-replied : Replied (run (readingBack a b)) back-x 1 6
+  unfolding everything readingBack reply back-x
+  back-replied = replied-next (readingBack a b) back-x 1 5 back-stands (omega arith) refl (omega arith) refl refl (omega arith) refl
+
+  -- where the device is the same from moment 4 on, and these are its replies
+  back-premises : (device : ℕ → Device) (d : Device) → ((τ : ℕ) → 4 ≤ τ → device τ ≡ d)
+      → serveOf d (frameWith 0x1882B8 (6 ∷ 0 ∷ 8 ∷ [])) ≡ answerWith (reply 5 0 eight)
+      → serveOf d (frameWith 0x3882B8 (6 ∷ 1 ∷ 2 ∷ [])) ≡ answerWith (reply 5 8 (a ∷ b ∷ []))
+      → Premises (run (readingBack a b)) back-x 7 (onTime device) 4
+  unfolding everything every underFive readingBack reply back-x
+  back-premises device d same g h = record {
+    arrivals = record {
+      own = two-own (readingBack a b) t back-x 7 4 6 _ _ refl refl refl own4 refl own6;
+      current = λ m f u y c. sent-before (run (readingBack a b)) y c (back-x .at) m (u .since);
+    };
+    first = not-after (readingBack a b) 4 4 t refl (λ m l. l) back-x 7;
+    unwritten = record {
+      sameTables = λ τ τ′ u v. ap (λ (d : Device). d .directory) (still τ τ′ u v);
+      unchanged = λ τ τ′ u v. ap (range (run (readingBack a b)) back-x) (still τ τ′ u v);
+    };
+  }
+    where
+      t : Timeline
+      t = onTime device
+
+      own4 : Own (run (readingBack a b)) t 4 (reply 5 0 eight)
+      own4 = own-reply (run (readingBack a b)) t 4 _ _ (omega arith) refl refl (omega arith) (omega arith)
+          (ap (λ (d : Device). serveOf d (frameWith 0x1882B8 (6 ∷ 0 ∷ 8 ∷ []))) (same 4 (omega arith)) ∙ g)
+
+      own6 : Own (run (readingBack a b)) t 6 (reply 5 8 (a ∷ b ∷ []))
+      own6 = own-reply (run (readingBack a b)) t 6 _ _ (omega arith) refl refl (omega arith) (omega arith)
+          (ap (λ (d : Device). serveOf d (frameWith 0x3882B8 (6 ∷ 1 ∷ 2 ∷ []))) (same 6 (omega arith)) ∙ h)
+
+      still : (τ τ′ : ℕ) → Meanwhile (run (readingBack a b)) back-x 7 t 4 τ → Meanwhile (run (readingBack a b)) back-x 7 t 4 τ′ → device τ ≡ device τ′
+      still τ τ′ u v = same τ (u .since) ∙ sym (same τ′ (v .since))
+
+-- ── done ───────────────────────────────────────────────────────────────────────────────────────────────────────────
+
+stored-checker : CheckedWrite (readingBack 9 10) 0 7 ten 0
+unfolding everything every shaped shapedLent readingBack reply back-x
+stored-checker = checked-write (readingBack 9 10) (back-x 9 10) 7 0 refl refl (back-stands 9 10 7 (omega arith)) refl refl
+
+stored-shows : StoredShows
+unfolding everything readingBack reply back-x checked-write stored-checker directory memory after
+stored-shows = record {
+  checker = stored-checker;
+  premises = back-premises 9 10 (stored .device) (stored .device 4)
+      (λ τ l. rw (le-ltb τ 2 (omega arith), le-ltb τ 3 (omega arith))) refl refl;
+  meanwhile = until (run (readingBack 9 10)) (back-x 9 10) 7 stored 4 5 1 6 (omega arith) (omega arith) (back-replied 9 10) (omega arith);
+  same = refl;
+  earlier = refl;
+}
+
+-- ── dropped ────────────────────────────────────────────────────────────────────────────────────────────────────────
+
+dropped-checker : CheckedWrite (readingBack 114 115) 0 7 ten 18
+unfolding everything every shaped shapedLent readingBack reply back-x
+dropped-checker = checked-write (readingBack 114 115) (back-x 114 115) 7 18 refl refl (back-stands 114 115 7 (omega arith)) refl refl
+
+dropped-shows : DroppedShows
+unfolding everything readingBack reply back-x checked-write dropped-checker directory memory after
+dropped-shows = record {
+  checker = dropped-checker;
+  premises = back-premises 114 115 (dropped .device) (dropped .device 4) (λ τ l. rw (le-ltb τ 2 (omega arith))) refl refl;
+  replied = back-replied 114 115;
+  other = refl;
+}
+
+-- ── unplugged ──────────────────────────────────────────────────────────────────────────────────────────────────────
+
+unplugged-x : Transfer (run unplugged)
+unfolding everything unplugged
+unplugged-x = record { at = 0; lent = itsOwn; ask = check 5 7 6 ten; call = refl; accepted = refl }
+
+unplugged-never : (n : ℕ) → n ≤ 64 → ¬ Done (run unplugged) unplugged-x n
+unfolding everything every unplugged unplugged-x
+unplugged-never n l d = eqb-false _ 0 (not-true _ (at-event (λ k c. not (eqb (statusAt (run unplugged) unplugged-x k) 0)) unplugged refl n (omega arith))) d
+
+unplugged-checker : CheckedWrite unplugged 0 64 ten 16
+unfolding everything every shaped shapedLent unplugged unplugged-x
+unplugged-checker =
+    checked-write unplugged unplugged-x 64 16 refl refl (still-stands unplugged 0 refl unplugged-x 64 (omega arith) (omega arith)) refl refl
+
+unplugged-shows : UnpluggedShows
+unfolding everything unplugged unplugged-x checked-write unplugged-checker
+unplugged-shows = record { checker = unplugged-checker; never = unplugged-never; written = refl }
+
+-- ── a late reply for a checked write ───────────────────────────────────────────────────────────────────────────────
+
+module _ (bs : List ℕ) where
+  abbrev last-reply : Frame
+  last-reply = record { id = idOf 0 rsp 5 0 6; len = 8; bytes = bs }
+
+  after-x : Transfer (run (afterClosing bs))
+  unfolding everything afterClosing
+  after-x = record { at = 3; lent = itsOwn; ask = check 5 7 8 eight; call = refl; accepted = refl }
+
+  after-stands : (n : ℕ) → after-x .at < n → Stands (run (afterClosing bs)) after-x n
+  unfolding everything every afterClosing after-x
+  after-stands n l = still-stands (afterClosing bs) 3 refl after-x n (omega arith) l
+
+  after-replied : Replied (run (afterClosing bs)) after-x 0 6
+  unfolding everything afterClosing after-x
+  after-replied = replied-next (afterClosing bs) after-x 0 5 after-stands (omega arith) refl (omega arith) refl refl (omega arith) refl
+
+  -- the one reply is the device's own
+  after-own : (t : Timeline) → Own (run (afterClosing bs)) t 6 last-reply → (m : ℕ) (f : Frame) → Arrives (run (afterClosing bs)) after-x 7 m f
+      → Own (run (afterClosing bs)) t m f
+  unfolding everything every underFive afterClosing after-x
+  after-own t o = two-own (afterClosing bs) t after-x 7 6 6 _ _ refl refl refl o refl o
+
+  -- to the checked write's request, and to the closed read's
+  after-prompt : (device : ℕ → Device) → serveOf (device 6) (frameWith (idOf 8 req 0 5 7) (6 ∷ 0 ∷ 8 ∷ [])) ≡ answerWith last-reply
+      → Own (run (afterClosing bs)) (onTime device) 6 last-reply
+  unfolding everything afterClosing
+  after-prompt device g = own-reply (run (afterClosing bs)) (onTime device) 6 _ _ (omega arith) refl refl (omega arith) (omega arith) g
+
+  after-late : (device : ℕ → Device) → serveOf (device 6) (frameWith (idOf 0 req 0 5 7) (6 ∷ 0 ∷ 8 ∷ [])) ≡ answerWith last-reply
+      → Own (run (afterClosing bs)) (toClosed device) 6 last-reply
+  unfolding everything afterClosing
+  after-late device g = own-reply (run (afterClosing bs)) (toClosed device) 6 _ _ (omega arith) refl refl (omega arith) (omega arith) g
+
+  after-closed : (device : ℕ → Device) → ¬ Current (run (afterClosing bs)) after-x 7 (toClosed device)
+  unfolding everything afterClosing after-x
+  after-closed device = closed-read (drop 3 (afterClosing bs)) after-x 7 0 6 last-reply (toClosed device) (omega arith) (omega arith) (omega arith)
+      after-replied refl refl refl refl
+
+equal-checker : CheckedWrite (afterClosing eight) 3 7 eight 0
+unfolding everything every shaped shapedLent afterClosing after-x
+equal-checker = checked-write (afterClosing eight) (after-x eight) 7 0 refl refl (after-stands eight 7 (omega arith)) refl refl
+
+equal-same : (τ : ℕ) → 6 ≤ τ → prompt .device τ ≡ after holding 8 eight
+equal-same τ l = rw (le-ltb τ 5 (omega arith))
+
+equal-shows : LateEqualShows
+unfolding everything every afterClosing after-x checked-write equal-checker directory memory after
+equal-shows = record {
+  checker = equal-checker;
+  premises = record {
+    arrivals = record {
+      own = after-own eight prompt (after-prompt eight (prompt .device) refl);
+      current = λ m f u y c. sent-before (run (afterClosing eight)) y c 3 m (u .since);
+    };
+    first = not-after (afterClosing eight) 6 6 prompt refl (λ m l. l) (after-x eight) 7;
+    unwritten = record {
+      sameTables = λ τ τ′ u v. ap (λ (d : Device). d .directory) (equal-same τ (u .since) ∙ sym (equal-same τ′ (v .since)));
+      unchanged = λ τ τ′ u v. ap (range (run (afterClosing eight)) (after-x eight)) (equal-same τ (u .since) ∙ sym (equal-same τ′ (v .since)));
+    };
+  };
+  meanwhile =
+      until (run (afterClosing eight)) (after-x eight) 7 prompt 6 6 0 6 (omega arith) (omega arith) (after-replied eight) (omega arith);
+  same = refl;
+  own = after-own eight lateEqual (after-late eight (lateEqual .device) refl);
+  first = not-after (afterClosing eight) 6 6 lateEqual refl (λ m l. l) (after-x eight) 7;
+  unwritten = record { sameTables = λ τ τ′ u v. refl; unchanged = λ τ τ′ u v. refl };
+  other = refl;
+  closed = after-closed eight (lateEqual .device);
+}
+
+other-checker : CheckedWrite (afterClosing hundred) 3 7 eight 18
+unfolding everything every shaped shapedLent afterClosing after-x
+other-checker = checked-write (afterClosing hundred) (after-x hundred) 7 18 refl refl (after-stands hundred 7 (omega arith)) refl refl
+
+other-shows : LateOtherShows
+unfolding everything afterClosing after-x checked-write other-checker directory memory after
+other-shows = record {
+  checker = other-checker;
+  own = after-own hundred lateOther (after-late hundred (lateOther .device) refl);
+  replied = after-replied hundred;
+  same = refl;
+  closed = after-closed hundred (lateOther .device);
+}
+
+-- ── a late reply to a checked write ────────────────────────────────────────────────────────────────────────────────
+
+check-x : Transfer (run closedCheck)
+unfolding everything closedCheck reply
+check-x = record { at = 4; lent = itsOwn; ask = read 5 7 8 8; call = refl; accepted = refl }
+
+check-stands : (n : ℕ) → check-x .at < n → Stands (run closedCheck) check-x n
+unfolding everything every closedCheck reply check-x
+check-stands n l = still-stands closedCheck 4 refl check-x n (omega arith) l
+
+check-replied : Replied (run closedCheck) check-x 0 6
+unfolding everything closedCheck reply check-x
+check-replied = replied-next closedCheck check-x 0 5 check-stands (omega arith) refl (omega arith) refl refl (omega arith) refl
+
+check-call6 : run closedCheck .calls 6 ≡ frame itsOwn (reply 5 0 eight)
+unfolding closedCheck
+check-call6 = refl
+
+check-own6 : Own (run closedCheck) lateChecked 6 (reply 5 0 eight)
+unfolding everything closedCheck reply directory memory after
+check-own6 = own-reply (run closedCheck) lateChecked 6 (frameWith (idOf 0 req 0 5 7) (6 ∷ 0 ∷ 8 ∷ [])) _ (omega arith) refl refl (omega arith)
+    (omega arith) refl
+
+-- the checked write, and its request
+closed-check : Transfer (run closedCheck)
+unfolding everything closedCheck reply
+closed-check = record { at = 0; lent = itsOwn; ask = check 5 7 0 eight; call = refl; accepted = refl }
+
+check-sent : Sent (run closedCheck) closed-check 0 2
+unfolding everything every closedCheck reply closed-check
+check-sent = record {
+  stands = (omega arith, λ m a b. open-still m (omega arith));
+  asks = refl;
+  chunk = omega arith;
+  turned = refl;
+  yields = refl;
+}
+  where
+    open-still : (m : ℕ) → m ≡ 1 → ¬ Closing (run closedCheck) closed-check m
+    open-still m e h = no-closing (subst (Closing (run closedCheck) closed-check) e h)
+      where
+        no-closing : ¬ Closing (run closedCheck) closed-check 1
+        no-closing (z, inl q) = let y : _≡_ {A = ℕ} 0 1 = cc in omega arith
+        no-closing (z, inr (o, q)) = let y : _≡_ {A = ℕ} 0 1 = cc in omega arith
+
+check-shows : LateCheckShows
+unfolding everything every underFive shaped shapedLent closedCheck reply check-x closed-check directory memory after
+check-shows = record {
+  reader = record {
+    lawful = run-lawful closedCheck refl;
+    x = check-x;
+    opened = refl;
+    stands = check-stands 7 (omega arith);
+    done = refl;
+    shown = refl;
+  };
+  own = two-own closedCheck lateChecked check-x 7 6 6 _ _ refl refl check-call6 check-own6 check-call6 check-own6;
+  asked = refl;
+  closed = not-current (run closedCheck) check-x closed-check 7 0 6 0 2 3 (reply 5 0 eight) lateChecked (omega arith) (omega arith) check-replied
+      check-call6 refl refl check-sent refl (omega arith) (omega arith) (refl, inl refl);
 }
 
 pub examples : Examples
@@ -639,4 +921,10 @@ examples = record {
   tornShows = torn-shows;
   forgedShows = forged-shows;
   lateShows = late-shows;
+  storedShows = stored-shows;
+  unpluggedShows = unplugged-shows;
+  droppedShows = dropped-shows;
+  lateEqualShows = equal-shows;
+  lateOtherShows = other-shows;
+  lateCheckShows = check-shows;
 }

@@ -1,10 +1,10 @@
 -- Example runs beside demand 3: its premises hold of runs, and it says what they show; and without the premise on writes, on the
--- device's own replies or on late replies it would be false.
-use Prim.Native.Nat.{ℕ, zero, suc, _*_, _-_}
+-- device's own replies or on late replies it would be false. Reads first, then checked writes.
+use Prim.Native.Nat.{ℕ, zero, suc, _*_, _-_, _≤_}
 use mathlib.Core.Path.{_≡_}
 use mathlib.Core.Logic.{_≢_}
 use mathlib.Core.List.{List, [], _∷_, _++_}
-use mathlib.Core.Bool.{cond}
+use mathlib.Core.Bool.{true, cond}
 use lib.ListN.{replicate}
 use lib.Dec.{ltb}
 use Rattle.bus_rules.specs.Ident.{idOf}
@@ -13,10 +13,11 @@ use Rattle.bus_rules.specs.Device.{Device, device}
 use Rattle.bus_rules.specs.Holder.{deviceAfter}
 use Rattle.bus_rules.specs.declared.Directory.{Directory}
 use Rattle.bridge_rules.specs.State.{Frame}
-use Rattle.bridge_rules.specs.Opening.{read, write}
+use Rattle.bridge_rules.specs.Answers.{both, plain}
+use Rattle.bridge_rules.specs.Opening.{read, write, check, isCheck, askGiven}
 use Rattle.bridge_rules.specs.Call.{Call, itsOwn, opening, turn, frame, status, close, reset}
-use Rattle.bridge_rules.specs.Run.{Run, Lawful, Transfer, Stands, Done, shownAt, answer, answerTo}
-use Rattle.bridge_rules.specs.Replies.{Sent}
+use Rattle.bridge_rules.specs.Run.{Run, Lawful, Transfer, Stands, Done, statusAt, shownAt, answer, answerTo}
+use Rattle.bridge_rules.specs.Replies.{Replied}
 use Rattle.bridge_rules.specs.Device.{Timeline, range, Arrives, Own, Arrivals, Current, NotAfter, Meanwhile, Unwritten, Premises}
 use Rattle.bridge_rules.specs.Demand3.{showing, runOf}
 
@@ -40,9 +41,9 @@ holding = device directory memory
 unfoldable pub after : Device → (offset : ℕ) → List ℕ → Device
 after d offset bs = deviceAfter d (frameWith (idOf offset cmd 0 5 7) bs)
 
--- the run of bridge 0, from 512 zeros
+-- the run of bridge 0, from two buffers of zeros
 abbrev pub run : List Call → Run
-run cs = runOf 0 (replicate 512 0) cs
+run cs = runOf 0 (both (replicate 512 0) (replicate 512 0)) cs
 
 -- a reply to bridge 0 for a place in its buffer
 unfoldable pub reply : (device place : ℕ) → List ℕ → Frame
@@ -68,6 +69,14 @@ pub record Shows (cs : List Call) (at n : ℕ) (bs : List ℕ) (t : Timeline) (�
 abbrev pub before : ℕ → ℕ
 before zero = zero
 before (suc n) = n
+
+-- events are one moment apart, and a reply arrives when it is given
+abbrev pub onTime : (ℕ → Device) → Timeline
+onTime device = record { when = λ k. k; device = device; asked = before; answered = λ m. m }
+
+-- the same, but a reply answers the request that call 1 sent, for a transfer that call 2 closes
+abbrev pub toClosed : (ℕ → Device) → Timeline
+toClosed device = record { when = λ k. k; device = device; asked = λ m. 1; answered = λ m. m }
 
 -- ── One asker, and a device that does not change ───────────────────────────────────────────────────────────────────
 
@@ -116,15 +125,12 @@ together =
     ∷ turn itsOwn
     ∷ [])
 
--- events are one moment apart, and a reply arrives when it is given. The device is written at moments 4 and 33, and answers the
--- read's first REQ at moment 5
+-- the device is written at moments 4 and 33, and answers the read's first REQ at moment 5
 abbrev pub written : Timeline
-written = record {
-  when = λ k. k;
-  device = λ τ. cond (ltb τ 4) holding (cond (ltb τ 33) (after holding 6 (1 ∷ 2 ∷ [])) (after (after holding 6 (1 ∷ 2 ∷ [])) 6 (3 ∷ 4 ∷ [])));
-  asked = before;
-  answered = λ m. m;
-}
+written = onTime (λ τ. cond (ltb τ 4) holding (cond (ltb τ 33) once (after once 6 (3 ∷ 4 ∷ []))))
+  where
+    once : Device
+    once = after holding 6 (1 ∷ 2 ∷ [])
 
 pub record TogetherShows : Type 0 where
   pub shows : Shows together 1 33 (1 ∷ 2 ∷ 108 ∷ 109 ∷ 110 ∷ 111 ∷ 112 ∷ 113 ∷ 114 ∷ 115 ∷ []) written 5 29
@@ -151,12 +157,7 @@ restarted =
 
 -- the device is written at moment 2
 abbrev pub writtenOnce : Timeline
-writtenOnce = record {
-  when = λ k. k;
-  device = λ τ. cond (ltb τ 2) holding (after holding 6 (1 ∷ 2 ∷ []));
-  asked = before;
-  answered = λ m. m;
-}
+writtenOnce = onTime (λ τ. cond (ltb τ 2) holding (after holding 6 (1 ∷ 2 ∷ [])))
 
 pub record RestartedShows : Type 0 where
   -- the write is done; the reset ends it, and the read gets its ticket
@@ -182,12 +183,7 @@ torn =
 
 -- the device is written at moment 5
 abbrev pub overwritten : Timeline
-overwritten = record {
-  when = λ k. k;
-  device = λ τ. cond (ltb τ 5) holding (after holding 12 (1 ∷ 2 ∷ 3 ∷ 4 ∷ []));
-  asked = before;
-  answered = λ m. m;
-}
+overwritten = onTime (λ τ. cond (ltb τ 5) holding (after holding 12 (1 ∷ 2 ∷ 3 ∷ 4 ∷ [])))
 
 -- each reply is the device's own, and none is to a closed or reset read; yet the read shows bytes that the range never held
 pub record TornShows : Type 0 where
@@ -238,7 +234,7 @@ late =
 
 -- a reply answers the first read's request
 abbrev pub slow : Timeline
-slow = record { when = λ k. k; device = λ τ. holding; asked = λ m. 1; answered = λ m. m }
+slow = toClosed (λ τ. holding)
 
 -- each reply is the device's own and nothing is written; yet the second read is done and shows the first one's bytes
 pub record LateShows : Type 0 where
@@ -248,7 +244,152 @@ pub record LateShows : Type 0 where
   pub unwritten : Unwritten (run late) (reader .x) slow (Meanwhile (run late) (reader .x) 6 slow 5)
   pub asked : range (run late) (reader .x) holding ≡ 108 ∷ 109 ∷ 110 ∷ 111 ∷ 112 ∷ 113 ∷ 114 ∷ 115 ∷ []
   -- the premise that fails: the transfer whose request is answered was closed
-  pub closed : (y : Transfer (run late)) × Sent (run late) y 0 1 × (¬ Stands (run late) y 5)
+  pub closed : ¬ Current (run late) (reader .x) 6 slow
+
+-- ── Checked writes ─────────────────────────────────────────────────────────────────────────────────────────────────
+
+-- one of these bytes, opened by call `at`, what status answers after n calls, and that it shows no bytes
+pub record CheckedWrite (cs : List Call) (at n : ℕ) (bs : List ℕ) (number : ℕ) : Type 0 where
+  pub lawful : Lawful (run cs)
+  pub x : Transfer (run cs)
+  pub opened : x .at ≡ at
+  pub checks : isCheck (x .ask) ≡ true
+  pub given : askGiven (x .ask) ≡ bs
+  pub stands : Stands (run cs) x n
+  pub answers : statusAt (run cs) x n ≡ number
+  pub shown : shownAt (run cs) x n ≡ plain number
+
+abbrev pub eight : List ℕ
+eight = 1 ∷ 2 ∷ 3 ∷ 4 ∷ 5 ∷ 6 ∷ 7 ∷ 8 ∷ []
+
+abbrev pub ten : List ℕ
+ten = eight ++ 9 ∷ 10 ∷ []
+
+-- 1 and 2 send its CMDs, 3 and 5 its REQs; the first reply brings what was sent, the second these two bytes
+unfoldable pub readingBack : (a b : ℕ) → List Call
+readingBack a b =
+    opening itsOwn (check 5 7 6 ten)
+    ∷ turn itsOwn
+    ∷ turn itsOwn
+    ∷ turn itsOwn
+    ∷ frame itsOwn (reply 5 0 eight)
+    ∷ turn itsOwn
+    ∷ frame itsOwn (reply 5 8 (a ∷ b ∷ []))
+    ∷ []
+
+-- ── Done: the device's range is what was given ─────────────────────────────────────────────────────────────────────
+
+-- the device is written at moments 2 and 3
+abbrev pub stored : Timeline
+stored = onTime (λ τ. cond (ltb τ 2) holding (cond (ltb τ 3) (after holding 6 eight) (after (after holding 6 eight) 14 (9 ∷ 10 ∷ []))))
+
+pub record StoredShows : Type 0 where
+  pub checker : CheckedWrite (readingBack 9 10) 0 7 ten 0
+  pub premises : Premises (run (readingBack 9 10)) (checker .x) 7 stored 4
+  pub meanwhile : Meanwhile (run (readingBack 9 10)) (checker .x) 7 stored 4 5
+  pub same : range (run (readingBack 9 10)) (checker .x) (stored .device 5) ≡ ten
+  -- it held other bytes before
+  pub earlier : range (run (readingBack 9 10)) (checker .x) (stored .device 0) ≡ 106 ∷ 107 ∷ 108 ∷ 109 ∷ 110 ∷ 111 ∷ 112 ∷ 113 ∷ 114 ∷ 115 ∷ []
+
+-- ── The unplugged box: given up, never done ────────────────────────────────────────────────────────────────────────
+
+unfoldable pub unplugged : List Call
+unplugged = opening itsOwn (check 5 7 6 ten) ∷ replicate 64 (turn itsOwn)
+
+pub record UnpluggedShows : Type 0 where
+  pub checker : CheckedWrite unplugged 0 64 ten 16
+  pub never : (n : ℕ) → n ≤ 64 → ¬ Done (run unplugged) (checker .x) n
+  -- a write is done there, for "done write means sent, no more"
+  pub written : answerTo (run (opening itsOwn (write 5 7 6 ten) ∷ replicate 2 (turn itsOwn))) 3 (status 1) .number ≡ 0
+
+-- ── A device that drops one CMD: different, and its range is not what was given ────────────────────────────────────
+
+-- it takes the first CMD, at moment 2, and drops the second
+abbrev pub dropped : Timeline
+dropped = onTime (λ τ. cond (ltb τ 2) holding (after holding 6 eight))
+
+pub record DroppedShows : Type 0 where
+  pub checker : CheckedWrite (readingBack 114 115) 0 7 ten 18
+  pub premises : Premises (run (readingBack 114 115)) (checker .x) 7 dropped 4
+  -- its second reply is given at moment 6
+  pub replied : Replied (run (readingBack 114 115)) (checker .x) 1 6
+  pub other : range (run (readingBack 114 115)) (checker .x) (dropped .device 6) ≡ eight ++ 114 ∷ 115 ∷ []
+
+-- ── A late reply to a closed read, for a checked write in the same slot ────────────────────────────────────────────
+
+-- the read asks for bytes 0 to 7 and is closed; the checked write, in the same slot, is of bytes 8 to 15: 4 sends its CMD, 5 its REQ; then
+-- a reply of these eight bytes arrives
+unfoldable pub afterClosing : List ℕ → List Call
+afterClosing bs =
+    opening itsOwn (read 5 7 0 8)
+    ∷ turn itsOwn
+    ∷ close 1
+    ∷ opening itsOwn (check 5 7 8 eight)
+    ∷ turn itsOwn
+    ∷ turn itsOwn
+    ∷ frame itsOwn (record { id = idOf 0 rsp 5 0 6; len = 8; bytes = bs })
+    ∷ []
+
+-- the reply answers the checked write's request; the device took its CMD at moment 5
+abbrev pub prompt : Timeline
+prompt = onTime (λ τ. cond (ltb τ 5) holding (after holding 8 eight))
+
+-- it answers the closed read's; the device holds these very bytes there, and drops the CMD
+abbrev pub lateEqual : Timeline
+lateEqual = toClosed (λ τ. after holding 0 eight)
+
+-- the same calls, by which it is done, in both: with the premise the range is what was given, without it it is other
+pub record LateEqualShows : Type 0 where
+  pub checker : CheckedWrite (afterClosing eight) 3 7 eight 0
+  pub premises : Premises (run (afterClosing eight)) (checker .x) 7 prompt 6
+  pub meanwhile : Meanwhile (run (afterClosing eight)) (checker .x) 7 prompt 6 6
+  pub same : range (run (afterClosing eight)) (checker .x) (prompt .device 6) ≡ eight
+  pub own : (m : ℕ) (f : Frame) → Arrives (run (afterClosing eight)) (checker .x) 7 m f → Own (run (afterClosing eight)) lateEqual m f
+  pub first : NotAfter (run (afterClosing eight)) (checker .x) 7 lateEqual 6
+  pub unwritten : Unwritten (run (afterClosing eight)) (checker .x) lateEqual (Meanwhile (run (afterClosing eight)) (checker .x) 7 lateEqual 6)
+  pub other : range (run (afterClosing eight)) (checker .x) (lateEqual .device 6) ≡ 108 ∷ 109 ∷ 110 ∷ 111 ∷ 112 ∷ 113 ∷ 114 ∷ 115 ∷ []
+  -- the premise that fails: the transfer whose request is answered was closed
+  pub closed : ¬ Current (run (afterClosing eight)) (checker .x) 7 lateEqual
+
+-- a reply to the closed read; the device took the CMD at moment 5
+abbrev pub lateOther : Timeline
+lateOther = toClosed (prompt .device)
+
+abbrev pub hundred : List ℕ
+hundred = 100 ∷ 101 ∷ 102 ∷ 103 ∷ 104 ∷ 105 ∷ 106 ∷ 107 ∷ []
+
+-- different, though the range is what was given when the device answered
+pub record LateOtherShows : Type 0 where
+  pub checker : CheckedWrite (afterClosing hundred) 3 7 eight 18
+  pub own : (m : ℕ) (f : Frame) → Arrives (run (afterClosing hundred)) (checker .x) 7 m f → Own (run (afterClosing hundred)) lateOther m f
+  pub replied : Replied (run (afterClosing hundred)) (checker .x) 0 6
+  pub same : range (run (afterClosing hundred)) (checker .x) (lateOther .device 6) ≡ eight
+  pub closed : ¬ Current (run (afterClosing hundred)) (checker .x) 7 lateOther
+
+-- ── A late reply to a closed checked write, for a read in the same slot ────────────────────────────────────────────
+
+-- the checked write is of bytes 0 to 7, 2 sends its REQ, and it is closed; the read asks for bytes 8 to 15; then the reply to the checked
+-- write arrives
+unfoldable pub closedCheck : List Call
+closedCheck =
+    opening itsOwn (check 5 7 0 eight)
+    ∷ turn itsOwn
+    ∷ turn itsOwn
+    ∷ close 1
+    ∷ opening itsOwn (read 5 7 8 8)
+    ∷ turn itsOwn
+    ∷ frame itsOwn (reply 5 0 eight)
+    ∷ []
+
+abbrev pub lateChecked : Timeline
+lateChecked = record { when = λ k. k; device = λ τ. after holding 0 eight; asked = λ m. 2; answered = λ m. m }
+
+-- the read is done and shows the checked write's bytes: "requests and replies of the reading back count there as a read's do"
+pub record LateCheckShows : Type 0 where
+  pub reader : DoneRead closedCheck 4 7 eight
+  pub own : (m : ℕ) (f : Frame) → Arrives (run closedCheck) (reader .x) 7 m f → Own (run closedCheck) lateChecked m f
+  pub asked : range (run closedCheck) (reader .x) (after holding 0 eight) ≡ 108 ∷ 109 ∷ 110 ∷ 111 ∷ 112 ∷ 113 ∷ 114 ∷ 115 ∷ []
+  pub closed : ¬ Current (run closedCheck) (reader .x) 7 lateChecked
 
 -- all of it
 pub record Examples : Type 0 where
@@ -258,3 +399,9 @@ pub record Examples : Type 0 where
   pub tornShows : TornShows
   pub forgedShows : ForgedShows
   pub lateShows : LateShows
+  pub storedShows : StoredShows
+  pub unpluggedShows : UnpluggedShows
+  pub droppedShows : DroppedShows
+  pub lateEqualShows : LateEqualShows
+  pub lateOtherShows : LateOtherShows
+  pub lateCheckShows : LateCheckShows

@@ -1,8 +1,10 @@
 -- The examples, by computing them. It stands on no law, and its name comes first: a wrong definition is refused here, by what it makes of an
 -- example, before it is by a law.
 use mathlib.Core.Path.{refl}
-use Rattle.bridge_rules.specs.Examples.{reply, numbersOf, sendsOf, framesOf, silence, fetching, taking, closing}
-use Rattle.bridge_rules.specs.Examples.{Unstarred, Fetched, ByTurns, Ended, Limits, Openings, Examples}
+use Rattle.bridge_rules.specs.Examples.{reply, numbersOf, sendsOf, framesOf, statusesOf, silence, fetching, taking, readingBack, unplugged}
+use Rattle.bridge_rules.specs.Examples.{dropping, threeKinds, closing, inOrder, Unstarred, Fetched, ByTurns, Checked, Unplugged, Dropped}
+use Rattle.bridge_rules.specs.Examples.{heldUp, slowly, turnsAmong, SlowRead, SlowCheck, OwnBuffers, Ended, Limits, CheckedLimits}
+use Rattle.bridge_rules.specs.Examples.{Openings, ShortBuffers, Examples}
 use Rattle.bridge_rules.proofs.Computing.{everything}
 
 reckoned : Unstarred
@@ -16,6 +18,61 @@ is-fetched = record { numbers = refl; requests = refl; kept = refl; hidden = ref
 by-turns : ByTurns
 unfolding everything taking framesOf
 by-turns = record { commands = refl }
+
+is-checked : Checked
+unfolding everything readingBack reply numbersOf sendsOf framesOf statusesOf
+is-checked = record {
+  kept = refl;
+  copied = refl;
+  statuses = refl;
+  sends = refl;
+  frames = refl;
+  numbers = refl;
+  stored = refl;
+  opened = refl;
+  ended = refl;
+  hidden = refl;
+  shown = refl;
+}
+
+is-unplugged : Unplugged
+unfolding everything unplugged sendsOf statusesOf
+is-unplugged = record { sends = refl; statuses = refl; kept = refl; shown = refl }
+
+is-dropped : Dropped
+unfolding everything dropping reply numbersOf sendsOf statusesOf
+is-dropped = record {
+  eighteen = refl;
+  statuses = refl;
+  numbers = refl;
+  sends = refl;
+  notStored = refl;
+  stored = refl;
+  ended = refl;
+  shown = refl;
+}
+
+slow-read : SlowRead
+unfolding everything slowly heldUp turnsAmong
+slow-read = record { bound = refl; elapsed = refl; unfinished = refl; givenUp = refl }
+
+slow-check : SlowCheck
+unfolding everything slowly heldUp turnsAmong
+slow-check = record { bound = refl; elapsed = refl; unfinished = refl; givenUp = refl }
+
+own-buffers : OwnBuffers
+unfolding everything threeKinds reply framesOf
+own-buffers = record {
+  first = refl;
+  slotZero = refl;
+  slotOne = refl;
+  copied = refl;
+  frames = refl;
+  stored = refl;
+  written = refl;
+  checked = refl;
+  shown = refl;
+}
 
 is-ended : Ended
 unfolding everything closing numbersOf framesOf
@@ -57,20 +114,58 @@ limits = record {
   noKind = refl;
 }
 
-openings : Openings
+checked-limits : CheckedLimits
 unfolding everything
-openings = record {
-  unsound = refl;
-  otherBuffer = refl;
-  noDevice = refl;
-  noTable = refl;
-  tooMany = refl;
-  pastTable = refl;
-  noSlot = refl;
-  noTicket = refl;
-  accepted = refl;
+checked-limits = record {
+  sending = refl;
+  readied = refl;
+  waits = refl;
+  whole = refl;
+  givenUp = refl;
+  differs = refl;
+  sendingDone = refl;
+  sendingEnded = refl;
+  sendingWhole = refl;
+  sendingWaits = refl;
+  sendingGivesUp = refl;
+  sendingDiffers = refl;
+  sendingSends = refl;
+  readyWhole = refl;
+  readySends = refl;
+  noSends = refl;
+  manyTurns = refl;
+  gaveUpSends = refl;
+  doneSends = refl;
+  readDiffers = refl;
+  writeDiffers = refl;
+  differsSends = refl;
+  differsTurns = refl;
+  differsWhole = refl;
+  differsWithin = refl;
 }
 
+openings : Openings
+unfolding everything inOrder
+openings = record { reads = refl; writes = refl; checks = refl }
+
+short-buffers : ShortBuffers
+unfolding everything
+short-buffers = record { whole = refl; first = refl; second = refl; keptFirst = refl; keptSecond = refl }
+
 pub examples : Examples
-examples =
-    record { unstarred = reckoned; fetched = is-fetched; byTurns = by-turns; ended = is-ended; limits = limits; openings = openings }
+examples = record {
+  unstarred = reckoned;
+  fetched = is-fetched;
+  byTurns = by-turns;
+  checked = is-checked;
+  unplugged = is-unplugged;
+  dropped = is-dropped;
+  slowRead = slow-read;
+  slowCheck = slow-check;
+  ownBuffers = own-buffers;
+  ended = is-ended;
+  limits = limits;
+  checkedLimits = checked-limits;
+  openings = openings;
+  shortBuffers = short-buffers;
+}

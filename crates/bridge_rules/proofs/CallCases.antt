@@ -1,13 +1,13 @@
--- What a call on a sound bridge does: one of seven cases.
+-- What a call on a sound bridge does: one of eight cases.
 use Prim.Native.Nat.{ℕ, suc, _+_, _*_, _%_, _≤_, _<_}
 use mathlib.Core.Path.{_≡_, refl, sym, _∙_, ap}
 use mathlib.Core.Logic.{_⊎_, inl, inr, _≢_}
 use mathlib.Core.List.{List, []}
 use mathlib.Core.Option.{Option, none, some}
-use mathlib.Core.Bool.{Bool, true, false, not, _&&_}
+use mathlib.Core.Bool.{Bool, true, false, not, _&&_, and-false}
 use native.Mathlib.Omega.{arith}
 use native.Mathlib.Decide.{decLe}
-use lib.ListN.{length, set}
+use lib.ListN.{set}
 use lib.Seq.{sets}
 use lib.Dec.{eqb}
 use borrow.Author.Tests.{eqb-true, eqb-false, ne-eqb, lt-ltb, le-ltb, not-true}
@@ -15,15 +15,15 @@ use Rattle.bus_rules.specs.Frames.{content}
 use Rattle.wire.specs.Order.{_if_else_}
 use Rattle.bridge_rules.specs.State.{Frame, Bridge, blank, slot, fresh, sound, isReady, isFree, isNone, orZero, lowestFree, heldSlot, nextReady}
 use Rattle.bridge_rules.specs.State.{withSlots}
-use Rattle.bridge_rules.specs.Answers.{Result, plain}
-use Rattle.bridge_rules.specs.Opening.{Ask, askGiven, opened, openNumber, openOf}
+use Rattle.bridge_rules.specs.Answers.{Buffers, Result, both, rightLengths, plain}
+use Rattle.bridge_rules.specs.Opening.{Ask, withGiven, opened, openNumber, openOf}
 use Rattle.bridge_rules.specs.Turn.{advanced, agedBridge, sendFor, turnOf}
-use Rattle.bridge_rules.specs.Incoming.{awaits, contentNumber, awaiting, replyNumber, frameOf}
+use Rattle.bridge_rules.specs.Incoming.{awaits, contentNumber, awaiting, replyNumber, differs, differed, takeFor, frameOf}
 use Rattle.bridge_rules.specs.Ending.{closeNumber, closeOf, resetOf, bytesOf, resetNumber}
 use Rattle.bridge_rules.specs.Call.{Call, itsOwn, other, opening, turn, frame, status, bytes, close, reset, step, lentList}
 use Rattle.bridge_rules.specs.Run.{Shaped, isTurn}
 use Rattle.bridge_rules.proofs.NumberLaws.{else-first, else-second, LawfulAsk, OpenFacts, open-facts, lent-clear, lent-ten, open-ten, reply-later}
-use Rattle.bridge_rules.proofs.NumberLaws.{reply-ten}
+use Rattle.bridge_rules.proofs.NumberLaws.{reply-ten, RightLengths}
 use Rattle.bridge_rules.proofs.Search.{option-cases, cases, and-true, contradiction, Found, Lowest, search-some, search-none, lowest-some, lowest-none}
 use Rattle.bridge_rules.proofs.Search.{Outcome, through, refused, outcome}
 use Rattle.bridge_rules.proofs.SoundTest.{Sound, sound-true}
@@ -66,28 +66,32 @@ readyAt s k = isReady (slot s k .phase)
 abbrev pub heldBy : Bridge → ℕ → ℕ → Bool
 heldBy s t k = not (isFree (slot s k .phase)) && eqb (slot s k .ticket) t
 
-abbrev pub openResult : Bridge → List ℕ → Ask → ℕ → Result
+abbrev pub openResult : Bridge → Buffers → Ask → ℕ → Result
 openResult s b a k = record {
   answer = record { number = 0; ticket = suc (s .issued); sent = none; shown = [] };
   state = record { own = s .own; last = s .last; issued = suc (s .issued); slots = set (s .slots) k (opened a (suc (s .issued))) };
-  buffer = sets b (128 * k) (askGiven a);
+  buffers = withGiven b k a;
 }
 
-abbrev pub takeResult : Bridge → List ℕ → Frame → ℕ → Result
+-- a reply is stored, or ends a checked write as different
+abbrev pub takeResult : Bridge → Buffers → Frame → ℕ → Result
 takeResult s b f k = record {
   answer = plain 0;
   state = withSlots s (set (s .slots) k (advanced (slot s k)));
-  buffer = sets b (128 * k + slot s k .progress) (content f);
+  buffers = both (sets (b .first) (128 * k + slot s k .progress) (content f)) (b .second);
 }
 
-abbrev pub closeResult : Bridge → List ℕ → ℕ → Result
-closeResult s b k = record { answer = plain 0; state = withSlots s (set (s .slots) k blank); buffer = b }
+abbrev pub differResult : Bridge → Buffers → ℕ → Result
+differResult s b k = record { answer = plain 0; state = withSlots s (set (s .slots) k (differed (slot s k))); buffers = b }
 
-module _ (s : Bridge) (b : List ℕ) (c : Call) where
+abbrev pub closeResult : Bridge → Buffers → ℕ → Result
+closeResult s b k = record { answer = plain 0; state = withSlots s (set (s .slots) k blank); buffers = b }
+
+module _ (s : Bridge) (b : Buffers) (c : Call) where
   -- nothing changes: it is refused, or status or bytes
   pub record Nothing : Type 0 where
     pub state : step s b c .state ≡ s
-    pub buffer : step s b c .buffer ≡ b
+    pub buffers : step s b c .buffers ≡ b
     pub silent : step s b c .answer .sent ≡ none
     pub noTurn : (isTurn c && eqb (step s b c .answer .number) 0) ≡ false
     pub unnoted : (isNoted c && eqb (step s b c .answer .number) 0) ≡ false
@@ -125,7 +129,19 @@ module _ (s : Bridge) (b : List ℕ) (c : Call) where
     pub passes : contentNumber (s .own) f ≡ 0
     pub bound : k < 4
     pub awaited : awaits s f k ≡ true
+    pub agrees : differs k (slot s k) (b .second) f ≡ false
     pub result : step s b c ≡ takeResult s b f k
+
+  -- a frame is the reply that slot k awaits, and brings other bytes than it sent
+  pub record Disagrees : Type 0 where
+    pub f : Frame
+    pub k : ℕ
+    pub call : c ≡ frame itsOwn f
+    pub passes : contentNumber (s .own) f ≡ 0
+    pub bound : k < 4
+    pub awaited : awaits s f k ≡ true
+    pub other : differs k (slot s k) (b .second) f ≡ true
+    pub result : step s b c ≡ differResult s b k
 
   -- a closing frees slot k
   pub record ClosesSlot : Type 0 where
@@ -141,14 +157,15 @@ module _ (s : Bridge) (b : List ℕ) (c : Call) where
     pub o : ℕ
     pub call : c ≡ reset o
     pub small : o ≤ 15
-    pub result : step s b c ≡ record { answer = plain 0; state = fresh o; buffer = b }
+    pub result : step s b c ≡ record { answer = plain 0; state = fresh o; buffers = b }
 
-pub data CallCase (s : Bridge) (b : List ℕ) (c : Call) : Type 0 where
+pub data CallCase (s : Bridge) (b : Buffers) (c : Call) : Type 0 where
   nothing : Nothing s b c → CallCase s b c
   opens : OpensSlot s b c → CallCase s b c
   sends : SendsSlot s b c → CallCase s b c
   idles : SendsNone s b c → CallCase s b c
   takes : TakesReply s b c → CallCase s b c
+  disagrees : Disagrees s b c → CallCase s b c
   closes : ClosesSlot s b c → CallCase s b c
   resets : Resets s b c → CallCase s b c
 
@@ -157,16 +174,12 @@ pub data CallCase (s : Bridge) (b : List ℕ) (c : Call) : Type 0 where
 not-frame : (c : Call) → isFrame c ≡ false → (f : Frame) → c ≡ frame itsOwn f → ⊥
 not-frame c p f e = contradiction (ap isFrame e) p
 
-and-false : (b : Bool) → (b && false) ≡ false
-and-false true = refl
-and-false false = refl
-
 -- a refused call
-refuses : (s : Bridge) (b : List ℕ) (c : Call) (n : ℕ) → n ≢ 0 → isFrame c ≡ false
-    → step s b c ≡ record { answer = plain n; state = s; buffer = b } → CallCase s b c
+refuses : (s : Bridge) (b : Buffers) (c : Call) (n : ℕ) → n ≢ 0 → isFrame c ≡ false
+    → step s b c ≡ record { answer = plain n; state = s; buffers = b } → CallCase s b c
 refuses s b c n z p e = nothing (record {
   state = ap (λ (r : Result). r .state) e;
-  buffer = ap (λ (r : Result). r .buffer) e;
+  buffers = ap (λ (r : Result). r .buffers) e;
   silent = ap (λ (r : Result). r .answer .sent) e;
   noTurn = rw (e, ne-eqb n 0 z) (and-false (isTurn c));
   unnoted = rw (e, ne-eqb n 0 z) (and-false (isNoted c));
@@ -177,21 +190,29 @@ bytes-silent : (s : Bridge) (b : List ℕ) (t : ℕ) → bytesOf s b t .sent ≡
 unfolding bytesOf
 bytes-silent s b t = refl
 
-module _ (s : Bridge) (b : List ℕ) (h : Sound s) (lb : length b ≡ 512) where
+pub take-same : (s : Bridge) (b : Buffers) (f : Frame) (k : ℕ) → differs k (slot s k) (b .second) f ≡ false → takeFor s b f k ≡ takeResult s b f k
+unfolding takeFor
+take-same s b f k e = rw e
+
+pub take-other : (s : Bridge) (b : Buffers) (f : Frame) (k : ℕ) → differs k (slot s k) (b .second) f ≡ true → takeFor s b f k ≡ differResult s b k
+unfolding takeFor
+take-other s b f k e = rw e
+
+module _ (s : Bridge) (b : Buffers) (h : Sound s) (lb : RightLengths b) where
   -- the test `sound` passes
   ss : sound s ≡ true
   ss = sound-true s h
 
-  -- a refused call on another buffer, whose length is wrong
-  refuses-other : (c : Call) (l : List ℕ) (n : ℕ) (r : Result) → n ≢ 0 → r ≡ record { answer = plain n; state = s; buffer = l }
+  -- a refused call on other buffers, not both whole
+  refuses-other : (c : Call) (l : Buffers) (n : ℕ) (r : Result) → n ≢ 0 → r ≡ record { answer = plain n; state = s; buffers = l }
       → isFrame c ≡ false
-      → step s b c ≡ record { answer = r .answer; state = r .state; buffer = b } → CallCase s b c
+      → step s b c ≡ record { answer = r .answer; state = r .state; buffers = b } → CallCase s b c
   refuses-other c l n r z e p q = refuses s b c n z p (q
-      ∙ ap (λ (u : Result). record { answer = u .answer; state = u .state; buffer = b }) e)
+      ∙ ap (λ (u : Result). record { answer = u .answer; state = u .state; buffers = b }) e)
 
   opening-own : (a : Ask) → CallCase s b (opening itsOwn a)
   unfolding step openOf lowestFree
-  opening-own a = go (outcome (openNumber s (length b) a) (openResult s b a (orZero (lowestFree s))) s b)
+  opening-own a = go (outcome (openNumber s (rightLengths b) a) (openResult s b a (orZero (lowestFree s))) s b)
     where
       pick : OpenFacts s a → openOf s b a ≡ openResult s b a (orZero (lowestFree s))
           → (lowestFree s ≡ none) ⊎ ((k : ℕ) × (lowestFree s ≡ some k)) → CallCase s b (opening itsOwn a)
@@ -207,22 +228,22 @@ module _ (s : Bridge) (b : List ℕ) (h : Sound s) (lb : length b ≡ 512) where
         result = e ∙ ap (λ (o : Option ℕ). openResult s b a (orZero o)) (z .1);
       })
 
-      go : Outcome (openNumber s (length b) a) (openResult s b a (orZero (lowestFree s))) s b (openOf s b a)
+      go : Outcome (openNumber s (rightLengths b) a) (openResult s b a (orZero (lowestFree s))) s b (openOf s b a)
           → CallCase s b (opening itsOwn a)
-      go (refused n e) = refuses s b (opening itsOwn a) (openNumber s (length b) a) n refl e
-      go (through n e) = pick (open-facts s (length b) a n) e (option-cases (lowestFree s))
+      go (refused n e) = refuses s b (opening itsOwn a) (openNumber s (rightLengths b) a) n refl e
+      go (through n e) = pick (open-facts s (rightLengths b) a n) e (option-cases (lowestFree s))
 
-  opening-other : (a : Ask) (l : List ℕ) → length l ≢ 512 → CallCase s b (opening (other l) a)
+  opening-other : (a : Ask) (l : Buffers) → ¬ RightLengths l → CallCase s b (opening (other l) a)
   unfolding step openOf
   opening-other a l d =
-      refuses-other (opening (other l) a) l 10 (openOf s l a) (λ z. omega arith) (rw (open-ten s (length l) a ss d)) refl refl
+      refuses-other (opening (other l) a) l 10 (openOf s l a) (λ z. omega arith) (rw (open-ten s l a ss d)) refl refl
 
   turn-own : CallCase s b (turn itsOwn)
   unfolding step turnOf nextReady agedBridge
   turn-own = go (option-cases (nextReady (agedBridge s)))
     where
       e : turnOf s b ≡ sendFor (agedBridge s) b (nextReady (agedBridge s))
-      e = rw (lent-clear s (length b) ss lb)
+      e = rw (lent-clear s b ss lb)
 
       go : (nextReady (agedBridge s) ≡ none) ⊎ ((k : ℕ) × (nextReady (agedBridge s) ≡ some k)) → CallCase s b (turn itsOwn)
       go (inl z) = idles (record {
@@ -237,29 +258,52 @@ module _ (s : Bridge) (b : List ℕ) (h : Sound s) (lb : length b ≡ 512) where
         result = e ∙ ap (sendFor (agedBridge s) b) (z .1);
       })
 
-  turn-other : (l : List ℕ) → length l ≢ 512 → CallCase s b (turn (other l))
+  turn-other : (l : Buffers) → ¬ RightLengths l → CallCase s b (turn (other l))
   unfolding step turnOf
-  turn-other l d = refuses-other (turn (other l)) l 10 (turnOf s l) (λ z. omega arith) (rw (lent-ten s (length l) ss d)) refl refl
+  turn-other l d = refuses-other (turn (other l)) l 10 (turnOf s l) (λ z. omega arith) (rw (lent-ten s l ss d)) refl refl
 
   pub frame-own : (f : Frame) → CallCase s b (frame itsOwn f)
   unfolding step frameOf awaiting _if_else_
   frame-own f = go (cases (eqb (contentNumber (s .own) f) 0)) (option-cases (awaiting s f))
     where
-      awaited : contentNumber (s .own) f ≡ 0 → replyNumber s (length b) f ≡ (17 if isNone (awaiting s f) else 0)
-      awaited z = reply-later s (length b) f ss lb ∙ else-second _ _ z
+      awaited : contentNumber (s .own) f ≡ 0 → replyNumber s (rightLengths b) f ≡ (17 if isNone (awaiting s f) else 0)
+      awaited z = reply-later s b f ss lb ∙ else-second _ _ z
 
-      stopped : contentNumber (s .own) f ≢ 0 → replyNumber s (length b) f ≡ contentNumber (s .own) f
-      stopped z = reply-later s (length b) f ss lb ∙ else-first _ _ z
+      stopped : contentNumber (s .own) f ≢ 0 → replyNumber s (rightLengths b) f ≡ contentNumber (s .own) f
+      stopped z = reply-later s b f ss lb ∙ else-first _ _ z
 
-      no-reply : (n : ℕ) → n ≢ 0 → frameOf s b f ≡ record { answer = plain n; state = s; buffer = b }
+      no-reply : (n : ℕ) → n ≢ 0 → frameOf s b f ≡ record { answer = plain n; state = s; buffers = b }
           → ((k : ℕ) → contentNumber (s .own) f ≡ 0 → k < 4 → awaits s f k ≡ false) → CallCase s b (frame itsOwn f)
       no-reply n z e w = nothing (record {
         state = ap (λ (r : Result). r .state) e;
-        buffer = ap (λ (r : Result). r .buffer) e;
+        buffers = ap (λ (r : Result). r .buffers) e;
         silent = ap (λ (r : Result). r .answer .sent) e;
         noTurn = refl;
         unnoted = refl;
         unawaited = λ g q p k l. let q′ : f ≡ g = cc in rw (← q′) (w k (rw q′ p) l);
+      })
+
+      judge : (k : ℕ) → Lowest (awaits s f) k → contentNumber (s .own) f ≡ 0 → frameOf s b f ≡ takeFor s b f k
+          → (differs k (slot s k) (b .second) f ≡ true) ⊎ (differs k (slot s k) (b .second) f ≡ false) → CallCase s b (frame itsOwn f)
+      judge k w p e (inl d) = disagrees (record {
+        f = f;
+        k = k;
+        call = refl;
+        passes = p;
+        bound = w .bound;
+        awaited = w .passes;
+        other = d;
+        result = e ∙ take-other s b f k d;
+      })
+      judge k w p e (inr d) = takes (record {
+        f = f;
+        k = k;
+        call = refl;
+        passes = p;
+        bound = w .bound;
+        awaited = w .passes;
+        agrees = d;
+        result = e ∙ take-same s b f k d;
       })
 
       go : (eqb (contentNumber (s .own) f) 0 ≡ true) ⊎ (eqb (contentNumber (s .own) f) 0 ≡ false)
@@ -267,25 +311,17 @@ module _ (s : Bridge) (b : List ℕ) (h : Sound s) (lb : length b ≡ 512) where
       go (inl p) (inl z) = no-reply 17 (λ z. omega arith) (rw (awaited (eqb-true _ 0 p), z)) (λ k q l. lowest-none (awaits s f) z k l)
       go (inl p) (inr z) =
           let w : Lowest (awaits s f) (z .0) = lowest-some (awaits s f) (z .0) (z .1) in
-          takes (record {
-            f = f;
-            k = z .0;
-            call = refl;
-            passes = eqb-true _ 0 p;
-            bound = w .bound;
-            awaited = w .passes;
-            result = rw (awaited (eqb-true _ 0 p), z .1);
-          })
+          judge (z .0) w (eqb-true _ 0 p) (rw (awaited (eqb-true _ 0 p), z .1)) (cases (differs (z .0) (slot s (z .0)) (b .second) f))
       go (inr p) z = no-reply (contentNumber (s .own) f) (eqb-false _ 0 p) (rw (stopped (eqb-false _ 0 p), p))
           (λ k q l. absurd (eqb-false _ 0 p q))
 
-  pub frame-other : (f : Frame) (l : List ℕ) → length l ≢ 512 → CallCase s b (frame (other l) f)
+  pub frame-other : (f : Frame) (l : Buffers) → ¬ RightLengths l → CallCase s b (frame (other l) f)
   unfolding step frameOf
   frame-other f l d =
-      let e : frameOf s l f ≡ record { answer = plain 10; state = s; buffer = l } = rw (reply-ten s (length l) f ss d) in
+      let e : frameOf s l f ≡ record { answer = plain 10; state = s; buffers = l } = rw (reply-ten s l f ss d) in
       nothing (record {
         state = ap (λ (r : Result). r .state) e;
-        buffer = refl;
+        buffers = refl;
         silent = ap (λ (r : Result). r .answer .sent) e;
         noTurn = refl;
         unnoted = refl;
@@ -320,11 +356,11 @@ module _ (s : Bridge) (b : List ℕ) (h : Sound s) (lb : length b ≡ 512) where
       go (no p) = refuses s b (reset o) 11 (λ z. omega arith) refl (rw (lt-ltb 15 o (omega arith)))
 
   -- status and bytes
-  reads-only : (c : Call) → step s b c .state ≡ s → step s b c .buffer ≡ b → step s b c .answer .sent ≡ none → isTurn c ≡ false
+  reads-only : (c : Call) → step s b c .state ≡ s → step s b c .buffers ≡ b → step s b c .answer .sent ≡ none → isTurn c ≡ false
       → isNoted c ≡ false → isFrame c ≡ false → CallCase s b c
   reads-only c p q r t o n = nothing (record {
     state = p;
-    buffer = q;
+    buffers = q;
     silent = r;
     noTurn = rw t;
     unnoted = rw o;
@@ -340,6 +376,6 @@ module _ (s : Bridge) (b : List ℕ) (h : Sound s) (lb : length b ≡ 512) where
   callCase (frame itsOwn f) d = frame-own f
   callCase (frame (other l) f) d = frame-other f l (d .0)
   callCase (status t) d = reads-only (status t) refl refl refl refl refl refl
-  callCase (bytes l t) d = reads-only (bytes l t) refl refl (bytes-silent s (lentList b l) t) refl refl refl
+  callCase (bytes l t) d = reads-only (bytes l t) refl refl (bytes-silent s (lentList (b .first) l) t) refl refl refl
   callCase (close t) d = close-own t
   callCase (reset o) d = reset-own o

@@ -1,42 +1,42 @@
 -- What a call answered 0 changes: openings, turns, frames, closings, resets and the rest.
-use Prim.Native.Nat.{ℕ, suc, _+_, _*_, _-_, _≤_, _<_}
+use Prim.Native.Nat.{ℕ, suc, _+_, _*_, _≤_, _<_}
 use mathlib.Core.Path.{_≡_, refl, sym, _∙_, ap, subst}
 use mathlib.Core.Logic.{_⊎_, inl, inr}
 use mathlib.Core.List.{List}
 use mathlib.Core.Option.{none, some}
 use mathlib.Core.Bool.{true, false}
 use native.Mathlib.Omega.{arith}
-use lib.ListN.{length}
-use lib.Seq.{length-sets, getD-take}
+use lib.ListN.{length, getD, set, drop, length-take, length-drop}
+use lib.Seq.{sets, length-sets, getD-take, getD-drop, ext-getD}
 use borrow.Author.Tests.{ne-eqb, eq-eqb, eqb-true, eqb-false, lt-leb, lt-ltb, le-ltb, not-false, not-true}
-use Rattle.wire.specs.Order.{_if_else_}
 use Rattle.wire.proofs.Orders.{if-zero, else-zero}
 use Rattle.bus_rules.specs.Frames.{content}
-use Rattle.bridge_rules.specs.State.{Frame, Bridge, Slot, free, ready, waiting, done, blank, slot, fresh, moved, sound, isNone, orZero, lowestFree}
-use Rattle.bridge_rules.specs.State.{heldSlot}
-use Rattle.bridge_rules.specs.Answers.{Result}
-use Rattle.bridge_rules.specs.Opening.{Ask, askGiven, opened, openNumber, openOf}
-use Rattle.bridge_rules.specs.Turn.{ticked, aged, agedBridge, advanced, requested, sentSlot, sentFrame, sendFor, chunkLen}
-use Rattle.bridge_rules.specs.Incoming.{awaits, awaiting, replyNumber, frameOf}
+use Rattle.bus_rules.specs.Ident.{idOffset}
+use Rattle.bridge_rules.specs.State.{Frame, Bridge, Slot, free, ready, waiting, done, reads, writes, checks, readsBack, blank, slot, fresh, moved}
+use Rattle.bridge_rules.specs.State.{withSlots, sound, isNone, orZero, lowestFree, heldSlot}
+use Rattle.bridge_rules.specs.Answers.{Buffers, Result, both, rightLengths, plain}
+use Rattle.bridge_rules.specs.Opening.{Ask, read, write, check, askGiven, toFirst, toSecond, opened, openNumber, openOf}
+use Rattle.bridge_rules.specs.Turn.{ticked, aged, agedBridge, advanced, requested, readBack, carried, sentSlot, sentFrame, sendFor, chunkLen}
+use Rattle.bridge_rules.specs.Incoming.{awaits, awaiting, replyNumber, differs, differed, takeFor, frameOf}
 use Rattle.bridge_rules.specs.Ending.{closeNumber, closeOf, resetOf}
 use Rattle.bridge_rules.specs.Call.{itsOwn, turn, close, step}
-use Rattle.bridge_rules.specs.Changes.{Takes, OpenChanges, MovesOn, Ages, Sends, Turned, TurnChanges, Stored, FrameChanges, Frees, CloseChanges}
-use Rattle.bridge_rules.specs.Changes.{ResetChanges, NextBytes, NothingChanged, Changes}
-use Rattle.bridge_rules.proofs.KindTests.{reads-asks, writes-carries}
-use Rattle.bridge_rules.proofs.NumberLaws.{LawfulAsk, lent-ok, open-facts, open-lent}
+use Rattle.bridge_rules.specs.Changes.{MovesOn, Ages, Sends, Copied, Takes, OpenChanges, NextBytes, Turned, TurnChanges, Stored, NotStored, SameByte}
+use Rattle.bridge_rules.specs.Changes.{TakenReply, FrameChanges, Frees, CloseChanges, ResetChanges, NothingChanged, Changes}
+use Rattle.bridge_rules.proofs.KindTests.{kinds-ask, kinds-carry, kind-checking, kind-compares, writes-not-checking, reads-not-compared}
+use Rattle.bridge_rules.proofs.NumberLaws.{LawfulAsk, RightLengths, lent-ok, open-facts, open-lent}
 use Rattle.bridge_rules.proofs.FrameLaws.{content-length}
 use Rattle.bridge_rules.proofs.BufferParts.{getD-sets-below, getD-sets-above, getD-sets-in}
+use Rattle.bridge_rules.proofs.Comparing.{sentThere, differs-compares, differs-other, agrees-same}
 use Rattle.bridge_rules.proofs.AwaitsTest.{AwaitsOk, awaits-ok}
-use Rattle.bridge_rules.proofs.Search.{none-some, some-eq, contradiction, option-cases, and-true, Found, Lowest, lowest-some}
+use Rattle.bridge_rules.proofs.Search.{none-some, some-eq, cases, contradiction, option-cases, and-true, Found, Lowest, lowest-some}
 use Rattle.bridge_rules.proofs.Search.{Outcome, through, refused, outcome}
 use Rattle.bridge_rules.proofs.SlotOk.{WaitOk, ReadyOk, wait-ok}
-use Rattle.bridge_rules.proofs.SlotChanges.{aged-other, sent-write}
+use Rattle.bridge_rules.proofs.SlotChanges.{aged-other, sent-write, Carry, movesOn, turnsBack, carry}
 use Rattle.bridge_rules.proofs.SoundTest.{Sound, true-sound}
 use Rattle.bridge_rules.proofs.SoundExactly.{blank-zero}
 use Rattle.bridge_rules.proofs.SoundStates.{slot-set-same, slot-set-other, slot-aged, aged-sound, fresh-slot}
-use Rattle.bridge_rules.proofs.CallCases.{CallCase, nothing, opens, sends, idles, takes, closes, resets, callCase, other-call, takeResult}
-use Rattle.bridge_rules.proofs.CallCases.{openResult, freeAt, readyAt, heldBy}
-use Rattle.bridge_rules.proofs.SlotEffects.{given-short}
+use Rattle.bridge_rules.proofs.CallCases.{CallCase, nothing, opens, sends, idles, takes, disagrees, closes, resets, callCase, other-call}
+use Rattle.bridge_rules.proofs.CallCases.{openResult, takeResult, differResult, take-same, take-other, freeAt, readyAt, heldBy}
 use Rattle.bridge_rules.proofs.TurnSends.{turn-lent, next-bytes, found-bound, found-ready, found-first}
 
 -- ── slots ──────────────────────────────────────────────────────────────────────────────────────────────────────────
@@ -60,17 +60,54 @@ aged-ages x = record {
 }
 
 sent-sends : (x : Slot) → x .phase ≡ ready → Sends x (sentSlot x)
-unfolding sentSlot requested
+unfolding sentSlot requested readBack
 sent-sends x r = record {
   readied = r;
-  asked = λ e. rw (reads-asks (x .kind) e);
-  carried = λ e. rw (sent-write x (writes-carries (x .kind) e)) (advanced-moves x 8 (omega arith) (λ l. refl));
+  asked = λ e. rw (kinds-ask (x .kind) e);
+  carried = λ e. rw (sent-write x (kinds-carry (x .kind) (inl e))) (write e (carry x));
+  checked = λ e l. sent-write x (kinds-carry (x .kind) (inr e)) ∙ next l (carry x);
+  turnsBack = λ e l. sent-write x (kinds-carry (x .kind) (inr e)) ∙ last e l (carry x);
+}
+  where
+    eight : MovesOn x (advanced x) 8
+    eight = advanced-moves x 8 (omega arith) (λ l. refl)
+
+    write : x .kind ≡ writes → Carry x → MovesOn x (carried x) 8
+    write e (movesOn q u) = rw q eight
+    write e (turnsBack q c l) = contradiction c (writes-not-checking (x .kind) e)
+
+    next : x .progress + 8 < x .count → Carry x → carried x ≡ moved x ready (x .progress + 8) 0 0
+    next l (movesOn q u) = q ∙ eight .next l
+    next l (turnsBack q c m) = absurd (omega arith)
+
+    last : x .kind ≡ checks → x .count ≤ x .progress + 8 → Carry x → carried x ≡ readBack x
+    last e l (movesOn q u) = absurd (omega (arith, u (kind-checking (x .kind) e)))
+    last e l (turnsBack q c m) = q
+
+-- ── buffers ────────────────────────────────────────────────────────────────────────────────────────────────────────
+
+sets-copied : (b : List ℕ) (p : ℕ) (bytes : List ℕ) → p + length bytes ≤ length b → Copied b (sets b p bytes) p (length bytes) bytes
+sets-copied b p bytes l = record {
+  copied = λ i m. getD-sets-in b p bytes i l m;
+  before = λ i m. getD-sets-below b p bytes i m;
+  after = λ i m. getD-sets-above b p bytes i m;
+  sameLength = length-sets b p bytes;
 }
 
 -- ── openings ───────────────────────────────────────────────────────────────────────────────────────────────────────
 
+-- the bytes given are few
+given-short : (a : Ask) → LawfulAsk a → length (askGiven a) ≤ 128
+given-short (read d t o n) w = omega arith
+given-short (write d t o bs) w = w .few
+given-short (check d t o bs) w = w .few
+
 -- slot k is taken
-module _ (s : Bridge) (b : List ℕ) (a : Ask) (k : ℕ) (h : Sound s) (lb : length b ≡ 512) (w : Lowest (freeAt s) k) (law : LawfulAsk a) where
+module _ (s : Bridge) (b : Buffers) (a : Ask) (k : ℕ) (h : Sound s) (lb : RightLengths b) (w : Lowest (freeAt s) k) (law : LawfulAsk a) where
+  given-copied : (l bytes : List ℕ) → length l ≡ 512 → bytes ≡ askGiven a
+      → Copied l (sets l (128 * k) bytes) (128 * k) (length (askGiven a)) (askGiven a)
+  given-copied l bytes ll e = rw e (sets-copied l (128 * k) (askGiven a) (omega (arith, ll, w .bound, given-short a law)))
+
   opened-takes : Takes s b a (openResult s b a k)
   unfolding opened
   opened-takes = record {
@@ -84,30 +121,30 @@ module _ (s : Bridge) (b : List ℕ) (a : Ask) (k : ℕ) (h : Sound s) (lb : len
     own = refl;
     issued = refl;
     last = refl;
-    copied = λ i m. getD-sets-in b (128 * k) (askGiven a) i (omega (arith, lb, w .bound, given-short a law)) m;
-    before = λ i m. getD-sets-below b (128 * k) (askGiven a) i m;
-    after = λ i m. getD-sets-above b (128 * k) (askGiven a) i m;
-    sameLength = length-sets b (128 * k) (askGiven a);
+    written = λ e. given-copied (b .first) (toFirst a) (lb .0) (rw e);
+    checked = λ e. given-copied (b .second) (toSecond a) (lb .1) (rw e);
+    firstSame = λ e. rw e;
+    secondSame = λ e. rw e;
   }
 
 open-changes : OpenChanges
 unfolding step openOf lowestFree
-open-changes s b a e = go (outcome (openNumber s (length b) a) (openResult s b a (orZero (lowestFree s))) s b)
+open-changes s b a e = go (outcome (openNumber s (rightLengths b) a) (openResult s b a (orZero (lowestFree s))) s b)
   where
-    pick : openNumber s (length b) a ≡ 0 → (lowestFree s ≡ none) ⊎ ((k : ℕ) × (lowestFree s ≡ some k))
+    pick : openNumber s (rightLengths b) a ≡ 0 → (lowestFree s ≡ none) ⊎ ((k : ℕ) × (lowestFree s ≡ some k))
         → Takes s b a (openResult s b a (orZero (lowestFree s)))
-    pick z (inl w) = contradiction (ap isNone w) (open-facts s (length b) a z .slotted)
+    pick z (inl w) = contradiction (ap isNone w) (open-facts s (rightLengths b) a z .slotted)
     pick z (inr (k, w)) =
-        let l = open-lent s (length b) a z in
-        rw w (opened-takes s b a k (true-sound s (l .0)) (l .1) (lowest-some (freeAt s) k w) (open-facts s (length b) a z .law))
+        let l = open-lent s b a z in
+        rw w (opened-takes s b a k (true-sound s (l .0)) (l .1) (lowest-some (freeAt s) k w) (open-facts s (rightLengths b) a z .law))
 
-    go : Outcome (openNumber s (length b) a) (openResult s b a (orZero (lowestFree s))) s b (openOf s b a) → Takes s b a (openOf s b a)
+    go : Outcome (openNumber s (rightLengths b) a) (openResult s b a (orZero (lowestFree s))) s b (openOf s b a) → Takes s b a (openOf s b a)
     go (refused z q) = absurd (z (sym (ap (λ (u : Result). u .answer .number) q) ∙ e))
     go (through z q) = subst (Takes s b a) (sym q) (pick z (option-cases (lowestFree s)))
 
 -- ── turns ──────────────────────────────────────────────────────────────────────────────────────────────────────────
 
-module _ (s : Bridge) (b : List ℕ) where
+module _ (s : Bridge) (b : Buffers) where
   -- a slot that is aged and no more
   ages-at : (k : ℕ) (y : Slot) → y ≡ slot (agedBridge s) k → Ages (slot s k) y
   ages-at k y e = subst (Ages (slot s k)) (sym (e ∙ slot-aged s k)) (aged-ages (slot s k))
@@ -116,17 +153,17 @@ module _ (s : Bridge) (b : List ℕ) where
   unfolding sendFor agedBridge
   idle-turned = record {
     numbers = (refl, refl);
-    buffer = refl;
+    buffers = refl;
     silent = λ e. record { ages = λ k l. ages-at k _ refl; last = refl };
     serves = λ f e. none-some e;
   }
 
-  sent-turned : Sound s → length b ≡ 512 → (k : ℕ) → Found (readyAt (agedBridge s)) (suc (s .last)) 4 k
+  sent-turned : Sound s → RightLengths b → (k : ℕ) → Found (readyAt (agedBridge s)) (suc (s .last)) 4 k
       → Turned s b (sendFor (agedBridge s) b (some k))
   unfolding sendFor agedBridge
   sent-turned h lb k found = record {
     numbers = (refl, refl);
-    buffer = refl;
+    buffers = refl;
     silent = λ e. none-some (sym e);
     serves = λ f e. record {
       k = k;
@@ -148,13 +185,14 @@ module _ (s : Bridge) (b : List ℕ) where
       r : ReadyOk (aged (slot s k))
       r = found-ready s h k found
 
-  module _ (h : Sound s) (lb : length b ≡ 512) (e : step s b (turn itsOwn) .answer .number ≡ 0) where
+  module _ (h : Sound s) (lb : RightLengths b) (e : step s b (turn itsOwn) .answer .number ≡ 0) where
     case-turned : CallCase s b (turn itsOwn) → Turned s b (step s b (turn itsOwn))
     case-turned (nothing u) = contradiction (eq-eqb _ 0 e) (u .noTurn)
     case-turned (opens u) = other-call (u .call) refl refl
     case-turned (sends u) = subst (Turned s b) (sym (u .result)) (sent-turned h lb (u .k) (u .found))
     case-turned (idles u) = subst (Turned s b) (sym (u .result)) idle-turned
     case-turned (takes u) = other-call (u .call) refl refl
+    case-turned (disagrees u) = other-call (u .call) refl refl
     case-turned (closes u) = other-call (u .call) refl refl
     case-turned (resets u) = other-call (u .call) refl refl
 
@@ -167,7 +205,7 @@ turn-changes s b e =
 -- ── frames ─────────────────────────────────────────────────────────────────────────────────────────────────────────
 
 -- slot k takes frame f
-module _ (s : Bridge) (b : List ℕ) (f : Frame) (k : ℕ) (h : Sound s) (lb : length b ≡ 512) (lf : length (f .bytes) ≡ 8) (l : k < 4)
+module _ (s : Bridge) (b : Buffers) (f : Frame) (k : ℕ) (h : Sound s) (lb : RightLengths b) (lf : length (f .bytes) ≡ 8) (l : k < 4)
     (a : AwaitsOk s f k) where
   waits : WaitOk (slot s k)
   waits = wait-ok (slot s k) (h .each k l) (a .waits)
@@ -182,47 +220,104 @@ module _ (s : Bridge) (b : List ℕ) (f : Frame) (k : ℕ) (h : Sound s) (lb : l
   long : length (content f) ≡ f .len
   long = content-length f lf (brings .0)
 
-  fits : 128 * k + slot s k .progress + length (content f) ≤ length b
-  fits = omega (arith, lb, long, brings .1, waits .held .args .few)
+  abbrev place : ℕ
+  place = 128 * k + slot s k .progress
 
-  taken-stored : Stored s b f (takeResult s b f k)
+  fits : place + length (content f) ≤ length (b .first)
+  fits = omega (arith, lb .0, long, brings .1, waits .held .args .few)
+
+  -- it agrees exactly where each byte is what the second buffer has at the same place
+  there-byte : (i : ℕ) → i < f .len → getD (sentThere k (slot s k) (b .second) f) i 0 ≡ getD (b .second) (idOffset (f .id) + i) 0
+  there-byte i m = rw (a .place) (getD-take (f .len) (drop place (b .second)) i 0 m ∙ getD-drop place (b .second) i 0)
+
+  content-byte : (i : ℕ) → i < f .len → getD (content f) i 0 ≡ getD (f .bytes) i 0
   unfolding content
+  content-byte i m = getD-take (f .len) (f .bytes) i 0 m
+
+  agrees-bytes : content f ≡ sentThere k (slot s k) (b .second) f → (i : ℕ) → i < f .len → SameByte b f i
+  agrees-bytes e i m = sym (content-byte i m) ∙ ap (λ (bs : List ℕ). getD bs i 0) e ∙ there-byte i m
+
+  bytes-agree : ((i : ℕ) → i < f .len → SameByte b f i) → content f ≡ sentThere k (slot s k) (b .second) f
+  bytes-agree h = ext-getD 0 (content f) (sentThere k (slot s k) (b .second) f) (long ∙ sym there-long)
+      (λ i m. let m′ : i < f .len = omega (arith, long) in content-byte i m′ ∙ h i m′ ∙ sym (there-byte i m′))
+    where
+      there-long : length (sentThere k (slot s k) (b .second) f) ≡ f .len
+      there-long = length-take (f .len) (drop place (b .second))
+          ∙ omega (arith, length-drop place (b .second), lb .1, brings .1, waits .held .args .few)
+
+  -- what a reply leaves, stored or not
+  abbrev after : Slot → List ℕ → Result
+  after y first = record { answer = plain 0; state = withSlots s (set (s .slots) k y); buffers = both first (b .second) }
+
+  set-here : (y : Slot) (first : List ℕ) → slot (after y first .state) k ≡ y
+  set-here y first = slot-set-same s _ k _ (h .four) refl l
+
+  taken-stored : Stored s b f k (takeResult s b f k)
   taken-stored = record {
-    brought = λ i m. rw (a .place) (getD-sets-in b (128 * k + slot s k .progress) (content f) i fits (omega (arith, long))
-        ∙ getD-take (f .len) (f .bytes) i 0 m);
-    before = λ i m. getD-sets-below b (128 * k + slot s k .progress) (content f) i (omega (arith, a .place));
-    after = λ i m. getD-sets-above b (128 * k + slot s k .progress) (content f) i (omega (arith, a .place, long));
-    sameLength = length-sets b (128 * k + slot s k .progress) (content f);
+    first = rw (a .place) (record {
+      copied = λ i m. copied .copied i (omega (arith, long)) ∙ content-byte i m;
+      before = copied .before;
+      after = λ i m. copied .after i (omega (arith, long));
+      sameLength = copied .sameLength;
+    });
+    moves = subst (λ (y : Slot). MovesOn (slot s k) y (f .len)) (sym (set-here _ (sets (b .first) place (content f))))
+        (advanced-moves (slot s k) (f .len) (brings .0) (brings .2));
+  }
+    where
+      copied : Copied (b .first) (sets (b .first) place (content f)) place (length (content f)) (content f)
+      copied = sets-copied (b .first) place (content f) fits
+
+  not-stored : NotStored s b k (differResult s b k)
+  unfolding differed
+  not-stored = record { first = refl; ends = set-here _ (b .first) }
+
+  taken-reply : (y : Slot) (first : List ℕ) → (slot s k .kind ≡ reads → Stored s b f k (after y first))
+      → (slot s k .kind ≡ readsBack → ((i : ℕ) → i < f .len → SameByte b f i) → Stored s b f k (after y first))
+      → (slot s k .kind ≡ readsBack → (i : ℕ) → i < f .len → ¬ SameByte b f i → NotStored s b k (after y first))
+      → TakenReply s b f (after y first)
+  taken-reply y first r e o = record {
     k = k;
     bound = l;
     waited = waits .phase;
     from = omega (arith, a .place);
     to = omega (arith, a .place, brings .1, waits .held .args .few);
-    moves = subst (λ (y : Slot). MovesOn (slot s k) y (f .len)) (sym (slot-set-same s _ k _ (h .four) refl l))
-        (advanced-moves (slot s k) (f .len) (brings .0) (brings .2));
+    read = r;
+    equal = e;
+    differs = o;
+    second = refl;
     others = λ j d. slot-set-other s _ k j _ refl d;
     numbers = (refl, refl);
     last = refl;
   }
 
+  judged : (differs k (slot s k) (b .second) f ≡ true) ⊎ (differs k (slot s k) (b .second) f ≡ false) → TakenReply s b f (takeFor s b f k)
+  judged (inl d) = rw (take-other s b f k d) (taken-reply (differed (slot s k)) (b .first)
+      (λ e. contradiction (differs-compares k (slot s k) (b .second) f d) (reads-not-compared (slot s k .kind) e))
+      (λ e same. absurd (differs-other k (slot s k) (b .second) f d (bytes-agree same)))
+      (λ e i m n. not-stored))
+  judged (inr d) = rw (take-same s b f k d) (taken-reply (advanced (slot s k)) (sets (b .first) place (content f))
+      (λ e. taken-stored)
+      (λ e same. taken-stored)
+      (λ e i m n. absurd (n (agrees-bytes (agrees-same k (slot s k) (b .second) f (kind-compares (slot s k .kind) e) d) i m))))
+
 frame-changes : FrameChanges
 unfolding step frameOf replyNumber awaiting
-frame-changes s b f lf e = go (outcome (replyNumber s (length b) f) (takeResult s b f (orZero (awaiting s f))) s b)
+frame-changes s b f lf e = go (outcome (replyNumber s (rightLengths b) f) (takeFor s b f (orZero (awaiting s f))) s b)
   where
-    taken : replyNumber s (length b) f ≡ 0 → (k : ℕ) → awaiting s f ≡ some k → Stored s b f (takeResult s b f k)
+    taken : replyNumber s (rightLengths b) f ≡ 0 → (k : ℕ) → awaiting s f ≡ some k → TakenReply s b f (takeFor s b f k)
     taken z k w =
-        let l = lent-ok s (length b) (else-zero _ _ z .0) in
+        let l = lent-ok s b (else-zero _ _ z .0) in
         let lowest : Lowest (awaits s f) k = lowest-some (awaits s f) k w in
-        taken-stored s b f k (true-sound s (l .0)) (l .1) lf (lowest .bound) (awaits-ok s f k (lowest .passes))
+        judged s b f k (true-sound s (l .0)) (l .1) lf (lowest .bound) (awaits-ok s f k (lowest .passes)) (cases (differs k (slot s k) (b .second) f))
 
-    pick : replyNumber s (length b) f ≡ 0 → (awaiting s f ≡ none) ⊎ ((k : ℕ) × (awaiting s f ≡ some k))
-        → Stored s b f (takeResult s b f (orZero (awaiting s f)))
+    pick : replyNumber s (rightLengths b) f ≡ 0 → (awaiting s f ≡ none) ⊎ ((k : ℕ) × (awaiting s f ≡ some k))
+        → TakenReply s b f (takeFor s b f (orZero (awaiting s f)))
     pick z (inl w) = contradiction (ap isNone w) (if-zero 16 _ _ (else-zero _ _ (else-zero _ _ z .1) .1) .0)
     pick z (inr (k, w)) = rw w (taken z k w)
 
-    go : Outcome (replyNumber s (length b) f) (takeResult s b f (orZero (awaiting s f))) s b (frameOf s b f) → Stored s b f (frameOf s b f)
+    go : Outcome (replyNumber s (rightLengths b) f) (takeFor s b f (orZero (awaiting s f))) s b (frameOf s b f) → TakenReply s b f (frameOf s b f)
     go (refused z q) = absurd (z (sym (ap (λ (u : Result). u .answer .number) q) ∙ e))
-    go (through z q) = subst (Stored s b f) (sym q) (pick z (option-cases (awaiting s f)))
+    go (through z q) = subst (TakenReply s b f) (sym q) (pick z (option-cases (awaiting s f)))
 
 -- ── closings and resets ────────────────────────────────────────────────────────────────────────────────────────────
 
@@ -249,7 +344,7 @@ close-changes s b t e = go (option-cases (heldSlot s t))
           others = λ j d. slot-set-other s _ k j blank refl d;
           numbers = (refl, refl);
           last = refl;
-          buffer = refl;
+          buffers = refl;
         })
 
     go : (heldSlot s t ≡ none) ⊎ ((k : ℕ) × (heldSlot s t ≡ some k)) → Frees s b t (step s b (close t))
@@ -261,7 +356,7 @@ unfolding step resetOf fresh
 reset-changes s b own e = rw e (record {
   isFresh = record { number = refl; slots = λ k. blank-zero _ (fresh-slot own k); issued = refl; last = refl };
   same = λ s′. rw e;
-  buffer = refl;
+  buffers = refl;
 })
 
 nothing-changed : NothingChanged

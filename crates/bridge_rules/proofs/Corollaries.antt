@@ -1,20 +1,20 @@
 -- The corollaries of demand 3, proved from it.
 use Prim.Native.Nat.{ℕ, _≤_, _<_}
 use mathlib.Core.Path.{_≡_, sym, _∙_, ap}
-use mathlib.Core.Logic.{_⊎_, inl, inr}
-use mathlib.Core.Bool.{true, false}
+use mathlib.Core.Bool.{true}
 use native.Mathlib.Omega.{arith}
 use native.Mathlib.Decide.{decLt}
 use Rattle.bridge_rules.specs.Answers.{plain}
-use Rattle.bridge_rules.specs.Opening.{isWrite}
-use Rattle.bridge_rules.specs.Run.{Run, Lawful, Transfer, Stands, Done, shownAt, chunks}
-use Rattle.bridge_rules.specs.Replies.{Replied, ThreeFailed, AllWritten}
+use Rattle.bridge_rules.specs.Opening.{isRead}
+use Rattle.bridge_rules.specs.Run.{Run, Lawful, Transfer, Stands, Done, Different, statusAt, shownAt, chunks}
+use Rattle.bridge_rules.specs.Replies.{Replied, ThreeFailed}
 use Rattle.bridge_rules.specs.Demand3.{Claims}
 use Rattle.bridge_rules.specs.Corollaries.{Corollaries}
-use Rattle.bridge_rules.proofs.Search.{cases}
 use Rattle.bridge_rules.proofs.AskedSoFar.{failed-mono, read-so-far}
 use Rattle.bridge_rules.proofs.TableBytes.{table-since, taken-answers}
 use Rattle.bridge_rules.proofs.Demand3.{claims}
+use Rattle.bridge_rules.proofs.AskTests.{ask-cases, read-not-check, write-not-check}
+use Rattle.bridge_rules.proofs.WrittenInOrder.{all-mono}
 
 three-stays : (r : Run) (x : Transfer r) (n n′ : ℕ) → n ≤ n′ → ThreeFailed r x n → ThreeFailed r x n′
 three-stays r x n n′ l f = record {
@@ -28,10 +28,6 @@ three-stays r x n n′ l f = record {
   second = failed-mono r x (f .c) (f .j₂) n n′ l (f .second);
   third = failed-mono r x (f .c) (f .j₃) n n′ l (f .third);
 }
-
-written-stays : (r : Run) (x : Transfer r) (n n′ : ℕ) → n ≤ n′ → AllWritten r x n → AllWritten r x n′
-written-stays r x n n′ l a =
-    record { j = a .j; wrote = a .wrote; before = λ c h. omega (arith, a .before c h); order = a .order }
 
 -- one of each, as a function
 module _ (P : ℕ → ℕ → Type 0) (k : ℕ) (g : (c : ℕ) → c < k → (m : ℕ) × P c m) where
@@ -54,32 +50,45 @@ module _ (r : Run) (w : Lawful r) (x : Transfer r) (n n′ : ℕ) (l : n ≤ n�
   later : Claims r x n′
   later = claims r w x n′ s′
 
-  got : isWrite (x .ask) ≡ false → Done r x n → (c : ℕ) → c < chunks r x → (m : ℕ) × (m < n) × Replied r x c m
+  got : isRead (x .ask) ≡ true → Done r x n → (c : ℕ) → c < chunks r x → (m : ℕ) × (m < n) × Replied r x c m
   got rd e = now .read rd .done .0 e
 
+  -- a reply that was there is there later
   done-stays : Done r x n → Done r x n′
-  done-stays e = go (cases (isWrite (x .ask)))
-    where
-      go : (isWrite (x .ask) ≡ true) ⊎ (isWrite (x .ask) ≡ false) → Done r x n′
-      go (inl wr) = later .written wr .1 (written-stays r x n n′ l (now .written wr .0 e))
-      go (inr rd) = later .read rd .done .1 (λ c h. let g = got rd e c h in (g .0, omega (arith, g .1), g .2))
+  done-stays e = ask-cases (x .ask)
+      (λ rd. later .read rd .done .1 (λ c h. let g = got rd e c h in (g .0, omega (arith, g .1), g .2)))
+      (λ wr. later .written wr .1 (all-mono r x n n′ l (now .written wr .0 e)))
+      (λ ck. let d = now .checked ck .done .0 e in later .checked ck .done .1 (
+        all-mono r x n n′ l (d .0),
+        λ c h. let g = d .1 c h in (g .0, omega (arith, g .1), g .2, g .3),
+      ))
+
+  different-stays : Different r x n → Different r x n′
+  different-stays e = ask-cases (x .ask)
+      (λ rd. absurd (now .notDifferent (read-not-check (x .ask) rd) e))
+      (λ wr. absurd (now .notDifferent (write-not-check (x .ask) wr) e))
+      (λ ck. let d = now .checked ck .different .0 e in
+      later .checked ck .different .1 (d .0, d .1, omega (arith, d .2), d .3, d .4))
+
+  -- what shows nothing but its status shows the same
+  hidden-stays : Done r x n → shownAt r x n ≡ plain (statusAt r x n) → shownAt r x n′ ≡ plain (statusAt r x n′) → shownAt r x n′ ≡ shownAt r x n
+  hidden-stays e p q = q ∙ ap plain (done-stays e ∙ sym e) ∙ sym p
 
   shown-stays : Done r x n → shownAt r x n′ ≡ shownAt r x n
-  shown-stays e = go (cases (isWrite (x .ask)))
-    where
-      go : (isWrite (x .ask) ≡ true) ⊎ (isWrite (x .ask) ≡ false) → shownAt r x n′ ≡ shownAt r x n
-      go (inl wr) = later .shownOfWrite wr ∙ ap plain (done-stays e ∙ sym e) ∙ sym (now .shownOfWrite wr)
-      go (inr rd) =
-          let g = choose (λ c m. (m < n) × Replied r x c m) (chunks r x) (λ c h. let z = got rd e c h in (z .0, (z .1, z .2))) in
-          later .read rd .shown (g .0) (λ c h. (omega (arith, g .1 c h .0), g .1 c h .1)) ∙ sym (now .read rd .shown (g .0) (g .1))
+  shown-stays e = ask-cases (x .ask)
+      (λ rd. let g = choose (λ c m. (m < n) × Replied r x c m) (chunks r x) (λ c h. let z = got rd e c h in (z .0, (z .1, z .2))) in
+      later .read rd .shown (g .0) (λ c h. (omega (arith, g .1 c h .0), g .1 c h .1)) ∙ sym (now .read rd .shown (g .0) (g .1)))
+      (λ wr. hidden-stays e (now .shownOfWrite wr) (later .shownOfWrite wr))
+      (λ ck. hidden-stays e (now .checked ck .shown) (later .checked ck .shown))
 
 pub corollaries : Corollaries
 corollaries = record {
   endedStays = λ r w x n n′ l s s′. record {
     done = done-stays r w x n n′ l s s′;
     givenUp = λ e. claims r w x n′ s′ .gaveUp .1 (three-stays r x n n′ l (claims r w x n s .gaveUp .0 e));
+    different = different-stays r w x n n′ l s s′;
     shown = shown-stays r w x n n′ l s s′;
   };
-  narrowMeanwhile = λ r w x n s rd e t a un. table-since r w x n t a un s (read-so-far r w x rd n s) e;
+  narrowMeanwhile = λ r w x n s rd e t a un τ m. table-since r w x n t a un s (read-so-far r w x rd n s) e τ m rd;
   takenAnswers = λ r w x n t a. taken-answers r w x n t a;
 }

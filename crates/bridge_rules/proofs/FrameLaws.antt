@@ -3,15 +3,16 @@ use Prim.Native.Nat.{ℕ, _+_, _*_, _/_, _≤_, _<_}
 use mathlib.Core.Path.{_≡_, refl, sym, _∙_, ap}
 use mathlib.Core.Logic.{_≢_}
 use mathlib.Core.List.{List, _++_}
-use mathlib.Core.Bool.{true}
+use mathlib.Core.Bool.{true, false}
 use native.Mathlib.Omega.{arith}
 use lib.ListN.{length, take, drop, getD, replicate, length-take}
 use lib.Seq.{take-take, take-append-seam}
 use Rattle.bus_rules.specs.Frames.{cmd, req, padded, content, frameWith}
 use Rattle.bus_rules.specs.Ident.{idOf, idKind}
 use Rattle.bus_rules.specs.Request.{request}
-use Rattle.bridge_rules.specs.State.{Frame, Slot, asks, carries}
-use Rattle.bridge_rules.specs.Turn.{outgoing, sentFrame, readFrame, writeFrame, chunkLen}
+use Rattle.bridge_rules.specs.State.{Frame, Slot, asks, carries, checking}
+use Rattle.bridge_rules.specs.Answers.{Buffers}
+use Rattle.bridge_rules.specs.Turn.{carriedFrom, outgoing, sentFrame, readFrame, writeFrame, chunkLen}
 use Rattle.bus_rules.proofs.IdentLaws.{kind-of-id}
 use Rattle.bridge_rules.proofs.KindTests.{asks-only}
 
@@ -63,14 +64,23 @@ unfolding frameWith padded request
 reply-byte id table offset count = refl
 
 -- what a slot sends
-pub read-is : (own k : ℕ) (x : Slot) (b : List ℕ) → asks (x .kind) ≡ true
+pub read-is : (own k : ℕ) (x : Slot) (b : Buffers) → asks (x .kind) ≡ true
     → sentFrame own k x b ≡ frameWith (idOf (x .offset + x .progress) req own (x .device) (x .table))
     (request 6 (128 * k + x .progress) (chunkLen (x .count) (x .progress)))
 unfolding sentFrame readFrame
 read-is own k x b e = rw (asks-only (x .kind) e)
 
-pub write-is : (own k : ℕ) (x : Slot) (b : List ℕ) → carries (x .kind) ≡ true
+pub write-is : (own k : ℕ) (x : Slot) (b : Buffers) → carries (x .kind) ≡ true
     → sentFrame own k x b ≡ frameWith (idOf (x .offset + x .progress) cmd own (x .device) (x .table))
-    (take (chunkLen (x .count) (x .progress)) (drop (128 * k + x .progress) b))
+    (take (chunkLen (x .count) (x .progress)) (drop (128 * k + x .progress) (carriedFrom (x .kind) b)))
 unfolding sentFrame writeFrame outgoing
 write-is own k x b e = rw e
+
+-- from the second buffer for a checked write, from the first for a write
+pub from-second : (kind : ℕ) (b : Buffers) → checking kind ≡ true → carriedFrom kind b ≡ b .second
+unfolding carriedFrom
+from-second kind b e = rw e
+
+pub from-first : (kind : ℕ) (b : Buffers) → checking kind ≡ false → carriedFrom kind b ≡ b .first
+unfolding carriedFrom
+from-first kind b e = rw e

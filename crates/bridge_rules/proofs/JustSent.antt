@@ -1,19 +1,21 @@
--- From a send on, while no reply comes: the slot waits for twenty turns, and has given up after the third time.
+-- What has ended stays so; progress and sends grow. From a send on, while no reply comes:
+-- the slot waits for twenty turns, and has given up after the third time.
 use Prim.Native.Nat.{ℕ, suc, _+_, _*_, _≤_, _<_, min}
 use mathlib.Core.Path.{_≡_, refl, sym, _∙_, ap}
-use mathlib.Core.Logic.{inl, inr}
-use mathlib.Core.Bool.{true}
+use mathlib.Core.Logic.{inl, inr, _≢_}
+use mathlib.Core.Bool.{true, false}
+use lib.Dec.{eqb}
 use native.Mathlib.Omega.{arith}
 use native.Mathlib.Decide.{decLt}
-use Rattle.bridge_rules.specs.State.{waiting, gaveUp, isWaiting, asks}
+use Rattle.bridge_rules.specs.State.{ready, waiting, gaveUp, different, isWaiting, asks}
 use Rattle.bridge_rules.specs.Turn.{aged}
 use Rattle.bridge_rules.specs.Run.{Run, Lawful, Transfer, slotOf, Stands, turns}
 use Rattle.bridge_rules.specs.Replies.{Sent, Matches}
 use Rattle.bridge_rules.proofs.Search.{none-some, contradiction}
-use Rattle.bridge_rules.proofs.SlotOk.{wait-ok, other-phase, left-eq, phase-eq, progress-eq, sends-eq}
-use Rattle.bridge_rules.proofs.SlotChanges.{aged-same, aged-progress, aged-sends, Aging, unaged, waitsOn, readyAgain, givesUp, Requested, sent-read}
-use Rattle.bridge_rules.proofs.SlotChanges.{advanced-progress}
-use Rattle.bridge_rules.proofs.SlotEffects.{unchanged, ages, served, taken, change-same}
+use Rattle.bridge_rules.proofs.SlotOk.{wait-ok, other-phase, kind-eq, left-eq, phase-eq, progress-eq, sends-eq}
+use Rattle.bridge_rules.proofs.SlotChanges.{aged-kind, aged-progress, aged-sends, Aging, unaged, waitsOn, readyAgain, givesUp, Requested, sent-read}
+use Rattle.bridge_rules.proofs.SlotChanges.{advanced-kind, advanced-progress, differed-is}
+use Rattle.bridge_rules.proofs.SlotEffects.{unchanged, ages, served, taken, disagreed}
 use Rattle.bridge_rules.proofs.TurnCounts.{turns-same, turns-more, turns-none, turns-step}
 use Rattle.bridge_rules.proofs.SoundRuns.{UnservedAt}
 use Rattle.bridge_rules.proofs.Standing.{okAt, agingAt, openedAt, slotAt, ChangesSlot, changes, Held, held, along-from, stands-before, stands-back}
@@ -21,69 +23,95 @@ use Rattle.bridge_rules.proofs.Matching.{matches-true, awaited-matches}
 use Rattle.bridge_rules.proofs.SentRequests.{sends-own}
 
 module _ (r : Run) (w : Lawful r) (x : Transfer r) where
+  -- ── what has ended stays so ──────────────────────────────────────────────────────────────────────────────────────
+
+  -- aging leaves alone what does not wait
+  unaged-ended : (n p : ℕ) → eqb waiting p ≡ false → slotAt r x n .phase ≡ p → aged (slotAt r x n) ≡ slotAt r x n
+  unaged-ended n p d e = go (agingAt r w x n)
+    where
+      go : Aging (slotAt r x n) → aged (slotAt r x n) ≡ slotAt r x n
+      go (unaged q z) = q
+      go (waitsOn a) = other-phase (a .was .phase) e d
+      go (readyAgain a) = other-phase (a .was .phase) e d
+      go (givesUp a) = other-phase (a .was .phase) e d
+
+  -- a phase other than ready and waiting
+  pub stays : (n p : ℕ) → eqb waiting p ≡ false → eqb ready p ≡ false → ChangesSlot r x n → slotAt r x n .phase ≡ p
+      → slotAt r x (suc n) .phase ≡ p
+  stays n p d f (unchanged v) e = phase-eq (v .after) ∙ e
+  stays n p d f (ages v) e = phase-eq (v .after ∙ unaged-ended n p d e) ∙ e
+  stays n p d f (served v) e = other-phase (v .ready .phase) (phase-eq (unaged-ended n p d e) ∙ e) f
+  stays n p d f (taken v) e = other-phase (v .waits .phase) e d
+  stays n p d f (disagreed v) e = other-phase (v .waits .phase) e d
+
+  pub different-on : (m n : ℕ) → x .at < m → m ≤ n → Stands r x n → slotAt r x m .phase ≡ different → slotAt r x n .phase ≡ different
+  different-on m n at l s e =
+      along-from r w x m at (λ k. slotAt r x k .phase ≡ different) e (λ k s l h v. stays k different refl refl v) n l s
+
   -- ── progress and sends only grow ─────────────────────────────────────────────────────────────────────────────────
 
-  -- one step of a slot that asks: progress grows, and sends grow while progress stays
-  grows : (n : ℕ) → ChangesSlot r x n → asks (slotAt r x n .kind) ≡ true → (slotAt r x n .progress ≤ slotAt r x (suc n) .progress)
-      × (slotAt r x n .progress ≡ slotAt r x (suc n) .progress → slotAt r x n .sends ≤ slotAt r x (suc n) .sends)
-  grows n (unchanged v) p =
-      (omega (arith, progress-eq (v .after)), λ q. omega (arith, sends-eq (v .after)))
-  grows n (ages v) p = (
-    omega (arith, progress-eq (v .after), aged-progress (slotAt r x n)),
-    λ q. omega (arith, sends-eq (v .after), aged-sends (slotAt r x n)),
-  )
+  -- one step of a slot that asks: it asks on, progress grows, and sends grow while progress stays, but for a difference
+  pub record Grows (m n : ℕ) : Type 0 where
+    pub asking : asks (slotAt r x n .kind) ≡ true
+    pub progress : slotAt r x m .progress ≤ slotAt r x n .progress
+    pub sends : slotAt r x n .phase ≢ different → slotAt r x m .progress ≡ slotAt r x n .progress → slotAt r x m .sends ≤ slotAt r x n .sends
+
+  grows : (n : ℕ) → ChangesSlot r x n → asks (slotAt r x n .kind) ≡ true → Grows n (suc n)
+  grows n (unchanged v) p = record {
+    asking = ap asks (kind-eq (v .after)) ∙ p;
+    progress = omega (arith, progress-eq (v .after));
+    sends = λ d q. omega (arith, sends-eq (v .after));
+  }
+  grows n (ages v) p = record {
+    asking = ap asks (kind-eq (v .after) ∙ aged-kind (slotAt r x n)) ∙ p;
+    progress = omega (arith, progress-eq (v .after), aged-progress (slotAt r x n));
+    sends = λ d q. omega (arith, sends-eq (v .after), aged-sends (slotAt r x n));
+  }
   grows n (served v) p =
-      let s : Requested (aged (slotAt r x n)) = sent-read (aged (slotAt r x n)) (ap asks (aged-same (slotAt r x n) .kind) ∙ p) in (
-        omega (arith, progress-eq (v .after), s .progress, aged-progress (slotAt r x n)),
-        λ q. omega (arith, sends-eq (v .after), s .sends, aged-sends (slotAt r x n)),
-      )
+      let a : asks (aged (slotAt r x n) .kind) ≡ true = ap asks (aged-kind (slotAt r x n)) ∙ p in
+      let s : Requested (aged (slotAt r x n)) = sent-read (aged (slotAt r x n)) a in
+      record {
+        asking = ap asks (kind-eq (v .after) ∙ s .kind) ∙ a;
+        progress = omega (arith, progress-eq (v .after), s .progress, aged-progress (slotAt r x n));
+        sends = λ d q. omega (arith, sends-eq (v .after), s .sends, aged-sends (slotAt r x n));
+      }
   grows n (taken v) p =
       let z : slotAt r x (suc n) .progress ≡ min (slotAt r x n .progress + 8) (slotAt r x n .count) = progress-eq (v .after)
       ∙ advanced-progress (slotAt r x n) in
-      (omega (arith, z, v .waits .partway .below), λ q. absurd (omega (arith, q, z, v .waits .partway .below)))
+      record {
+        asking = ap asks (kind-eq (v .after) ∙ advanced-kind (slotAt r x n)) ∙ p;
+        progress = omega (arith, z, v .waits .partway .below);
+        sends = λ d q. absurd (omega (arith, q, z, v .waits .partway .below));
+      }
+  grows n (disagreed v) p =
+      let d = differed-is (slotAt r x n) in
+      record {
+        asking = ap asks (kind-eq (v .after) ∙ d .kind) ∙ p;
+        progress = omega (arith, progress-eq (v .after), d .progress);
+        sends = λ u q. absurd (u (phase-eq (v .after) ∙ d .phase));
+      }
 
   -- so it does from any event on at which the slot asks
-  pub record Grown (m n : ℕ) : Type 0 where
-    pub asking : asks (slotAt r x n .kind) ≡ true
-    pub progress : slotAt r x m .progress ≤ slotAt r x n .progress
-    pub sends : slotAt r x m .progress ≡ slotAt r x n .progress → slotAt r x m .sends ≤ slotAt r x n .sends
-
-  pub grown : (m n : ℕ) → x .at < m → asks (slotAt r x m .kind) ≡ true → m ≤ n → Stands r x n → Grown m n
-  grown m n at a = along-from r w x m at (Grown m) base step n
+  pub grown : (m n : ℕ) → x .at < m → asks (slotAt r x m .kind) ≡ true → m ≤ n → Stands r x n → Grows m n
+  grown m n at a = along-from r w x m at (Grows m) base step n
     where
-      base : Grown m m
-      base = record { asking = a; progress = omega arith; sends = λ q. omega arith }
+      base : Grows m m
+      base = record { asking = a; progress = omega arith; sends = λ d q. omega arith }
 
-      step : (n : ℕ) → Stands r x (suc n) → m ≤ n → Held r x n → ChangesSlot r x n → Grown m n → Grown m (suc n)
+      step : (n : ℕ) → Stands r x (suc n) → m ≤ n → Held r x n → ChangesSlot r x n → Grows m n → Grows m (suc n)
       step n s l h v g =
-          let k = grows n v (g .asking) in
+          let k : Grows n (suc n) = grows n v (g .asking) in
           record {
-            asking = ap asks (change-same v .kind) ∙ g .asking;
-            progress = omega (arith, k .0, g .progress);
-            sends = λ q.
-                let e : slotAt r x m .progress ≡ slotAt r x n .progress = omega (arith, q, k .0, g .progress) in
-                omega (arith, g .sends e, k .1 (sym e ∙ q));
+            asking = k .asking;
+            progress = omega (arith, k .progress, g .progress);
+            sends = λ d q.
+                let e : slotAt r x m .progress ≡ slotAt r x n .progress = omega (arith, q, k .progress, g .progress) in
+                omega (arith, g .sends (λ z. d (stays n different refl refl v z)) e, k .sends d (sym e ∙ q));
           }
 
   -- a slot that waits asks
   pub waits-asks : (n : ℕ) → slotAt r x n .phase ≡ waiting → asks (slotAt r x n .kind) ≡ true
   waits-asks n e = wait-ok (slotAt r x n) (okAt r w x n) (ap isWaiting e) .asking
-
-  -- aging leaves alone what has given up
-  unaged-gave-up : (n : ℕ) → slotAt r x n .phase ≡ gaveUp → aged (slotAt r x n) ≡ slotAt r x n
-  unaged-gave-up n p = go (agingAt r w x n)
-    where
-      go : Aging (slotAt r x n) → aged (slotAt r x n) ≡ slotAt r x n
-      go (unaged q z) = q
-      go (waitsOn a) = other-phase (a .was .phase) p refl
-      go (readyAgain a) = other-phase (a .was .phase) p refl
-      go (givesUp a) = other-phase (a .was .phase) p refl
-
-  gave-up-stays : (n : ℕ) → ChangesSlot r x n → slotAt r x n .phase ≡ gaveUp → slotAt r x (suc n) .phase ≡ gaveUp
-  gave-up-stays n (unchanged v) p = phase-eq (v .after) ∙ p
-  gave-up-stays n (ages v) p = phase-eq (v .after ∙ unaged-gave-up n p) ∙ p
-  gave-up-stays n (served v) p = other-phase (phase-eq (sym (unaged-gave-up n p)) ∙ v .ready .phase) p refl
-  gave-up-stays n (taken v) p = other-phase (v .waits .phase) p refl
 
   -- ── a send, and what follows it ──────────────────────────────────────────────────────────────────────────────────
 
@@ -94,6 +122,8 @@ module _ (r : Run) (w : Lawful r) (x : Transfer r) where
     pub left : slotAt r x (suc j) .left ≡ 20
     pub sends : slotAt r x (suc j) .sends ≡ suc (slotAt r x j .sends)
     pub before : slotAt r x j .progress ≡ 8 * c
+    pub asking : asks (slotAt r x j .kind) ≡ true
+    pub notDifferent : slotAt r x j .phase ≢ different
 
   pub just-sent : (c j n : ℕ) → Sent r x c j → j < n → Stands r x n → JustSent c j
   just-sent c j n q l s = go (changes r w x j (stands-back r w x (suc j) n s (omega (arith, q .stands .0)) l) (q .stands .0))
@@ -115,8 +145,11 @@ module _ (r : Run) (w : Lawful r) (x : Transfer r) where
             left = left-eq (v .after) ∙ z .left;
             sends = sends-eq (v .after) ∙ z .sends ∙ ap suc (aged-sends (slotAt r x j));
             before = sym (aged-progress (slotAt r x j)) ∙ o .1;
+            asking = sym (ap asks (aged-kind (slotAt r x j))) ∙ o .2;
+            notDifferent = λ e. other-phase (v .ready .phase) (phase-eq (unaged-ended j different refl e) ∙ e) refl;
           }
       go (taken v) = contradiction (q .turned) (v .noTurn)
+      go (disagreed v) = contradiction (q .turned) (v .noTurn)
 
   -- it waits for the reply to chunk c, sent at j
   pub record Waits (c j n : ℕ) : Type 0 where
@@ -188,6 +221,8 @@ module _ (r : Run) (w : Lawful r) (x : Transfer r) where
       go (givesUp a) = other-phase (a .phase) (v .ready .phase) refl
   waits-step c j n l s u p t (taken v) = absurd (u (matches-true r w x c n (v .f)
       (awaited-matches r x c n (held r w x n s) (t .progress) (v .f) (v .call) (v .passes) (v .awaited))))
+  waits-step c j n l s u p t (disagreed v) = absurd (u (matches-true r w x c n (v .f)
+      (awaited-matches r x c n (held r w x n s) (t .progress) (v .f) (v .call) (v .passes) (v .awaited))))
 
   without-reply-step : (c j n : ℕ) → j < n → x .at < n → Stands r x (suc n) → (turns r j n < 20 → ¬ Matches r x c n) → WithoutReply c j n
       → WithoutReply c j (suc n)
@@ -196,7 +231,7 @@ module _ (r : Run) (w : Lawful r) (x : Transfer r) where
       go : Dec (turns r j n < 20) → WithoutReply c j (suc n)
       go (no p) = record {
         soon = λ q. absurd (omega (arith, q, turns-step r j n .0));
-        over = λ q z. gave-up-stays n (changes r w x n s l′) (h .over (omega arith) z);
+        over = λ q z. stays n gaveUp refl refl (changes r w x n s l′) (h .over (omega arith) z);
       }
       go (yes p) = waits-step c j n l (stands-before r w x n s l′) (u p) p (h .soon p) (changes r w x n s l′)
 

@@ -12,16 +12,17 @@ use lib.Seq.{getD-set-same, getD-set-other}
 use lib.Dec.{eqb}
 use borrow.Author.Tests.{ne-eqb, eq-eqb}
 use Rattle.bridge_rules.specs.State.{Bridge, Slot, blank, slot, fresh}
-use Rattle.bridge_rules.specs.Answers.{Answer, Result, plain}
+use Rattle.bridge_rules.specs.Answers.{Answer, Buffers, Result, plain}
 use Rattle.bridge_rules.specs.Opening.{opened}
 use Rattle.bridge_rules.specs.Turn.{agedBridge, sendFor}
 use Rattle.bridge_rules.specs.Call.{Call, itsOwn, opening, turn, frame, status, bytes, close, reset, step}
-use Rattle.bridge_rules.specs.Run.{Run, storage, state, buffer, answer, Lawful, Ledger, newLedger, firstGivable, noted, ledger}
+use Rattle.bridge_rules.specs.Run.{Run, storage, state, buffers, answer, Lawful, Ledger, newLedger, firstGivable, noted, ledger}
 use Rattle.bridge_rules.proofs.Search.{cases, contradiction, Lowest}
 use Rattle.bridge_rules.proofs.SlotOk.{no-ticket, has-ticket, ticket-eq}
 use Rattle.bridge_rules.proofs.SoundTest.{Sound}
 use Rattle.bridge_rules.proofs.SoundStates.{slot-set-same, slot-set-other, fresh-slot, opened-ticket}
-use Rattle.bridge_rules.proofs.CallCases.{CallCase, nothing, opens, sends, idles, takes, closes, resets, freeAt, isNoted, openResult, closeResult}
+use Rattle.bridge_rules.proofs.CallCases.{CallCase, nothing, opens, sends, idles, takes, disagrees, closes, resets, freeAt, isNoted}
+use Rattle.bridge_rules.proofs.CallCases.{openResult, closeResult}
 use Rattle.bridge_rules.proofs.SlotEffects.{keeps, opensHere, closesHere, resetsHere, change-same}
 use Rattle.bridge_rules.proofs.SoundRuns.{storage-sound, caseAt, EffectAt, effectAt}
 
@@ -83,7 +84,7 @@ lowest-agrees g s k h a w =
     (arith, has-ticket (slot s e) (h .each e q) (w .below e l), a .each e q, z))
 
 -- a send keeps the own number and the tickets
-send-keeps : (s : Bridge) (b : List ℕ) (o : Option ℕ) → (sendFor s b o .state .own ≡ s .own) × (sendFor s b o .state .issued ≡ s .issued)
+send-keeps : (s : Bridge) (b : Buffers) (o : Option ℕ) → (sendFor s b o .state .own ≡ s .own) × (sendFor s b o .state .issued ≡ s .issued)
 unfolding sendFor
 send-keeps s b none = (refl, refl)
 send-keeps s b (some k) = (refl, refl)
@@ -127,10 +128,10 @@ module _ (r : Run) (w : Lawful r) where
       h : Sound (state r n)
       h = storage-sound r w n .0
 
-      answer-is : {u : Result} → step (state r n) (buffer r n) (r .calls n) ≡ u → answer r n ≡ u .answer
+      answer-is : {u : Result} → step (state r n) (buffers r n) (r .calls n) ≡ u → answer r n ≡ u .answer
       answer-is z = ap (λ (u : Result). u .answer) z
 
-      to : {g : Ledger} {u : Result} → step (state r n) (buffer r n) (r .calls n) ≡ u → Agrees g (u .state) → Agrees g (state r (suc n))
+      to : {g : Ledger} {u : Result} → step (state r n) (buffers r n) (r .calls n) ≡ u → Agrees g (u .state) → Agrees g (state r (suc n))
       to {g} z b = subst (Agrees g) (sym (ap (λ (u : Result). u .state) z)) b
 
       moves : isNoted (r .calls n) ≡ false → state r (suc n) .own ≡ state r n .own → state r (suc n) .issued ≡ state r n .issued →
@@ -142,22 +143,22 @@ module _ (r : Run) (w : Lawful r) where
         each = λ k l. a .each k l ∙ sym (same-tickets n k l u);
       })
 
-      sent : (o : Option ℕ) → r .calls n ≡ turn itsOwn → step (state r n) (buffer r n) (r .calls n)
-          ≡ sendFor (agedBridge (state r n)) (buffer r n) o →
+      sent : (o : Option ℕ) → r .calls n ≡ turn itsOwn → step (state r n) (buffers r n) (r .calls n)
+          ≡ sendFor (agedBridge (state r n)) (buffers r n) o →
           Agrees (ledger r (suc n)) (state r (suc n))
       sent o e z =
-          let k = send-keeps (agedBridge (state r n)) (buffer r n) o in
+          let k = send-keeps (agedBridge (state r n)) (buffers r n) o in
           let a = aging-keeps (state r n) in
           moves (ap isNoted e) (ap (λ (u : Result). u .state .own) z ∙ k .0 ∙ a .0) (ap (λ (u : Result). u .state .issued) z ∙ k .1 ∙ a .1)
 
-      go : CallCase (state r n) (buffer r n) (r .calls n) → Agrees (ledger r (suc n)) (state r (suc n))
+      go : CallCase (state r n) (buffers r n) (r .calls n) → Agrees (ledger r (suc n)) (state r (suc n))
       go (nothing u) = subst (Agrees (ledger r (suc n))) (sym (u .state)) (rw (same (cases (isNoted (r .calls n)))) a)
         where
           same : (isNoted (r .calls n) ≡ true) ⊎ (isNoted (r .calls n) ≡ false) → ledger r (suc n) ≡ ledger r n
           same (inl v) = refused-same n (ap (λ (b : Bool). b && eqb (answer r n .number) 0) (sym v) ∙ u .unnoted)
           same (inr v) = unnoted n v
       go (opens u) =
-          rw (noted-is n (openResult (state r n) (buffer r n) (u .ask) (u .k) .answer) (opening itsOwn (u .ask)) refl
+          rw (noted-is n (openResult (state r n) (buffers r n) (u .ask) (u .k) .answer) (opening itsOwn (u .ask)) refl
           (answer-is (u .result)) (u .call)) (to (u .result) (record {
             own = a .own;
             issued = refl;
@@ -169,7 +170,7 @@ module _ (r : Run) (w : Lawful r) where
           kk = lowest-agrees (ledger r n) (state r n) (u .k) h a (u .lowest)
 
           s′ : Bridge
-          s′ = openResult (state r n) (buffer r n) (u .ask) (u .k) .state
+          s′ = openResult (state r n) (buffers r n) (u .ask) (u .k) .state
 
           new : Slot
           new = opened (u .ask) (suc (state r n .issued))
@@ -189,6 +190,8 @@ module _ (r : Run) (w : Lawful r) where
       go (idles u) = sent none (u .call) (u .result)
       go (takes u) = moves (ap isNoted (u .call)) (ap (λ (v : Result). v .state .own) (u .result))
           (ap (λ (v : Result). v .state .issued) (u .result))
+      go (disagrees u) = moves (ap isNoted (u .call)) (ap (λ (v : Result). v .state .own) (u .result))
+          (ap (λ (v : Result). v .state .issued) (u .result))
       go (closes u) =
           rw (noted-is n (plain 0) (close (u .t)) refl (answer-is (u .result)) (u .call)) (to (u .result) (record {
             own = a .own;
@@ -198,7 +201,7 @@ module _ (r : Run) (w : Lawful r) where
           }))
         where
           s′ : Bridge
-          s′ = closeResult (state r n) (buffer r n) (u .k) .state
+          s′ = closeResult (state r n) (buffers r n) (u .k) .state
 
           pick : (j : ℕ) → j < 4 → Dec (j ≡ u .k) → cond (eqb (slot (state r n) j .ticket) (u .t)) 0 (slot (state r n) j .ticket)
               ≡ slot s′ j .ticket

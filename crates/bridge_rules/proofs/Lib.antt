@@ -3,8 +3,10 @@ pub mod AllExamples
 pub mod Search
 pub mod NumberLaws
 pub mod KindTests
+pub mod AskTests
 pub mod FrameLaws
 pub mod BufferParts
+pub mod Comparing
 pub mod AwaitsTest
 pub mod SlotOk
 pub mod SlotChanges
@@ -22,11 +24,13 @@ pub mod Status
 pub mod RefusalsKeep
 pub mod SlotHolders
 pub mod EndsInBound
+pub mod GivenBytes
 pub mod SentRequests
 pub mod Matching
 pub mod AskedSoFar
 pub mod JustSent
 pub mod RepliesInOrder
+pub mod ReadingBack
 pub mod ShownBytes
 pub mod WrittenInOrder
 pub mod TableBytes

@@ -1,16 +1,18 @@
--- Laws of the refusals: what follows from 0, and what an accepted state and buffer leave of a chain.
+-- Laws of the refusals: what follows from 0, and what an accepted state and buffers leave of a chain.
 use Prim.Native.Nat.{ℕ, _+_, _≤_, _<_}
 use mathlib.Core.Path.{_≡_, refl, sym}
-use mathlib.Core.Logic.{_≢_}
-use mathlib.Core.Bool.{true, false}
+use mathlib.Core.Logic.{_≢_, _⊎_, inl, inr}
+use mathlib.Core.Bool.{Bool, true, false}
+use lib.ListN.{length}
 use native.Mathlib.Omega.{arith}
 use borrow.Author.Tests.{eqb-true, eqb-false, eq-eqb, ne-eqb, le-ltb, ltb-false, leb-false, not-false}
 use Rattle.wire.specs.Order.{_if_else_, _orElse_}
 use Rattle.wire.proofs.Orders.{if-zero, else-zero, else-some}
 use Rattle.bridge_rules.specs.State.{Frame, Bridge, askNumber, sound, isNone, lowestFree}
-use Rattle.bridge_rules.specs.Answers.{lentNumber}
+use Rattle.bridge_rules.specs.Answers.{Buffers, rightLengths, lentNumber}
 use Rattle.bridge_rules.specs.Opening.{Ask, askDevice, askTable, askOffset, askCount, roomNumber, openNumber}
 use Rattle.bridge_rules.specs.Incoming.{contentNumber, awaiting, replyNumber}
+use Rattle.bridge_rules.proofs.Search.{and-true, cases}
 
 -- the first of two numbers, and the second
 pub else-first : (a b : ℕ) → a ≢ 0 → (a orElse b) ≡ a
@@ -62,22 +64,39 @@ args-clear d t o n l =
       le-ltb 2048 (o + n) (l .inside),
     )
 
--- ── the buffer ─────────────────────────────────────────────────────────────────────────────────────────────────────
+-- ── the buffers ────────────────────────────────────────────────────────────────────────────────────────────────────
 
-pub lent-clear : (s : Bridge) (n : ℕ) → sound s ≡ true → n ≡ 512 → lentNumber s n ≡ 0
+-- both have 512 bytes
+abbrev pub RightLengths : Buffers → Type 0
+RightLengths b = (length (b .first) ≡ 512) × (length (b .second) ≡ 512)
+
+pub lengths-true : (b : Buffers) → RightLengths b → rightLengths b ≡ true
+lengths-true b h = rw (eq-eqb _ 512 (h .0), eq-eqb _ 512 (h .1))
+
+pub true-lengths : (b : Buffers) → rightLengths b ≡ true → RightLengths b
+true-lengths b e = let h = and-true _ _ e in (eqb-true _ 512 (h .0), eqb-true _ 512 (h .1))
+
+not-lengths : (b : Buffers) → ¬ RightLengths b → rightLengths b ≡ false
+not-lengths b h = go (cases (rightLengths b))
+  where
+    go : (rightLengths b ≡ true) ⊎ (rightLengths b ≡ false) → rightLengths b ≡ false
+    go (inl e) = absurd (h (true-lengths b e))
+    go (inr e) = e
+
+pub lent-clear : (s : Bridge) (b : Buffers) → sound s ≡ true → RightLengths b → lentNumber s (rightLengths b) ≡ 0
 unfolding lentNumber _if_else_
-lent-clear s n p q = rw (p, eq-eqb n 512 q)
+lent-clear s b p q = rw (p, lengths-true b q)
 
-pub lent-ten : (s : Bridge) (n : ℕ) → sound s ≡ true → n ≢ 512 → lentNumber s n ≡ 10
+pub lent-ten : (s : Bridge) (b : Buffers) → sound s ≡ true → ¬ RightLengths b → lentNumber s (rightLengths b) ≡ 10
 unfolding lentNumber _if_else_
-lent-ten s n p q = rw (p, ne-eqb n 512 q)
+lent-ten s b p q = rw (p, not-lengths b q)
 
-pub lent-ok : (s : Bridge) (n : ℕ) → lentNumber s n ≡ 0 → (sound s ≡ true) × (n ≡ 512)
+pub lent-ok : (s : Bridge) (b : Buffers) → lentNumber s (rightLengths b) ≡ 0 → (sound s ≡ true) × RightLengths b
 unfolding lentNumber
-lent-ok s n e =
+lent-ok s b e =
     let h1 = if-zero 10 _ _ e in
     let h2 = if-zero 9 _ _ (h1 .1) in
-    (not-false _ (h1 .0), eqb-true _ _ (not-false _ (h2 .0)))
+    (not-false _ (h1 .0), true-lengths b (not-false _ (h2 .0)))
 
 -- ── openings ───────────────────────────────────────────────────────────────────────────────────────────────────────
 
@@ -86,9 +105,9 @@ pub record OpenFacts (s : Bridge) (a : Ask) : Type 0 where
   pub slotted : isNone (lowestFree s) ≡ false
   pub ticketed : s .issued < 4294967295
 
-pub open-facts : (s : Bridge) (n : ℕ) (a : Ask) → openNumber s n a ≡ 0 → OpenFacts s a
+pub open-facts : (s : Bridge) (ok : Bool) (a : Ask) → openNumber s ok a ≡ 0 → OpenFacts s a
 unfolding openNumber roomNumber
-open-facts s n a e =
+open-facts s ok a e =
     let h1 = else-zero _ _ e in
     let h2 = else-zero _ _ (h1 .1) in
     let h3 = if-zero 11 _ _ (h2 .1) in
@@ -99,27 +118,27 @@ open-facts s n a e =
       ticketed = omega (arith, leb-false _ (s .issued) (h4 .0));
     }
 
-pub open-lent : (s : Bridge) (n : ℕ) (a : Ask) → openNumber s n a ≡ 0 → (sound s ≡ true) × (n ≡ 512)
+pub open-lent : (s : Bridge) (b : Buffers) (a : Ask) → openNumber s (rightLengths b) a ≡ 0 → (sound s ≡ true) × RightLengths b
 unfolding openNumber
-open-lent s n a e = lent-ok s n (else-zero _ _ e .0)
+open-lent s b a e = lent-ok s b (else-zero _ _ e .0)
 
 -- the chain after 11 and 10
-pub open-later : (s : Bridge) (n : ℕ) (a : Ask) → sound s ≡ true → n ≡ 512
-    → openNumber s n a ≡ (askNumber (askDevice a) (askTable a) (askOffset a) (askCount a) orElse roomNumber s)
+pub open-later : (s : Bridge) (b : Buffers) (a : Ask) → sound s ≡ true → RightLengths b
+    → openNumber s (rightLengths b) a ≡ (askNumber (askDevice a) (askTable a) (askOffset a) (askCount a) orElse roomNumber s)
 unfolding openNumber
-open-later s n a p q = else-second _ _ (lent-clear s n p q)
+open-later s b a p q = else-second _ _ (lent-clear s b p q)
 
-pub open-ten : (s : Bridge) (n : ℕ) (a : Ask) → sound s ≡ true → n ≢ 512 → openNumber s n a ≡ 10
+pub open-ten : (s : Bridge) (b : Buffers) (a : Ask) → sound s ≡ true → ¬ RightLengths b → openNumber s (rightLengths b) a ≡ 10
 unfolding openNumber _orElse_
-open-ten s n a p q = rw (lent-ten s n p q)
+open-ten s b a p q = rw (lent-ten s b p q)
 
 -- ── frames ─────────────────────────────────────────────────────────────────────────────────────────────────────────
 
-pub reply-later : (s : Bridge) (n : ℕ) (f : Frame) → sound s ≡ true → n ≡ 512
-    → replyNumber s n f ≡ (contentNumber (s .own) f orElse (17 if isNone (awaiting s f) else 0))
+pub reply-later : (s : Bridge) (b : Buffers) (f : Frame) → sound s ≡ true → RightLengths b
+    → replyNumber s (rightLengths b) f ≡ (contentNumber (s .own) f orElse (17 if isNone (awaiting s f) else 0))
 unfolding replyNumber
-reply-later s n f p q = else-second _ _ (lent-clear s n p q)
+reply-later s b f p q = else-second _ _ (lent-clear s b p q)
 
-pub reply-ten : (s : Bridge) (n : ℕ) (f : Frame) → sound s ≡ true → n ≢ 512 → replyNumber s n f ≡ 10
+pub reply-ten : (s : Bridge) (b : Buffers) (f : Frame) → sound s ≡ true → ¬ RightLengths b → replyNumber s (rightLengths b) f ≡ 10
 unfolding replyNumber _orElse_
-reply-ten s n f p q = rw (lent-ten s n p q)
+reply-ten s b f p q = rw (lent-ten s b p q)

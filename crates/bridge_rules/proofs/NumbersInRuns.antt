@@ -15,17 +15,16 @@ use Rattle.wire.specs.Order.{_if_else_, _orElse_}
 use Rattle.wire.specs.First.{First, Zero}
 use Rattle.wire.proofs.Orders.{if-zero, else-zero, if-orElse, zero-orElse, orElse-orElse}
 use Rattle.bridge_rules.specs.State.{Frame, Bridge, waiting, nextReady, heldSlot, slot, sound, isFree, isNone, lowestFree}
-use Rattle.bridge_rules.specs.Answers.{lentNumber, plain}
-use Rattle.bridge_rules.specs.Opening.{isWrite, Ask, openOf}
+use Rattle.bridge_rules.specs.Answers.{Buffers, rightLengths, lentNumber, plain}
+use Rattle.bridge_rules.specs.Opening.{Ask, openOf}
 use Rattle.bridge_rules.specs.Turn.{turnOf, agedBridge}
-use Rattle.bridge_rules.specs.Incoming.{frameOf, replyNumber, contentNumber, awaits, awaiting}
+use Rattle.bridge_rules.specs.Incoming.{takeFor, frameOf, replyNumber, contentNumber, awaits, awaiting}
 use Rattle.bridge_rules.specs.Ending.{resetNumber, bytesOf, spanOf, bytesNumber, closeOf, closeNumber, resetOf}
 use Rattle.bridge_rules.specs.Call.{bytes, turn, frame, close, reset, Call, Lent, itsOwn, other, opening, step}
-use Rattle.bridge_rules.specs.Run.{ticket, Run, Lawful, Shaped, Transfer, Stands, slotOf, state, buffer, answer, ledger}
+use Rattle.bridge_rules.specs.Run.{ticket, Run, Lawful, Shaped, Transfer, Stands, slotOf, state, buffers, answer, ledger}
 use Rattle.bridge_rules.specs.Replies.{Replied}
 use Rattle.bridge_rules.specs.Calls.{FrameInRun, NumbersInRun, NumbersInRuns, OpeningInRun}
-use Rattle.bridge_rules.proofs.KindTests.{read-of}
-use Rattle.bridge_rules.proofs.NumberLaws.{lent-clear, lent-ten, open-later, open-ten, reply-later, reply-ten}
+use Rattle.bridge_rules.proofs.NumberLaws.{RightLengths, lent-clear, lent-ten, open-later, open-ten, reply-later, reply-ten}
 use Rattle.wire.proofs.RefusalChains.{first-if, not-test, leb-test, ltb-test, eqb-test}
 use Rattle.bridge_rules.proofs.OpeningNumbers.{afterLent, AfterLent, chain, full, unless-number, number-is}
 use Rattle.bridge_rules.proofs.RefusalsKeep.{sends-zero}
@@ -38,19 +37,20 @@ use Rattle.bridge_rules.proofs.LedgerAgrees.{own-is, agrees}
 use Rattle.bridge_rules.proofs.Standing.{slotAt, Held, held, okAt, held-slot, openedAt}
 use Rattle.bridge_rules.proofs.Status.{held-by}
 use Rattle.bridge_rules.proofs.Matching.{matches-ok}
-use Rattle.bridge_rules.proofs.AskedSoFar.{read-so-far, awaited-replied}
+use Rattle.bridge_rules.proofs.AskedSoFar.{awaited-replied}
+use Rattle.bridge_rules.proofs.ReadingBack.{asked-so-far-at}
 use Rattle.bridge_rules.proofs.RepliesInOrder.{reply-awaited}
 use Rattle.bridge_rules.proofs.SlotHolders.{no-holder, known-holder, occupied}
 
--- 10 by the buffer lent
-own-first : (k m : ℕ) (rest : ℕ → Type 0) → (k ≡ m) ↔ rest m → (k ≡ m) ↔ First (itsOwn ≢ itsOwn) 10 rest m
+-- 10 by the buffers lent
+own-first : (k m : ℕ) (rest : ℕ → Type 0) → (k ≡ m) ↔ rest m → (k ≡ m) ↔ First (_≢_ {A = Lent Buffers} itsOwn itsOwn) 10 rest m
 own-first k m rest c = (λ e. inr (λ f. f refl, c .0 e), back)
   where
-    back : First (itsOwn ≢ itsOwn) 10 rest m → k ≡ m
+    back : First (_≢_ {A = Lent Buffers} itsOwn itsOwn) 10 rest m → k ≡ m
     back (inl p) = absurd (p .0 refl)
     back (inr p) = c .1 (p .1)
 
-other-first : (k m : ℕ) (b : List ℕ) (rest : ℕ → Type 0) → k ≡ 10 → (k ≡ m) ↔ First (other b ≢ itsOwn) 10 rest m
+other-first : (k m : ℕ) (b : Buffers) (rest : ℕ → Type 0) → k ≡ 10 → (k ≡ m) ↔ First (other b ≢ itsOwn) 10 rest m
 other-first k m b rest q = (λ e. inl (apart, sym e ∙ q), back)
   where
     apart : other b ≢ itsOwn
@@ -61,13 +61,13 @@ other-first k m b rest q = (λ e. inl (apart, sym e ∙ q), back)
     back (inr p) = absurd (p .0 apart)
 
 -- the number of each call is its refusal
-turn-number : (s : Bridge) (b : List ℕ) → turnOf s b .answer .number ≡ lentNumber s (length b)
+turn-number : (s : Bridge) (b : Buffers) → turnOf s b .answer .number ≡ lentNumber s (rightLengths b)
 unfolding turnOf
-turn-number s b = unless-number (lentNumber s (length b)) _ s b (sends-zero (agedBridge s) b (nextReady (agedBridge s)))
+turn-number s b = unless-number (lentNumber s (rightLengths b)) _ s b (sends-zero (agedBridge s) b (nextReady (agedBridge s)))
 
-frame-number : (s : Bridge) (b : List ℕ) (f : Frame) → frameOf s b f .answer .number ≡ replyNumber s (length b) f
-unfolding frameOf
-frame-number s b f = unless-number (replyNumber s (length b) f) _ s b refl
+frame-number : (s : Bridge) (b : Buffers) (f : Frame) → frameOf s b f .answer .number ≡ replyNumber s (rightLengths b) f
+unfolding frameOf takeFor
+frame-number s b f = unless-number (replyNumber s (rightLengths b) f) _ s b refl
 
 close-number : (s : Bridge) (t : ℕ) → sound s ≡ true → closeOf s t .number ≡ (14 if isNone (heldSlot s t) else 0)
 unfolding closeOf closeNumber _if_else_
@@ -106,7 +106,7 @@ module _ (r : Run) (w : Lawful r) (n : ℕ) where
   ss : sound (state r n) ≡ true
   ss = sound-true (state r n) (storage-sound r w n .0)
 
-  lb : length (buffer r n) ≡ 512
+  lb : RightLengths (buffers r n)
   lb = storage-sound r w n .1
 
   -- openings: a slot is held exactly by a transfer that stands
@@ -125,28 +125,28 @@ module _ (r : Run) (w : Lawful r) (n : ℕ) where
   abbrev Used : Type 0
   Used = 4294967295 ≤ ledger r n .issued
 
-  opening-number : (l : Lent) (a : Ask) → Shaped (opening l a) → (m : ℕ)
-      → (step (state r n) (buffer r n) (opening l a) .answer .number ≡ m) ↔ OpeningInRun r n l a m
+  opening-number : (l : Lent Buffers) (a : Ask) → Shaped (opening l a) → (m : ℕ)
+      → (step (state r n) (buffers r n) (opening l a) .answer .number ≡ m) ↔ OpeningInRun r n l a m
   unfolding step
   opening-number itsOwn a d m = own-first _ m (AfterLent a Full Used) (λ e. c .0 (sym q ∙ e), λ p. q ∙ c .1 p)
     where
-      q : openOf (state r n) (buffer r n) a .answer .number ≡ afterLent (state r n) a
-      q = number-is (state r n) (buffer r n) a ∙ open-later (state r n) (length (buffer r n)) a ss lb
+      q : openOf (state r n) (buffers r n) a .answer .number ≡ afterLent (state r n) a
+      q = number-is (state r n) (buffers r n) a ∙ open-later (state r n) (buffers r n) a ss lb
 
       c : (afterLent (state r n) a ≡ m) ↔ AfterLent a Full Used m
       c = chain (state r n) a m Full Used held-slots tickets-used
-  opening-number (other b) a d m = other-first _ m b (AfterLent a Full Used) (number-is (state r n) b a ∙ open-ten (state r n) (length b) a ss d)
+  opening-number (other b) a d m = other-first _ m b (AfterLent a Full Used) (number-is (state r n) b a ∙ open-ten (state r n) b a ss d)
 
-  turns-number : (l : Lent) → Shaped (turn l) → (m : ℕ)
-      → (step (state r n) (buffer r n) (turn l) .answer .number ≡ m) ↔ First (l ≢ itsOwn) 10 Zero m
+  turns-number : (l : Lent Buffers) → Shaped (turn l) → (m : ℕ)
+      → (step (state r n) (buffers r n) (turn l) .answer .number ≡ m) ↔ First (l ≢ itsOwn) 10 Zero m
   unfolding step
   turns-number itsOwn d m =
-      let q : turnOf (state r n) (buffer r n) .answer .number ≡ 0 = turn-number (state r n) (buffer r n)
-      ∙ lent-clear (state r n) (length (buffer r n)) ss lb in
+      let q : turnOf (state r n) (buffers r n) .answer .number ≡ 0 = turn-number (state r n) (buffers r n)
+      ∙ lent-clear (state r n) (buffers r n) ss lb in
       own-first _ m Zero (λ e. sym e ∙ q, λ e. q ∙ sym e)
-  turns-number (other b) d m = other-first _ m b Zero (turn-number (state r n) b ∙ lent-ten (state r n) (length b) ss d)
+  turns-number (other b) d m = other-first _ m b Zero (turn-number (state r n) b ∙ lent-ten (state r n) b ss d)
 
-  -- frames: a slot awaits a frame that 1 to 5 do not refuse exactly where it is a read's reply
+  -- frames: a slot awaits a frame that 1 to 5 do not refuse exactly where it is a read's or a checked write's reply
   module _ (f : Frame) (e : r .calls n ≡ frame itsOwn f) (z : contentNumber (state r n .own) f ≡ 0) where
     is-reply : (k : ℕ) → k < 4 → awaits (state r n) f k ≡ true → (x : Transfer r) × (c : ℕ) × Replied r x c n
     is-reply k l a = go (occupied r w n k l (not-free (wk .phase)))
@@ -161,7 +161,7 @@ module _ (r : Run) (w : Lawful r) (n : ℕ) where
         go (x, s, q) = (
           x,
           wx .partway .chunk,
-          awaited-replied r w x n f s h (read-so-far r w x rd n s) e z
+          awaited-replied r w x n f s h (asked-so-far-at r w x n s (wx .asking)) e z
               (awaits-ok (state r n) f (slotOf r x) ax) wx,
         )
           where
@@ -173,9 +173,6 @@ module _ (r : Run) (w : Lawful r) (n : ℕ) where
 
             wx : WaitOk (slotAt r x n)
             wx = wait-ok (slotAt r x n) (okAt r w x n) (awaits-ok (state r n) f (slotOf r x) ax .waits)
-
-            rd : isWrite (x .ask) ≡ false
-            rd = read-of (x .ask) (h .kind) (wx .asking)
 
     no-reply : (isNone (awaiting (state r n) f) ≡ true) ↔ (¬ ((x : Transfer r) × (c : ℕ) × Replied r x c n))
     unfolding awaiting
@@ -214,13 +211,13 @@ module _ (r : Run) (w : Lawful r) (n : ℕ) where
   abbrev From1 : Frame → ℕ → Type 0
   From1 f = First (2 ^ 29 ≤ f .id) 1 (From2 f)
 
-  frames-number : (l : Lent) (f : Frame) → r .calls n ≡ frame l f → Shaped (frame l f) → (m : ℕ)
-      → (step (state r n) (buffer r n) (frame l f) .answer .number ≡ m) ↔ FrameInRun r n l f m
+  frames-number : (l : Lent Buffers) (f : Frame) → r .calls n ≡ frame l f → Shaped (frame l f) → (m : ℕ)
+      → (step (state r n) (buffers r n) (frame l f) .answer .number ≡ m) ↔ FrameInRun r n l f m
   unfolding step
   frames-number itsOwn f e d m = own-first _ m (From1 f) (λ u. c .0 (sym q ∙ u), λ p. q ∙ c .1 p)
     where
-      q : frameOf (state r n) (buffer r n) f .answer .number ≡ frameChain (state r n .own) f (17 if isNone (awaiting (state r n) f) else 0)
-      q = frame-number (state r n) (buffer r n) f ∙ reply-later (state r n) (length (buffer r n)) f ss lb
+      q : frameOf (state r n) (buffers r n) f .answer .number ≡ frameChain (state r n .own) f (17 if isNone (awaiting (state r n) f) else 0)
+      q = frame-number (state r n) (buffers r n) f ∙ reply-later (state r n) (buffers r n) f ss lb
           ∙ content-chain (state r n .own) f (17 if isNone (awaiting (state r n) f) else 0)
 
       own-test : (not (eqb (idTo (f .id)) (state r n .own)) ≡ true) ↔ (idTo (f .id) ≢ ledger r n .own)
@@ -237,16 +234,16 @@ module _ (r : Run) (w : Lawful r) (n : ℕ) where
           (not-test (eqb (idKind (f .id)) rsp) (idKind (f .id) ≡ rsp) (eqb-test (idKind (f .id)) rsp))
           (λ t5. first-if 17 (isNone (awaiting (state r n) f)) 0 m NoReply Zero
           (no-reply f e (content-clear (state r n .own) f t1 t2 t3 t4 t5)) (λ t6. (sym, sym)))))))
-  frames-number (other b) f e d m = other-first _ m b (From1 f) (frame-number (state r n) b f ∙ reply-ten (state r n) (length b) f ss (d .0))
+  frames-number (other b) f e d m = other-first _ m b (From1 f) (frame-number (state r n) b f ∙ reply-ten (state r n) b f ss (d .0))
 
-  -- so a frame answered 0 is a read's reply
-  reply-of : (l : Lent) (f : Frame) → r .calls n ≡ frame l f → Shaped (frame l f)
-      → step (state r n) (buffer r n) (frame l f) .answer .number ≡ 0 → (x : Transfer r) × (c : ℕ) × Replied r x c n
+  -- so a frame answered 0 is such a reply
+  reply-of : (l : Lent Buffers) (f : Frame) → r .calls n ≡ frame l f → Shaped (frame l f)
+      → step (state r n) (buffers r n) (frame l f) .answer .number ≡ 0 → (x : Transfer r) × (c : ℕ) × Replied r x c n
   unfolding step awaiting
   reply-of itsOwn f e d u = go (option-cases (awaiting (state r n) f))
     where
       h : (contentNumber (state r n .own) f ≡ 0) × ((17 if isNone (awaiting (state r n) f) else 0) ≡ 0)
-      h = else-zero _ _ (sym (frame-number (state r n) (buffer r n) f ∙ reply-later (state r n) (length (buffer r n)) f ss lb) ∙ u)
+      h = else-zero _ _ (sym (frame-number (state r n) (buffers r n) f ∙ reply-later (state r n) (buffers r n) f ss lb) ∙ u)
 
       go : (awaiting (state r n) f ≡ none) ⊎ ((k : ℕ) × (awaiting (state r n) f ≡ some k)) → (x : Transfer r) × (c : ℕ) × Replied r x c n
       go (inl q) = contradiction (ap isNone q) (if-zero 16 _ _ (h .1) .0)
@@ -254,9 +251,9 @@ module _ (r : Run) (w : Lawful r) (n : ℕ) where
           let l : Lowest (awaits (state r n) f) k = lowest-some (awaits (state r n) f) k q in
           is-reply f e (h .0) k (l .bound) (l .passes)
   reply-of (other b) f e d u =
-      absurd (omega (arith, sym u ∙ frame-number (state r n) b f ∙ reply-ten (state r n) (length b) f ss (d .0)))
+      absurd (omega (arith, sym u ∙ frame-number (state r n) b f ∙ reply-ten (state r n) b f ss (d .0)))
 
-  closes-number : (t m : ℕ) → (step (state r n) (buffer r n) (close t) .answer .number ≡ m)
+  closes-number : (t m : ℕ) → (step (state r n) (buffers r n) (close t) .answer .number ≡ m)
       ↔ First ((x : Transfer r) → Stands r x n → ticket r x ≢ t) 14 Zero m
   unfolding step
   closes-number t m = (λ u. c .0 (sym q ∙ u), λ p. q ∙ c .1 p)
@@ -274,29 +271,29 @@ module _ (r : Run) (w : Lawful r) (n : ℕ) where
       c = first-if 14 (isNone (heldSlot (state r n) t)) 0 m ((x : Transfer r) → Stands r x n → ticket r x ≢ t) Zero unheld (λ z. (sym, sym))
 
   -- so a closing answered 0 is a standing transfer's
-  closed-of : (t : ℕ) → step (state r n) (buffer r n) (close t) .answer .number ≡ 0 → (x : Transfer r) × Stands r x n × (ticket r x ≡ t)
+  closed-of : (t : ℕ) → step (state r n) (buffers r n) (close t) .answer .number ≡ 0 → (x : Transfer r) × Stands r x n × (ticket r x ≡ t)
   unfolding step
   closed-of t u = known-holder r w n t (λ z. contradiction (ap isNone z)
       (if-zero 13 _ _ (sym (close-number (state r n) t ss) ∙ u) .0))
 
-  resets-number : (o m : ℕ) → (step (state r n) (buffer r n) (reset o) .answer .number ≡ m) ↔ First (15 < o) 11 Zero m
+  resets-number : (o m : ℕ) → (step (state r n) (buffers r n) (reset o) .answer .number ≡ m) ↔ First (15 < o) 11 Zero m
   unfolding step
   resets-number o m =
       let q = reset-number (state r n) o in
       let c = first-if 11 (ltb 15 o) 0 m (15 < o) Zero (ltb-test 15 o) (λ z. (sym, sym)) in
       (λ u. c .0 (sym q ∙ u), λ p. q ∙ c .1 p)
 
-  other-bytes : (b : List ℕ) (t : ℕ) → length b ≢ 512 → step (state r n) (buffer r n) (bytes (other b) t) .answer ≡ plain 10
+  other-bytes : (b : List ℕ) (t : ℕ) → length b ≢ 512 → step (state r n) (buffers r n) (bytes (other b) t) .answer ≡ plain 10
   unfolding step bytesOf spanOf bytesNumber _if_else_
   other-bytes b t d = rw (ss, ne-eqb (length b) 512 d)
 
   -- for the call that is made
-  made : (c : Call) (m : ℕ) (Q : Type 0) → r .calls n ≡ c → (step (state r n) (buffer r n) c .answer .number ≡ m) ↔ Q
+  made : (c : Call) (m : ℕ) (Q : Type 0) → r .calls n ≡ c → (step (state r n) (buffers r n) c .answer .number ≡ m) ↔ Q
       → (answer r n .number ≡ m) ↔ Q
-  made c m Q e h = subst (λ (d : Call). (step (state r n) (buffer r n) d .answer .number ≡ m) ↔ Q) (sym e) h
+  made c m Q e h = subst (λ (d : Call). (step (state r n) (buffers r n) d .answer .number ≡ m) ↔ Q) (sym e) h
 
-  zero-as : (c : Call) → r .calls n ≡ c → answer r n .number ≡ 0 → step (state r n) (buffer r n) c .answer .number ≡ 0
-  zero-as c e z = ap (λ (d : Call). step (state r n) (buffer r n) d .answer .number) (sym e) ∙ z
+  zero-as : (c : Call) → r .calls n ≡ c → answer r n .number ≡ 0 → step (state r n) (buffers r n) c .answer .number ≡ 0
+  zero-as c e z = ap (λ (d : Call). step (state r n) (buffers r n) d .answer .number) (sym e) ∙ z
 
   shaped-as : (c : Call) → r .calls n ≡ c → Shaped c
   shaped-as c e = subst Shaped e (w .shaped n)
@@ -309,7 +306,7 @@ module _ (r : Run) (w : Lawful r) (n : ℕ) where
     turns = λ l e m. made (turn l) m _ e (turns-number l (shaped-as (turn l) e) m);
     frames = λ l f e m. made (frame l f) m _ e (frames-number l f e (shaped-as (frame l f) e) m);
     replies = λ l f e z. reply-of l f e (shaped-as (frame l f) e) (zero-as (frame l f) e z);
-    others = λ b t e. ap (λ (c : Call). step (state r n) (buffer r n) c .answer) e ∙ other-bytes b t (shaped-as (bytes (other b) t) e);
+    others = λ b t e. ap (λ (c : Call). step (state r n) (buffers r n) c .answer) e ∙ other-bytes b t (shaped-as (bytes (other b) t) e);
     closes = λ t e m. made (close t) m _ e (closes-number t m);
     closed = λ t e z. closed-of t (zero-as (close t) e z);
     resets = λ o e m. made (reset o) m _ e (resets-number o m);

@@ -2,23 +2,21 @@
 use Prim.Native.Nat.{ℕ, _+_, _≤_, _<_}
 use mathlib.Core.Path.{_≡_, refl, sym, _∙_, ap}
 use mathlib.Core.Logic.{_↔_, _⊎_, inl, inr, _≢_}
-use mathlib.Core.List.{List}
 use mathlib.Core.Option.{none, some}
 use mathlib.Core.Bool.{Bool, true, false, cond, not, _||_}
 use native.Mathlib.Omega.{arith}
-use lib.ListN.{length}
 use lib.Dec.{ltb, eqb}
 use borrow.Author.Tests.{eqb-true, le-leb, ltb-false, leb-true}
 use Rattle.wire.specs.Order.{_if_else_, _orElse_}
 use Rattle.wire.specs.First.{First, Zero}
 use Rattle.bridge_rules.specs.State.{askNumber, Bridge, free, slot, sound, isFree, isNone, lowestFree}
-use Rattle.bridge_rules.specs.Answers.{lentNumber, Result, unless, plain}
+use Rattle.bridge_rules.specs.Answers.{Buffers, Result, rightLengths, lentNumber, unless, plain}
 use Rattle.bridge_rules.specs.Opening.{roomNumber, Ask, askDevice, askTable, askOffset, askCount, openNumber, openOf}
 use Rattle.bridge_rules.specs.Call.{step}
 use Rattle.bridge_rules.specs.Calls.{OpeningNumber, OpeningNumbers, Acceptable, OpensExactly}
-use Rattle.bridge_rules.proofs.NumberLaws.{OpenFacts, open-facts, open-lent}
+use Rattle.bridge_rules.proofs.NumberLaws.{OpenFacts, open-facts, open-lent, RightLengths, lengths-true, true-lengths}
 use Rattle.wire.proofs.Orders.{if-orElse, zero-orElse}
-use Rattle.wire.proofs.RefusalChains.{first-if, not-test, ltb-test, eqb-test, sound-test, either, or-test, over-test, none-test, some-of}
+use Rattle.wire.proofs.RefusalChains.{first-if, not-test, ltb-test, sound-test, either, or-test, over-test, none-test, some-of}
 use Rattle.bridge_rules.proofs.Search.{cases, contradiction, Lowest, lowest-some, lowest-none, option-cases}
 use Rattle.bridge_rules.proofs.CallCases.{freeAt}
 
@@ -99,16 +97,16 @@ full-phases s = (
     go k l (inr e) f = e
 
 -- the number is the refusal
-pub unless-number : (n : ℕ) (r : Result) (s : Bridge) (b : List ℕ) → r .answer .number ≡ 0 → unless n r s b .answer .number ≡ n
+pub unless-number : (n : ℕ) (r : Result) (s : Bridge) (b : Buffers) → r .answer .number ≡ 0 → unless n r s b .answer .number ≡ n
 unless-number n r s b z = go (eqb n 0) refl
   where
-    go : (t : Bool) → eqb n 0 ≡ t → cond t r (record { answer = plain n; state = s; buffer = b }) .answer .number ≡ n
+    go : (t : Bool) → eqb n 0 ≡ t → cond t r (record { answer = plain n; state = s; buffers = b }) .answer .number ≡ n
     go true e = z ∙ sym (eqb-true n 0 e)
     go false e = refl
 
-pub number-is : (s : Bridge) (b : List ℕ) (a : Ask) → openOf s b a .answer .number ≡ openNumber s (length b) a
+pub number-is : (s : Bridge) (b : Buffers) (a : Ask) → openOf s b a .answer .number ≡ openNumber s (rightLengths b) a
 unfolding openOf
-number-is s b a = unless-number (openNumber s (length b) a) _ s b refl
+number-is s b a = unless-number (openNumber s (rightLengths b) a) _ s b refl
 
 pub opening-numbers : OpeningNumbers
 unfolding step openNumber lentNumber
@@ -120,16 +118,16 @@ opening-numbers s b a n = (λ e. h .0 (sym (number-is s b a) ∙ e), λ p. numbe
     Used : Type 0
     Used = 4294967295 ≤ s .issued
 
-    h : (openNumber s (length b) a ≡ n) ↔ OpeningNumber s b a n
+    h : (openNumber s (rightLengths b) a ≡ n) ↔ OpeningNumber s b a n
     h = (λ e. tests .0 (sym flat ∙ e), λ p. flat ∙ tests .1 p)
       where
-        flat : openNumber s (length b) a ≡ (11 if not (sound s) else 10 if not (eqb (length b) 512) else afterLent s a)
+        flat : openNumber s (rightLengths b) a ≡ (11 if not (sound s) else 10 if not (rightLengths b) else afterLent s a)
         flat = rw (if-orElse, if-orElse, zero-orElse)
 
-        tests : ((11 if not (sound s) else 10 if not (eqb (length b) 512) else afterLent s a) ≡ n) ↔ OpeningNumber s b a n
-        tests = first-if 11 (not (sound s)) _ n (sound s ≡ false) (First (length b ≢ 512) 10 (AfterLent a Full Used)) (sound-test (sound s))
-            (λ y. first-if 10 (not (eqb (length b) 512)) (afterLent s a) n (length b ≢ 512) (AfterLent a Full Used)
-            (not-test (eqb (length b) 512) (length b ≡ 512) (eqb-test (length b) 512))
+        tests : ((11 if not (sound s) else 10 if not (rightLengths b) else afterLent s a) ≡ n) ↔ OpeningNumber s b a n
+        tests = first-if 11 (not (sound s)) _ n (sound s ≡ false) (First (¬ RightLengths b) 10 (AfterLent a Full Used)) (sound-test (sound s))
+            (λ y. first-if 10 (not (rightLengths b)) (afterLent s a) n (¬ RightLengths b) (AfterLent a Full Used)
+            (not-test (rightLengths b) (RightLengths b) (true-lengths b, lengths-true b))
             (λ z. chain s a n Full Used (full-phases s) (λ u. u, λ u. u)))
 
 pub opens-exactly : OpensExactly
@@ -138,11 +136,13 @@ opens-exactly s b a = (there, back)
   where
     there : openOf s b a .answer .number ≡ 0 → Acceptable s b a
     there e =
-        let z : openNumber s (length b) a ≡ 0 = sym (number-is s b a) ∙ e in
-        let o : OpenFacts s a = open-facts s (length b) a z in
+        let z : openNumber s (rightLengths b) a ≡ 0 = sym (number-is s b a) ∙ e in
+        let l = open-lent s b a z in
+        let o : OpenFacts s a = open-facts s (rightLengths b) a z in
         record {
-          accepts = open-lent s (length b) a z .0;
-          lent = open-lent s (length b) a z .1;
+          accepts = l .0;
+          first = l .1 .0;
+          second = l .1 .1;
           device = o .law .device;
           table = o .law .table;
           nonempty = omega (arith, o .law .some);
@@ -161,7 +161,7 @@ opens-exactly s b a = (there, back)
     back c = opening-numbers s b a 0 .1 (inr (
       λ z. contradiction (c .accepts) z,
       inr (
-        λ z. z (c .lent),
+        λ z. z (c .first, c .second),
         inr (
           λ z. z (c .device, c .table),
           inr (

@@ -2,7 +2,6 @@
 use Prim.Native.Nat.{ℕ, zero, suc, _+_, _%_, _<_}
 use mathlib.Core.Path.{_≡_, refl, sym, _∙_, ap}
 use mathlib.Core.Logic.{_⊎_, inl, inr, _≢_}
-use mathlib.Core.List.{List}
 use mathlib.Core.Option.{Option, none, some}
 use mathlib.Core.Bool.{Bool, true, false, cond, _&&_, false≢true, true≢false}
 use native.Mathlib.Nat.{add-suc, suc-add, add-zero}
@@ -10,7 +9,7 @@ use native.Mathlib.Omega.{arith}
 use lib.Dec.{eqb}
 use borrow.Author.Tests.{eqb-true, eqb-false}
 use Rattle.bridge_rules.specs.State.{Bridge, firstSlot}
-use Rattle.bridge_rules.specs.Answers.{Result, unless, plain}
+use Rattle.bridge_rules.specs.Answers.{Buffers, Result, unless, plain}
 
 -- where a search ends: at distance d, with every test before it failed
 pub record Found (p : ℕ → Bool) (start fuel k : ℕ) : Type 0 where
@@ -111,13 +110,13 @@ pub and-intro : (a b : Bool) → a ≡ true → b ≡ true → (a && b) ≡ true
 and-intro a b p q = rw (p, q)
 
 -- `unless` refuses or goes through
-pub data Outcome (n : ℕ) (r : Result) (s : Bridge) (b : List ℕ) (u : Result) : Type 0 where
+pub data Outcome (n : ℕ) (r : Result) (s : Bridge) (b : Buffers) (u : Result) : Type 0 where
   through : n ≡ 0 → u ≡ r → Outcome n r s b u
-  refused : n ≢ 0 → u ≡ record { answer = plain n; state = s; buffer = b } → Outcome n r s b u
+  refused : n ≢ 0 → u ≡ record { answer = plain n; state = s; buffers = b } → Outcome n r s b u
 
-pub outcome : (n : ℕ) (r : Result) (s : Bridge) (b : List ℕ) → Outcome n r s b (unless n r s b)
+pub outcome : (n : ℕ) (r : Result) (s : Bridge) (b : Buffers) → Outcome n r s b (unless n r s b)
 outcome n r s b = go (eqb n 0) refl
   where
-    go : (t : Bool) → eqb n 0 ≡ t → Outcome n r s b (cond t r (record { answer = plain n; state = s; buffer = b }))
+    go : (t : Bool) → eqb n 0 ≡ t → Outcome n r s b (cond t r (record { answer = plain n; state = s; buffers = b }))
     go true e = through (eqb-true n 0 e) refl
     go false e = refused (eqb-false n 0 e) refl

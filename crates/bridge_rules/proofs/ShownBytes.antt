@@ -9,17 +9,17 @@ use lib.ListN.{length, take, drop, getD, length-take, length-drop}
 use lib.Seq.{take-add, getD-take, getD-drop, drop-drop, ext-getD}
 use lib.Dec.{eqb}
 use borrow.Author.Tests.{eqb-true, eq-eqb, ne-eqb}
-use Rattle.bridge_rules.specs.State.{Bridge, done, slot, asks, carries}
+use Rattle.bridge_rules.specs.State.{Bridge, done, slot, shows}
 use Rattle.bridge_rules.specs.Answers.{plain, Answer}
-use Rattle.bridge_rules.specs.Opening.{isWrite, askCount}
+use Rattle.bridge_rules.specs.Opening.{isRead, askCount}
 use Rattle.bridge_rules.specs.Turn.{chunkLen}
 use Rattle.wire.specs.Log.{partOf}
 use Rattle.bridge_rules.specs.Ending.{slotSpan}
 use Rattle.bridge_rules.specs.Call.{Call, itsOwn, frame}
-use Rattle.bridge_rules.specs.Run.{Run, state, buffer, Lawful, Shaped, Transfer, slotOf, Stands, chunks, lenOf, statusAt, shownAt}
+use Rattle.bridge_rules.specs.Run.{Run, state, buffers, Lawful, Shaped, Transfer, slotOf, Stands, chunks, lenOf, statusAt, shownAt}
 use Rattle.bridge_rules.specs.Replies.{place, Matches, Replied}
 use Rattle.bridge_rules.specs.Demand3.{brought, join, showing}
-use Rattle.bridge_rules.proofs.KindTests.{carries-of, carries-only}
+use Rattle.bridge_rules.proofs.KindTests.{shows-of}
 use Rattle.bridge_rules.proofs.FrameLaws.{len-eight, len-inside, content-length}
 use Rattle.bridge_rules.proofs.SlotOk.{done-ok}
 use Rattle.bridge_rules.proofs.SoundRuns.{storage-sound}
@@ -66,14 +66,14 @@ brought-length r w x c m h =
     ap (λ (d : Call). length (brought d)) (f .1 .is) ∙ content-length (f .0) (sh .1)
     (omega (arith, f .1 .len, len-eight (askCount (x .ask)) (8 * c))) ∙ f .1 .len
 
-part-of : (s : Bridge) (b : List ℕ) (k n : ℕ) → asks (slot s k .kind) ≡ true → slot s k .count ≡ n
+part-of : (s : Bridge) (b : List ℕ) (k n : ℕ) → shows (slot s k .kind) ≡ true → slot s k .count ≡ n
     → partOf b (slotSpan s k) ≡ take n (drop (128 * k) b)
 unfolding slotSpan
 part-of s b k n e f = rw (e, f)
 
-part-write : (s : Bridge) (b : List ℕ) (k : ℕ) → carries (slot s k .kind) ≡ true → partOf b (slotSpan s k) ≡ []
+part-hidden : (s : Bridge) (b : List ℕ) (k : ℕ) → shows (slot s k .kind) ≡ false → partOf b (slotSpan s k) ≡ []
 unfolding slotSpan
-part-write s b k e = rw (carries-only (slot s k .kind) e)
+part-hidden s b k e = rw e
 
 module _ (r : Run) (w : Lawful r) (x : Transfer r) where
   pub hidden : (n : ℕ) → Stands r x n → statusAt r x n ≢ 0 → shownAt r x n ≡ plain (statusAt r x n)
@@ -82,12 +82,14 @@ module _ (r : Run) (w : Lawful r) (x : Transfer r) where
   pub done-progress : (n : ℕ) → Stands r x n → slotAt r x n .phase ≡ done → slotAt r x n .progress ≡ askCount (x .ask)
   done-progress n s e = done-ok (slotAt r x n) (okAt r w x n) e .whole ∙ held r w x n s .count
 
-  pub write-hidden : (n : ℕ) → Stands r x n → isWrite (x .ask) ≡ true → shownAt r x n ≡ plain (statusAt r x n)
-  write-hidden n s e = shown-is r w x n s ∙ go (eqb (statusAt r x n) 0) refl
+  -- what is no read shows nothing
+  pub not-read-hidden : (n : ℕ) → Stands r x n → isRead (x .ask) ≡ false → shownAt r x n ≡ plain (statusAt r x n)
+  not-read-hidden n s e = shown-is r w x n s ∙ go (eqb (statusAt r x n) 0) refl
     where
       go : (b : Bool) → eqb (statusAt r x n) 0 ≡ b
-          → cond b (showing (partOf (buffer r n) (slotSpan (state r n) (slotOf r x)))) (plain (statusAt r x n)) ≡ plain (statusAt r x n)
-      go true q = ap showing (part-write (state r n) (buffer r n) (slotOf r x) (carries-of (x .ask) (held r w x n s .kind) e))
+          → cond b (showing (partOf (buffers r n .first) (slotSpan (state r n) (slotOf r x)))) (plain (statusAt r x n)) ≡ plain (statusAt r x n)
+      go true q = ap showing (part-hidden (state r n) (buffers r n .first) (slotOf r x)
+          (shows-of (x .ask) (slotAt r x n .kind) (held r w x n s .kind) ∙ e))
           ∙ ap plain (sym (eqb-true _ 0 q))
       go false q = refl
 
@@ -95,40 +97,42 @@ module _ (r : Run) (w : Lawful r) (x : Transfer r) (n : ℕ) (s : Stands r x n) 
   pub all-got : slotAt r x n .phase ≡ done → (c : ℕ) → 8 * c < askCount (x .ask) → Got r x c n
   all-got e c l = p .got c (omega (arith, l, done-progress r w x n s e))
 
-  -- the part of the buffer is the replies' bytes
+  -- the part of the first buffer is the replies' bytes
   pub shown-part : (e : slotAt r x n .phase ≡ done) (g : ℕ → List ℕ)
       → ((c : ℕ) → (q : 8 * c < askCount (x .ask)) → g c ≡ brought (r .calls (all-got e c q .m)))
-      → take (askCount (x .ask)) (drop (128 * slotOf r x) (buffer r n)) ≡ join g (chunks r x)
-  shown-part e g h = sym (join-all g (askCount (x .ask)) (drop (128 * slotOf r x) (buffer r n)) chunk)
+      → take (askCount (x .ask)) (drop (128 * slotOf r x) (buffers r n .first)) ≡ join g (chunks r x)
+  shown-part e g h = sym (join-all g (askCount (x .ask)) (drop (128 * slotOf r x) (buffers r n .first)) chunk)
     where
       few : askCount (x .ask) ≤ 128
       few = openedAt r w x .law .few
 
       chunk : (c : ℕ) → 8 * c < askCount (x .ask) → g c ≡ take (chunkLen (askCount (x .ask)) (8 * c))
-          (drop (8 * c) (drop (128 * slotOf r x) (buffer r n)))
+          (drop (8 * c) (drop (128 * slotOf r x) (buffers r n .first)))
       chunk c q =
           let gt : Got r x c n = all-got e c q in
           let ln : length (g c) ≡ lenOf r x c = ap length (h c q) ∙ brought-length r w x c (gt .m) (gt .replied .matches) in
-          part-is (g c) (buffer r n) (place r x c) (lenOf r x c) ln
-          (omega (arith, storage-sound r w n .1, openedAt r w x .bound, few, len-inside (askCount (x .ask)) (8 * c) q))
+          part-is (g c) (buffers r n .first) (place r x c) (lenOf r x c) ln
+          (omega (arith, storage-sound r w n .1 .0, openedAt r w x .bound, few, len-inside (askCount (x .ask)) (8 * c) q))
           (λ i l. gt .kept i l ∙ ap (λ (bs : List ℕ). getD bs i 0) (sym (h c q)))
-          ∙ ap (take (lenOf r x c)) (sym (drop-at (128 * slotOf r x) (8 * c) (buffer r n)))
+          ∙ ap (take (lenOf r x c)) (sym (drop-at (128 * slotOf r x) (8 * c) (buffers r n .first)))
 
-  pub shown-done : statusAt r x n ≡ 0 → shownAt r x n ≡ showing (take (askCount (x .ask)) (drop (128 * slotOf r x) (buffer r n)))
-  shown-done e = shown-is r w x n s ∙ rw (eq-eqb (statusAt r x n) 0 e)
-      (ap showing (part-of (state r n) (buffer r n) (slotOf r x) (askCount (x .ask)) (p .asking) (held r w x n s .count)))
+  pub shown-done : isRead (x .ask) ≡ true → statusAt r x n ≡ 0
+      → shownAt r x n ≡ showing (take (askCount (x .ask)) (drop (128 * slotOf r x) (buffers r n .first)))
+  shown-done rd e = shown-is r w x n s ∙ rw (eq-eqb (statusAt r x n) 0 e)
+      (ap showing (part-of (state r n) (buffers r n .first) (slotOf r x) (askCount (x .ask))
+      (shows-of (x .ask) (slotAt r x n .kind) (held r w x n s .kind) ∙ rd) (held r w x n s .count)))
 
   -- which has as many bytes as were asked for
-  pub shown-whole : statusAt r x n ≡ 0 → length (shownAt r x n .shown) ≡ askCount (x .ask)
-  shown-whole e =
-      let b : List ℕ = drop (128 * slotOf r x) (buffer r n) in
-      ap (λ (a : Answer). length (a .shown)) (shown-done e) ∙ length-take (askCount (x .ask)) b
-      ∙ omega (arith, length-drop (128 * slotOf r x) (buffer r n), storage-sound r w n .1, openedAt r w x .bound, openedAt r w x .law .few)
+  pub shown-whole : isRead (x .ask) ≡ true → statusAt r x n ≡ 0 → length (shownAt r x n .shown) ≡ askCount (x .ask)
+  shown-whole rd e =
+      let b : List ℕ = drop (128 * slotOf r x) (buffers r n .first) in
+      ap (λ (a : Answer). length (a .shown)) (shown-done rd e) ∙ length-take (askCount (x .ask)) b
+      ∙ omega (arith, length-drop (128 * slotOf r x) (buffers r n .first), storage-sound r w n .1 .0, openedAt r w x .bound, openedAt r w x .law .few)
 
-  pub shown-joined : statusAt r x n ≡ 0 → (m : ℕ → ℕ) → ((c : ℕ) → c < chunks r x → (m c < n) × Replied r x c (m c))
+  pub shown-joined : isRead (x .ask) ≡ true → statusAt r x n ≡ 0 → (m : ℕ → ℕ) → ((c : ℕ) → c < chunks r x → (m c < n) × Replied r x c (m c))
       → shownAt r x n ≡ showing (join (λ c. brought (r .calls (m c))) (chunks r x))
-  shown-joined e m h =
+  shown-joined rd e m h =
       let d : slotAt r x n .phase ≡ done = done-is r w x n s .0 e in
-      shown-done e ∙ ap showing (shown-part d (λ c. brought (r .calls (m c)))
+      shown-done rd e ∙ ap showing (shown-part d (λ c. brought (r .calls (m c)))
       (λ c q. ap (λ (k : ℕ). brought (r .calls k)) (replied-once r w x c (m c) (all-got d c q .m) (h c (omega arith) .1)
       (all-got d c q .replied))))

@@ -1,10 +1,10 @@
--- What a call does to one slot and its part of the buffer.
+-- What a call does to one slot and its parts of the buffers.
 use Prim.Native.Nat.{ℕ, suc, _+_, _*_, _%_, _-_, _≤_, _<_}
-use mathlib.Core.Path.{_≡_, refl, sym, _∙_, ap}
+use mathlib.Core.Path.{_≡_, refl, sym, _∙_, ap, subst}
 use mathlib.Core.Logic.{_⊎_, inl, inr, _≢_}
-use mathlib.Core.List.{List}
 use mathlib.Core.Option.{none, some}
-use mathlib.Core.Bool.{Bool, true, false, _&&_}
+use mathlib.Core.Bool.{Bool, true, false, cond, _&&_}
+use mathlib.Core.List.{[]}
 use native.Mathlib.Omega.{arith}
 use native.Mathlib.Decide.{ℕ-discrete, decLt}
 use lib.ListN.{length, set}
@@ -13,23 +13,25 @@ use lib.Dec.{eqb}
 use Rattle.bus_rules.specs.Frames.{content}
 use Rattle.bus_rules.specs.Ident.{idOffset}
 use Rattle.bridge_rules.specs.State.{Frame, Bridge, Slot, blank, slot, isReady, isFree, lowestFree}
-use Rattle.bridge_rules.specs.Answers.{Answer, Result}
-use Rattle.bridge_rules.specs.Opening.{Ask, read, write, askGiven, opened}
+use Rattle.bridge_rules.specs.Answers.{Answer, Buffers, Result, both}
+use Rattle.bridge_rules.specs.Opening.{Ask, read, write, check, isWrite, isCheck, askGiven, toFirst, toSecond, opened}
 use Rattle.bridge_rules.specs.Turn.{aged, advanced, sentSlot, sentFrame, agedBridge, sendFor}
-use Rattle.bridge_rules.specs.Incoming.{awaits, contentNumber}
+use Rattle.bridge_rules.specs.Incoming.{awaits, contentNumber, differs, differed}
 use Rattle.bridge_rules.specs.Call.{Call, itsOwn, opening, turn, frame, close, reset, step}
 use Rattle.bridge_rules.specs.Run.{isTurn}
 use Rattle.bridge_rules.proofs.NumberLaws.{LawfulAsk}
 use Rattle.bridge_rules.proofs.FrameLaws.{len-inside, content-short}
 use Rattle.bridge_rules.proofs.Search.{cases, contradiction}
-use Rattle.bridge_rules.proofs.BufferParts.{SamePart, sets-elsewhere}
+use Rattle.bridge_rules.proofs.BufferParts.{SameParts, same-part, same-parts, sets-elsewhere}
 use Rattle.bridge_rules.proofs.AwaitsTest.{AwaitsOk, awaits-ok}
-use Rattle.bridge_rules.proofs.SlotOk.{ReadyOk, ready-ok, WaitOk, wait-ok}
-use Rattle.bridge_rules.proofs.SlotChanges.{Same, same-refl, same-trans, same-eq, aged-same, advanced-same, sent-same}
+use Rattle.bridge_rules.proofs.SlotOk.{ReadyOk, ready-ok, WaitOk, wait-ok, kind-eq}
+use Rattle.bridge_rules.proofs.SlotChanges.{Same, same-refl, same-trans, same-eq, aged-same, advanced-same, sent-same, differed-is}
+use Rattle.bridge_rules.proofs.SlotChanges.{aged-kind, advanced-kind, sent-kind}
+use Rattle.bridge_rules.proofs.KindTests.{KindGoes}
 use Rattle.bridge_rules.proofs.SoundTest.{Sound}
 use Rattle.bridge_rules.proofs.SoundStates.{slot-set-same, slot-set-other, slot-aged, aged-sound, fresh-slot}
-use Rattle.bridge_rules.proofs.CallCases.{CallCase, nothing, opens, sends, idles, takes, closes, resets, SendsSlot, TakesReply, other-call}
-use Rattle.bridge_rules.proofs.CallCases.{readyAt, freeAt, openResult, takeResult, closeResult}
+use Rattle.bridge_rules.proofs.CallCases.{CallCase, nothing, opens, sends, idles, takes, disagrees, closes, resets, SendsSlot, other-call}
+use Rattle.bridge_rules.proofs.CallCases.{readyAt, freeAt, openResult, takeResult, differResult, closeResult}
 
 -- ── the search's order ─────────────────────────────────────────────────────────────────────────────────────────────
 
@@ -52,12 +54,12 @@ distance-less last k d h l e = omega arith
 
 -- ── effects ────────────────────────────────────────────────────────────────────────────────────────────────────────
 
--- call c on state s and buffer b leaves s′ and b′ and answers a; t says whether it is an accepted turn. Of slot k:
-module _ (s s′ : Bridge) (b b′ : List ℕ) (c : Call) (a : Answer) (t : Bool) (k : ℕ) where
+-- call c on state s and buffers b leaves s′ and b′ and answers a; t says whether it is an accepted turn. Of slot k:
+module _ (s s′ : Bridge) (b b′ : Buffers) (c : Call) (a : Answer) (t : Bool) (k : ℕ) where
   -- nothing changed
   pub record Unchanged : Type 0 where
     pub after : slot s′ k ≡ slot s k
-    pub part : SamePart k b b′
+    pub parts : SameParts k b b′
     pub last : s′ .last ≡ s .last
     pub noTurn : t ≡ false
     pub silent : a .sent ≡ none
@@ -104,8 +106,23 @@ module _ (s s′ : Bridge) (b b′ : List ℕ) (c : Call) (a : Answer) (t : Bool
     pub passes : contentNumber (s .own) f ≡ 0
     pub awaited : AwaitsOk s f k
     pub waits : WaitOk (slot s k)
+    pub agrees : differs k (slot s k) (b .second) f ≡ false
     pub after : slot s′ k ≡ advanced (slot s k)
-    pub stored : b′ ≡ sets b (128 * k + slot s k .progress) (content f)
+    pub stored : b′ ≡ both (sets (b .first) (128 * k + slot s k .progress) (content f)) (b .second)
+    pub last : s′ .last ≡ s .last
+    pub noTurn : t ≡ false
+    pub silent : a .sent ≡ none
+
+  -- a frame was the reply that it awaited, and brought other bytes than it sent
+  pub record Disagreed : Type 0 where
+    pub f : Frame
+    pub call : c ≡ frame itsOwn f
+    pub passes : contentNumber (s .own) f ≡ 0
+    pub awaited : AwaitsOk s f k
+    pub waits : WaitOk (slot s k)
+    pub other : differs k (slot s k) (b .second) f ≡ true
+    pub after : slot s′ k ≡ differed (slot s k)
+    pub kept : b′ ≡ b
     pub last : s′ .last ≡ s .last
     pub noTurn : t ≡ false
     pub silent : a .sent ≡ none
@@ -131,40 +148,56 @@ module _ (s s′ : Bridge) (b b′ : List ℕ) (c : Call) (a : Answer) (t : Bool
     pub after : slot s′ k ≡ blank
 
 -- its transfer stays
-pub data Change (s s′ : Bridge) (b b′ : List ℕ) (c : Call) (a : Answer) (t : Bool) (k : ℕ) : Type 0 where
+pub data Change (s s′ : Bridge) (b b′ : Buffers) (c : Call) (a : Answer) (t : Bool) (k : ℕ) : Type 0 where
   unchanged : Unchanged s s′ b b′ c a t k → Change s s′ b b′ c a t k
   ages : Aged s s′ b b′ c a t k → Change s s′ b b′ c a t k
   served : Served s s′ b b′ c a t k → Change s s′ b b′ c a t k
   taken : Taken s s′ b b′ c a t k → Change s s′ b b′ c a t k
+  disagreed : Disagreed s s′ b b′ c a t k → Change s s′ b b′ c a t k
 
 -- or it begins or ends
-pub data Effect (s s′ : Bridge) (b b′ : List ℕ) (c : Call) (a : Answer) (t : Bool) (k : ℕ) : Type 0 where
+pub data Effect (s s′ : Bridge) (b b′ : Buffers) (c : Call) (a : Answer) (t : Bool) (k : ℕ) : Type 0 where
   keeps : Change s s′ b b′ c a t k → Effect s s′ b b′ c a t k
   opensHere : OpensHere s s′ b b′ c a t k → Effect s s′ b b′ c a t k
   closesHere : ClosesHere s s′ b b′ c a t k → Effect s s′ b b′ c a t k
   resetsHere : ResetsHere s s′ b b′ c a t k → Effect s s′ b b′ c a t k
 
-pub change-same : {s s′ : Bridge} {b b′ : List ℕ} {c : Call} {a : Answer} {t : Bool} {k : ℕ} → Change s s′ b b′ c a t k
+pub change-same : {s s′ : Bridge} {b b′ : Buffers} {c : Call} {a : Answer} {t : Bool} {k : ℕ} → Change s s′ b b′ c a t k
     → Same (slot s k) (slot s′ k)
 change-same {s} {s′} {b} {b′} {c} {a} {t} {k} (unchanged u) = same-eq (same-refl (slot s k)) (u .after)
 change-same {s} {s′} {b} {b′} {c} {a} {t} {k} (ages u) = same-eq (aged-same (slot s k)) (u .after)
 change-same {s} {s′} {b} {b′} {c} {a} {t} {k} (served u) =
     same-eq (same-trans (aged-same (slot s k)) (sent-same (aged (slot s k)))) (u .after)
 change-same {s} {s′} {b} {b′} {c} {a} {t} {k} (taken u) = same-eq (advanced-same (slot s k)) (u .after)
+change-same {s} {s′} {b} {b′} {c} {a} {t} {k} (disagreed u) = same-eq (differed-is (slot s k) .same) (u .after)
+
+-- a slot's kind stays, but a checked write's turns to reading back
+pub change-kind : {s s′ : Bridge} {b b′ : Buffers} {c : Call} {a : Answer} {t : Bool} {k : ℕ} → Change s s′ b b′ c a t k
+    → KindGoes (slot s k .kind) (slot s′ k .kind)
+change-kind {s} {s′} {b} {b′} {c} {a} {t} {k} (unchanged u) = inl (kind-eq (u .after))
+change-kind {s} {s′} {b} {b′} {c} {a} {t} {k} (ages u) = inl (kind-eq (u .after) ∙ aged-kind (slot s k))
+change-kind {s} {s′} {b} {b′} {c} {a} {t} {k} (served u) =
+    subst (λ (i : ℕ). KindGoes i (slot s′ k .kind)) (aged-kind (slot s k))
+    (rw (kind-eq (u .after)) (sent-kind (aged (slot s k)) (u .ready .held .kind)))
+change-kind {s} {s′} {b} {b′} {c} {a} {t} {k} (taken u) = inl (kind-eq (u .after) ∙ advanced-kind (slot s k))
+change-kind {s} {s′} {b} {b′} {c} {a} {t} {k} (disagreed u) = inl (kind-eq (u .after) ∙ differed-is (slot s k) .kind)
 
 -- ── every call has one of them ─────────────────────────────────────────────────────────────────────────────────────
 
-abbrev pub turnedBy : Bridge → List ℕ → Call → Bool
+abbrev pub turnedBy : Bridge → Buffers → Call → Bool
 turnedBy s b c = isTurn c && eqb (step s b c .answer .number) 0
 
-abbrev pub EffectOf : Bridge → List ℕ → Call → ℕ → Type 0
-EffectOf s b c k = Effect s (step s b c .state) b (step s b c .buffer) c (step s b c .answer) (turnedBy s b c) k
+abbrev pub EffectOf : Bridge → Buffers → Call → ℕ → Type 0
+EffectOf s b c k = Effect s (step s b c .state) b (step s b c .buffers) c (step s b c .answer) (turnedBy s b c) k
 
-pub given-short : (a : Ask) → LawfulAsk a → 0 + length (askGiven a) ≤ 128
-given-short (read d t o n) w = omega arith
-given-short (write d t o bs) w = omega (arith, w .few)
+-- given bytes, or none, are few
+given-short : (a : Ask) (t : Bool) → LawfulAsk a → 0 + length (cond t (askGiven a) []) ≤ 128
+given-short (read d t o n) true w = omega arith
+given-short (write d t o bs) true w = omega (arith, w .few)
+given-short (check d t o bs) true w = omega (arith, w .few)
+given-short a false w = omega arith
 
-module _ (s : Bridge) (b : List ℕ) (c : Call) (h : Sound s) (k : ℕ) (l : k < 4) where
+module _ (s : Bridge) (b : Buffers) (c : Call) (h : Sound s) (k : ℕ) (l : k < 4) where
   same-slot : (z : Result) (j : ℕ) (y : Slot) → step s b c ≡ z → z .state .slots ≡ set (s .slots) j y → j ≢ k
       → slot (step s b c .state) k ≡ slot s k
   same-slot z j y e q d = rw e (slot-set-other s (z .state) j k y q (λ u. d (sym u)))
@@ -186,27 +219,30 @@ module _ (s : Bridge) (b : List ℕ) (c : Call) (h : Sound s) (k : ℕ) (l : k <
           absurd (p (u .found .is ∙ ap (λ (n : ℕ). (suc (s .last) + n) % 4) e ∙ distance-is (s .last) k (h .last) l))
       less (no q) (no e) = contradiction (looked-at ∙ r) (u .found .skipped (distance (s .last) k) (omega arith))
 
-  -- no other slot awaits the frame that slot j takes
-  only-one : (u : TakesReply s b c) → u .k ≢ k → (g : Frame) → c ≡ frame itsOwn g → awaits s g k ≡ false
-  only-one u p g q = go (cases (awaits s g k))
+  -- a frame that slot j awaits: the slot waits
+  waits-at : (f : Frame) (j : ℕ) → j < 4 → awaits s f j ≡ true → WaitOk (slot s j)
+  waits-at f j m a = wait-ok (slot s j) (h .each j m) (awaits-ok s f j a .waits)
+
+  -- and no other slot awaits it
+  only-one : (f : Frame) (j : ℕ) → j < 4 → awaits s f j ≡ true → c ≡ frame itsOwn f → j ≢ k → (g : Frame) → c ≡ frame itsOwn g
+      → awaits s g k ≡ false
+  only-one f j m a e p g q = go (cases (awaits s g k))
     where
       go : (awaits s g k ≡ true) ⊎ (awaits s g k ≡ false) → awaits s g k ≡ false
       go (inr z) = z
       go (inl z) =
-          let same : u .f ≡ g = let e : frame itsOwn (u .f) ≡ frame itsOwn g = sym (u .call) ∙ q in cc in
-          let aj : AwaitsOk s (u .f) (u .k) = awaits-ok s (u .f) (u .k) (u .awaited) in
-          let ak : AwaitsOk s g k = awaits-ok s g k z in
-          let wj : WaitOk (slot s (u .k)) = wait-ok (slot s (u .k)) (h .each (u .k) (u .bound)) (aj .waits) in
-          let wk : WaitOk (slot s k) = wait-ok (slot s k) (h .each k l) (ak .waits) in
-          let pl : 128 * u .k + slot s (u .k) .progress ≡ 128 * k + slot s k .progress = sym (aj .place)
-          ∙ ap (λ (x : Frame). idOffset (x .id)) same ∙ ak .place in
+          let same : f ≡ g = let e : frame itsOwn f ≡ frame itsOwn g = sym e ∙ q in cc in
+          let wj : WaitOk (slot s j) = waits-at f j m a in
+          let wk : WaitOk (slot s k) = waits-at g k l z in
+          let pl : 128 * j + slot s j .progress ≡ 128 * k + slot s k .progress = sym (awaits-ok s f j a .place)
+          ∙ ap (λ (x : Frame). idOffset (x .id)) same ∙ awaits-ok s g k z .place in
           absurd (p (omega (arith, pl, wk .partway .below, wk .held .args .few, wj .partway .below, wj .held .args .few)))
 
   pub effect : CallCase s b c → EffectOf s b c k
   unfolding sendFor agedBridge
   effect (nothing u) = keeps (unchanged (record {
     after = ap (λ (x : Bridge). slot x k) (u .state);
-    part = λ i m. rw (u .buffer);
+    parts = same-parts k (u .buffers);
     last = ap (λ (x : Bridge). x .last) (u .state);
     noTurn = u .noTurn;
     silent = u .silent;
@@ -224,8 +260,10 @@ module _ (s : Bridge) (b : List ℕ) (c : Call) (h : Sound s) (k : ℕ) (l : k <
       })
       go (no p) = keeps (unchanged (record {
         after = same-slot (openResult s b (u .ask) (u .k)) (u .k) (opened (u .ask) (suc (s .issued))) (u .result) refl p;
-        part = rw (u .result) (let e : 128 * u .k ≡ 128 * u .k + 0 = omega arith in
-            rw e (sets-elsewhere k (u .k) b (askGiven (u .ask)) 0 (λ v. p (sym v)) (given-short (u .ask) (u .lawful))));
+        parts = rw (u .result) (let e : 128 * u .k ≡ 128 * u .k + 0 = omega arith in rw e (
+          sets-elsewhere k (u .k) (b .first) (toFirst (u .ask)) 0 (λ v. p (sym v)) (given-short (u .ask) (isWrite (u .ask)) (u .lawful)),
+          sets-elsewhere k (u .k) (b .second) (toSecond (u .ask)) 0 (λ v. p (sym v)) (given-short (u .ask) (isCheck (u .ask)) (u .lawful)),
+        ));
         last = rw (u .result);
         noTurn = rw (u .call);
         silent = rw (u .result);
@@ -279,7 +317,7 @@ module _ (s : Bridge) (b : List ℕ) (c : Call) (h : Sound s) (k : ℕ) (l : k <
       aw = awaits-ok s (u .f) (u .k) (u .awaited)
 
       w : WaitOk (slot s (u .k))
-      w = wait-ok (slot s (u .k)) (h .each (u .k) (u .bound)) (awaits-ok s (u .f) (u .k) (u .awaited) .waits)
+      w = waits-at (u .f) (u .k) (u .bound) (u .awaited)
 
       short : slot s (u .k) .progress + length (content (u .f)) ≤ 128
       short = omega (
@@ -297,6 +335,7 @@ module _ (s : Bridge) (b : List ℕ) (c : Call) (h : Sound s) (k : ℕ) (l : k <
         passes = u .passes;
         awaited = rw p at aw;
         waits = rw p at w;
+        agrees = rw p at (u .agrees);
         after = rw (u .result) (slot-set-same s _ k _ (h .four) (ap (λ (i : ℕ). set (s .slots) i (advanced (slot s i))) p) l);
         stored = rw (u .result, p);
         last = rw (u .result);
@@ -305,11 +344,38 @@ module _ (s : Bridge) (b : List ℕ) (c : Call) (h : Sound s) (k : ℕ) (l : k <
       }))
       go (no p) = keeps (unchanged (record {
         after = same-slot (takeResult s b (u .f) (u .k)) (u .k) (advanced (slot s (u .k))) (u .result) refl p;
-        part = rw (u .result) (sets-elsewhere k (u .k) b (content (u .f)) (slot s (u .k) .progress) (λ v. p (sym v)) short);
+        parts = rw (u .result) (
+          sets-elsewhere k (u .k) (b .first) (content (u .f)) (slot s (u .k) .progress) (λ v. p (sym v)) short,
+          same-part k {b = b .second} refl,
+        );
         last = rw (u .result);
         noTurn = rw (u .call);
         silent = rw (u .result);
-        unawaited = λ g q z. only-one u p g q;
+        unawaited = λ g q z. only-one (u .f) (u .k) (u .bound) (u .awaited) (u .call) p g q;
+      }))
+  effect (disagrees u) = go (ℕ-discrete (u .k) k)
+    where
+      go : Dec (u .k ≡ k) → EffectOf s b c k
+      go (yes p) = keeps (disagreed (record {
+        f = u .f;
+        call = u .call;
+        passes = u .passes;
+        awaited = rw p at (awaits-ok s (u .f) (u .k) (u .awaited));
+        waits = rw p at (waits-at (u .f) (u .k) (u .bound) (u .awaited));
+        other = rw p at (u .other);
+        after = rw (u .result) (slot-set-same s _ k _ (h .four) (ap (λ (i : ℕ). set (s .slots) i (differed (slot s i))) p) l);
+        kept = rw (u .result);
+        last = rw (u .result);
+        noTurn = rw (u .call);
+        silent = rw (u .result);
+      }))
+      go (no p) = keeps (unchanged (record {
+        after = same-slot (differResult s b (u .k)) (u .k) (differed (slot s (u .k))) (u .result) refl p;
+        parts = same-parts k (ap (λ (r : Result). r .buffers) (u .result));
+        last = rw (u .result);
+        noTurn = rw (u .call);
+        silent = rw (u .result);
+        unawaited = λ g q z. only-one (u .f) (u .k) (u .bound) (u .awaited) (u .call) p g q;
       }))
   effect (closes u) = go (ℕ-discrete (u .k) k)
     where
@@ -323,7 +389,7 @@ module _ (s : Bridge) (b : List ℕ) (c : Call) (h : Sound s) (k : ℕ) (l : k <
       })
       go (no p) = keeps (unchanged (record {
         after = same-slot (closeResult s b (u .k)) (u .k) blank (u .result) refl p;
-        part = λ i m. rw (u .result);
+        parts = same-parts k (ap (λ (r : Result). r .buffers) (u .result));
         last = rw (u .result);
         noTurn = rw (u .call);
         silent = rw (u .result);

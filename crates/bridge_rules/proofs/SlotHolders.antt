@@ -2,7 +2,6 @@
 use Prim.Native.Nat.{ℕ, zero, suc, _<_}
 use mathlib.Core.Path.{_≡_, refl, sym, _∙_, ap, subst}
 use mathlib.Core.Logic.{_⊎_, inl, inr, _≢_}
-use mathlib.Core.List.{List}
 use mathlib.Core.Option.{none, some}
 use mathlib.Core.Bool.{Bool, true, false, cond, not, _&&_}
 use native.Mathlib.Omega.{arith}
@@ -11,29 +10,29 @@ use lib.Dec.{ltb, eqb}
 use borrow.Author.Tests.{eqb-true, not-true}
 use Rattle.wire.specs.Order.{_if_else_}
 use Rattle.bridge_rules.specs.State.{Frame, Bridge, Slot, free, blank, slot, fresh, isFree, isWaiting, lowestFree, heldSlot, sound}
-use Rattle.bridge_rules.specs.Answers.{Result}
+use Rattle.bridge_rules.specs.Answers.{Buffers, Result}
 use Rattle.bridge_rules.specs.Turn.{aged, sentFrame, agedBridge, sendFor}
 use Rattle.bridge_rules.specs.Ending.{closeNumber, closeOf, resetOf, resetNumber}
 use Rattle.bridge_rules.specs.Call.{Call, itsOwn, close, reset, step}
-use Rattle.bridge_rules.specs.Run.{ledger, Run, storage, state, buffer, answer, Lawful, Transfer, ticket, slotOf, Closing, Stands, accepted, isTurn}
+use Rattle.bridge_rules.specs.Run.{ledger, Run, storage, state, buffers, answer, Lawful, Transfer, ticket, slotOf, Closing, Stands, accepted, isTurn}
 use Rattle.bridge_rules.specs.Demand3.{Places}
 use Rattle.bridge_rules.proofs.Search.{some-eq, none-some, cases, contradiction, Lowest, lowest-some, and-true, option-cases}
 use Rattle.bridge_rules.proofs.SlotOk.{ReadyOk, ready-ok, held-free}
 use Rattle.bridge_rules.proofs.SlotChanges.{aged-other, aged-same}
 use Rattle.bridge_rules.proofs.SoundTest.{Sound, sound-true}
 use Rattle.bridge_rules.proofs.SoundStates.{slot-set-same, slot-aged, aged-sound, fresh-slot}
-use Rattle.bridge_rules.proofs.CallCases.{CallCase, nothing, opens, sends, idles, takes, closes, resets, heldBy, freeAt, closeResult}
-use Rattle.bridge_rules.proofs.SlotEffects.{unchanged, ages, served, taken, keeps, opensHere, closesHere, resetsHere}
+use Rattle.bridge_rules.proofs.CallCases.{CallCase, nothing, opens, sends, idles, takes, disagrees, closes, resets, heldBy, freeAt, closeResult}
+use Rattle.bridge_rules.proofs.SlotEffects.{unchanged, ages, served, taken, disagreed, keeps, opensHere, closesHere, resetsHere}
 use Rattle.bridge_rules.proofs.SoundRuns.{storage-sound, caseAt, EffectAt, effectAt}
 use Rattle.bridge_rules.proofs.LedgerAgrees.{agrees, lowest-agrees}
 use Rattle.bridge_rules.proofs.Standing.{held-slot, openedAt, slotAt, held}
 use Rattle.bridge_rules.proofs.Status.{held-by}
 
-close-is : (s : Bridge) (b : List ℕ) (t k : ℕ) → sound s ≡ true → heldSlot s t ≡ some k → step s b (close t) ≡ closeResult s b k
+close-is : (s : Bridge) (b : Buffers) (t k : ℕ) → sound s ≡ true → heldSlot s t ≡ some k → step s b (close t) ≡ closeResult s b k
 unfolding step closeOf closeNumber _if_else_
 close-is s b t k p q = rw (p, q)
 
-reset-is : (s : Bridge) (b : List ℕ) (o : ℕ) → step s b (reset o) .answer .number ≡ 0 → step s b (reset o) .state ≡ fresh o
+reset-is : (s : Bridge) (b : Buffers) (o : ℕ) → step s b (reset o) .answer .number ≡ 0 → step s b (reset o) .state ≡ fresh o
 unfolding step resetOf resetNumber _if_else_
 reset-is s b o e = go (ltb 15 o) e
   where
@@ -47,14 +46,14 @@ module _ (r : Run) (w : Lawful r) where
   ended-frees : (x : Transfer r) (n : ℕ) → Stands r x n → Closing r x n → isFree (slotAt r x (suc n) .phase) ≡ true
   unfolding storage
   ended-frees x n s (e, inl c) =
-      let st : step (state r n) (buffer r n) (r .calls n) ≡ closeResult (state r n) (buffer r n) (slotOf r x)
-      = ap (step (state r n) (buffer r n)) c ∙ close-is (state r n) (buffer r n) (ticket r x) (slotOf r x)
+      let st : step (state r n) (buffers r n) (r .calls n) ≡ closeResult (state r n) (buffers r n) (slotOf r x)
+      = ap (step (state r n) (buffers r n)) c ∙ close-is (state r n) (buffers r n) (ticket r x) (slotOf r x)
       (sound-true (state r n) (storage-sound r w n .0)) (held-by r w x n s) in
       ap (λ (y : Slot). isFree (y .phase)) (slot-set-same (state r n) (state r (suc n)) (slotOf r x) blank (storage-sound r w n .0 .four)
       (ap (λ (u : Result). u .state .slots) st) (openedAt r w x .bound))
   ended-frees x n s (e, inr (o, c)) =
-      let st : state r (suc n) ≡ fresh o = ap (λ (d : Call). step (state r n) (buffer r n) d .state) c
-      ∙ reset-is (state r n) (buffer r n) o (sym (ap (λ (d : Call). step (state r n) (buffer r n) d .answer .number) c) ∙ e) in
+      let st : state r (suc n) ≡ fresh o = ap (λ (d : Call). step (state r n) (buffers r n) d .state) c
+      ∙ reset-is (state r n) (buffers r n) o (sym (ap (λ (d : Call). step (state r n) (buffers r n) d .answer .number) c) ∙ e) in
       ap (λ (y : Slot). isFree (y .phase)) (ap (λ (z : Bridge). slot z (slotOf r x)) st ∙ fresh-slot o (slotOf r x))
 
   abbrev Occupied : ℕ → ℕ → Type 0
@@ -92,6 +91,7 @@ module _ (r : Run) (w : Lawful r) where
       go ih (keeps (served u)) (inl q) = contradiction q
           (ap (λ (y : Slot). isFree (y .phase)) (sym (free-ages (slot (state r n) k) q)) ∙ ap isFree (u .ready .phase))
       go ih (keeps (taken u)) (inl q) = contradiction q (ap isFree (u .waits .phase))
+      go ih (keeps (disagreed u)) (inl q) = contradiction q (ap isFree (u .waits .phase))
       go ih (opensHere u) (inl q) = (
         record { at = n; lent = itsOwn; ask = u .ask; call = u .call; accepted = u .number },
         (omega arith, λ t a b. absurd (omega arith)),
@@ -170,7 +170,7 @@ module _ (r : Run) (w : Lawful r) where
     pub stands : Stands r y j
     pub ready : ReadyOk (aged (slotAt r y j))
     pub served : state r (suc j) .last ≡ slotOf r y
-    pub is : f ≡ sentFrame (state r j .own) (slotOf r y) (aged (slotAt r y j)) (buffer r j)
+    pub is : f ≡ sentFrame (state r j .own) (slotOf r y) (aged (slotAt r y j)) (buffers r j)
 
   pub sender : (j : ℕ) (f : Frame) → accepted r j ≡ true → answer r j .sent ≡ some f → Sender j f
   unfolding storage accepted sendFor agedBridge
@@ -179,7 +179,7 @@ module _ (r : Run) (w : Lawful r) where
       not-turn : {d : Call} → r .calls j ≡ d → isTurn d ≡ false → Sender j f
       not-turn {d} e p = contradiction a (ap (λ (b : Bool). b && eqb (answer r j .number) 0) (ap isTurn e ∙ p))
 
-      go : CallCase (state r j) (buffer r j) (r .calls j) → Sender j f
+      go : CallCase (state r j) (buffers r j) (r .calls j) → Sender j f
       go (nothing u) = none-some (sym (u .silent) ∙ q)
       go (opens u) = not-turn (u .call) refl
       go (sends u) = from-slot (occupied j (u .k) bound full)
@@ -195,9 +195,9 @@ module _ (r : Run) (w : Lawful r) where
           full = held-free (slot (state r j) (u .k)) (storage-sound r w j .0 .each (u .k) bound)
               (omega (arith, ready .held .ticket, aged-same (slot (state r j) (u .k)) .ticket))
 
-          sent : f ≡ sentFrame (state r j .own) (u .k) (aged (slot (state r j) (u .k))) (buffer r j)
+          sent : f ≡ sentFrame (state r j .own) (u .k) (aged (slot (state r j) (u .k))) (buffers r j)
           sent = some-eq (sym q ∙ ap (λ (v : Result). v .answer .sent) (u .result))
-              ∙ ap (λ (x : Slot). sentFrame (state r j .own) (u .k) x (buffer r j)) (slot-aged (state r j) (u .k))
+              ∙ ap (λ (x : Slot). sentFrame (state r j .own) (u .k) x (buffers r j)) (slot-aged (state r j) (u .k))
 
           from-slot : Occupied j (u .k) → Sender j f
           from-slot (y, t, i) = record {
@@ -209,5 +209,6 @@ module _ (r : Run) (w : Lawful r) where
           }
       go (idles u) = none-some (sym (ap (λ (v : Result). v .answer .sent) (u .result)) ∙ q)
       go (takes u) = not-turn (u .call) refl
+      go (disagrees u) = not-turn (u .call) refl
       go (closes u) = not-turn (u .call) refl
       go (resets u) = not-turn (u .call) refl

@@ -2,12 +2,13 @@
 use Prim.Native.Nat.{ℕ, zero, suc, _*_, _≤_, _<_}
 use mathlib.Core.Path.{_≡_, sym, _∙_, ap, subst}
 use mathlib.Core.Logic.{_⊎_, inl, inr}
-use mathlib.Core.Bool.{true, false}
+use mathlib.Core.Bool.{true, false, false≢true}
 use native.Mathlib.Omega.{arith}
 use lib.Dec.{eqb}
 use borrow.Author.Tests.{eqb-true, eqb-false}
-use Rattle.bridge_rules.specs.State.{Slot, free, ready, waiting, done, gaveUp, blank, isReady, isWaiting, isFree, asks, carries}
-use Rattle.bridge_rules.proofs.KindTests.{KnownKind}
+use Rattle.bridge_rules.specs.State.{Slot, free, ready, waiting, done, gaveUp, different, blank, isReady, isWaiting, isFree}
+use Rattle.bridge_rules.specs.State.{asks, carries, checking, compares}
+use Rattle.bridge_rules.proofs.KindTests.{KnownKind, one-kind, checking-carries, compares-asks}
 use Rattle.bridge_rules.proofs.NumberLaws.{LawfulArgs}
 use Rattle.bridge_rules.proofs.Search.{contradiction}
 
@@ -27,10 +28,13 @@ left-eq e = ap (λ (z : Slot). z .left) e
 pub ticket-eq : {x y : Slot} → x ≡ y → x .ticket ≡ y .ticket
 ticket-eq e = ap (λ (z : Slot). z .ticket) e
 
+pub kind-eq : {x y : Slot} → x ≡ y → x .kind ≡ y .kind
+kind-eq e = ap (λ (z : Slot). z .kind) e
+
 pub count-eq : {x y : Slot} → x ≡ y → x .count ≡ y .count
 count-eq e = ap (λ (z : Slot). z .count) e
 
--- every held slot has one of the two kinds, a ticket and lawful opening arguments
+-- every held slot has one of the kinds, a ticket and lawful opening arguments
 pub record HeldOk (x : Slot) : Type 0 where
   pub kind : KnownKind (x .kind)
   pub ticket : 0 < x .ticket
@@ -63,6 +67,7 @@ pub record WaitOk (x : Slot) : Type 0 where
 pub record DoneOk (x : Slot) : Type 0 where
   pub phase : x .phase ≡ done
   pub held : HeldOk x
+  pub notChecking : checking (x .kind) ≡ false
   pub whole : x .progress ≡ x .count
   pub sends : x .sends ≡ 0
   pub left : x .left ≡ 0
@@ -75,12 +80,21 @@ pub record GaveUpOk (x : Slot) : Type 0 where
   pub sends : x .sends ≡ 3
   pub left : x .left ≡ 0
 
+pub record DifferentOk (x : Slot) : Type 0 where
+  pub phase : x .phase ≡ different
+  pub held : HeldOk x
+  pub partway : Partway x
+  pub comparing : compares (x .kind) ≡ true
+  pub sends : x .sends ≡ 0
+  pub left : x .left ≡ 0
+
 pub data SlotOk (x : Slot) : Type 0 where
   okFree : x ≡ blank → SlotOk x
   okReady : ReadyOk x → SlotOk x
   okWaiting : WaitOk x → SlotOk x
   okDone : DoneOk x → SlotOk x
   okGaveUp : GaveUpOk x → SlotOk x
+  okDifferent : DifferentOk x → SlotOk x
 
 -- ── by the phase ───────────────────────────────────────────────────────────────────────────────────────────────────
 
@@ -94,7 +108,8 @@ OkIn x (suc zero) = ReadyOk x
 OkIn x (suc (suc zero)) = WaitOk x
 OkIn x (suc (suc (suc zero))) = DoneOk x
 OkIn x (suc (suc (suc (suc zero)))) = GaveUpOk x
-OkIn x (suc (suc (suc (suc (suc p))))) = ⊥
+OkIn x (suc (suc (suc (suc (suc zero))))) = DifferentOk x
+OkIn x (suc (suc (suc (suc (suc (suc p)))))) = ⊥
 
 ok-in : (x : Slot) → SlotOk x → (p : ℕ) → x .phase ≡ p → OkIn x p
 ok-in x (okFree e) p q = subst (OkIn x) (sym (phase-eq e) ∙ q) e
@@ -102,6 +117,7 @@ ok-in x (okReady r) p q = subst (OkIn x) (sym (r .phase) ∙ q) r
 ok-in x (okWaiting w) p q = subst (OkIn x) (sym (w .phase) ∙ q) w
 ok-in x (okDone d) p q = subst (OkIn x) (sym (d .phase) ∙ q) d
 ok-in x (okGaveUp g) p q = subst (OkIn x) (sym (g .phase) ∙ q) g
+ok-in x (okDifferent g) p q = subst (OkIn x) (sym (g .phase) ∙ q) g
 
 pub free-ok : (x : Slot) → SlotOk x → isFree (x .phase) ≡ true → x ≡ blank
 free-ok x k h = ok-in x k free (eqb-true (x .phase) free h)
@@ -118,6 +134,19 @@ done-ok x k h = ok-in x k done h
 pub gave-up-ok : (x : Slot) → SlotOk x → x .phase ≡ gaveUp → GaveUpOk x
 gave-up-ok x k h = ok-in x k gaveUp h
 
+pub different-ok : (x : Slot) → SlotOk x → x .phase ≡ different → DifferentOk x
+different-ok x k h = ok-in x k different h
+
+-- a checked write that still sends is ready
+pub checking-ready : (x : Slot) → SlotOk x → checking (x .kind) ≡ true → ReadyOk x
+unfolding checking
+checking-ready x (okFree e) c = absurd (false≢true (ap (λ (y : Slot). checking (y .kind)) (sym e) ∙ c))
+checking-ready x (okReady r) c = r
+checking-ready x (okWaiting w) c = one-kind (x .kind) (checking-carries (x .kind) c) (w .asking)
+checking-ready x (okDone d) c = contradiction c (d .notChecking)
+checking-ready x (okGaveUp g) c = one-kind (x .kind) (checking-carries (x .kind) c) (g .asking)
+checking-ready x (okDifferent g) c = one-kind (x .kind) (checking-carries (x .kind) c) (compares-asks (x .kind) (g .comparing))
+
 -- ── free or held ───────────────────────────────────────────────────────────────────────────────────────────────────
 
 free-or-held : (x : Slot) → SlotOk x → (x ≡ blank) ⊎ ((isFree (x .phase) ≡ false) × HeldOk x)
@@ -126,6 +155,7 @@ free-or-held x (okReady r) = inr (ap isFree (r .phase), r .held)
 free-or-held x (okWaiting w) = inr (ap isFree (w .phase), w .held)
 free-or-held x (okDone d) = inr (ap isFree (d .phase), d .held)
 free-or-held x (okGaveUp g) = inr (ap isFree (g .phase), g .held)
+free-or-held x (okDifferent g) = inr (ap isFree (g .phase), g .held)
 
 pub held-ok : (x : Slot) → SlotOk x → isFree (x .phase) ≡ false → HeldOk x
 held-ok x k p = go (free-or-held x k)

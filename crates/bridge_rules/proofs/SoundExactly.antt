@@ -2,16 +2,19 @@
 use Prim.Native.Nat.{ℕ, _≤_, _<_}
 use mathlib.Core.Path.{_≡_, refl, ap}
 use mathlib.Core.Logic.{_⊎_, inl, inr, _≢_}
-use mathlib.Core.Bool.{true, false}
+use mathlib.Core.Bool.{Bool, true, false}
 use native.Mathlib.Omega.{arith}
 use native.Mathlib.Decide.{ℕ-discrete}
 use lib.Dec.{eqb}
 use borrow.Author.Tests.{ne-eqb}
-use Rattle.bridge_rules.specs.State.{Bridge, Slot, free, ready, waiting, done, gaveUp, reads, writes, blank, slot, isFree, isReady, isWaiting, asks}
+use Rattle.bridge_rules.specs.State.{Bridge, Slot, free, ready, waiting, done, gaveUp, different, reads, writes, checks, readsBack, blank, slot}
+use Rattle.bridge_rules.specs.State.{isFree, isReady, isWaiting, asks, carries, checking}
 use Rattle.bridge_rules.specs.Sound.{AllZero, SoundHeld, SoundState, SoundExactly}
-use Rattle.bridge_rules.proofs.KindTests.{KnownKind, one-kind, asks-reads, reads-asks, carries-writes, writes-carries}
-use Rattle.bridge_rules.proofs.SlotOk.{HeldOk, Partway, WaitOk, SlotOk, okFree, okReady, okWaiting, okDone, okGaveUp, other-phase, phase-eq}
-use Rattle.bridge_rules.proofs.SlotOk.{left-eq, free-ok, ready-ok, wait-ok, done-ok, gave-up-ok, held-ok, has-ticket}
+use Rattle.bridge_rules.proofs.KindTests.{KnownKind, one-kind, asks-kinds, kinds-ask, carries-kinds, kinds-carry}
+use Rattle.bridge_rules.proofs.KindTests.{checking-kind, kind-checking, compares-kind, kind-compares}
+use Rattle.bridge_rules.proofs.SlotOk.{HeldOk, Partway, ReadyOk, WaitOk, DifferentOk, SlotOk, okFree, okReady, okWaiting, okDone, okGaveUp, okDifferent}
+use Rattle.bridge_rules.proofs.SlotOk.{other-phase, phase-eq, left-eq, free-ok, ready-ok, wait-ok, done-ok, gave-up-ok, different-ok, checking-ready}
+use Rattle.bridge_rules.proofs.SlotOk.{held-ok, has-ticket}
 use Rattle.bridge_rules.proofs.SoundTest.{Sound, sound-true, true-sound}
 
 -- ── free slots ─────────────────────────────────────────────────────────────────────────────────────────────────────
@@ -37,23 +40,37 @@ zero-blank x (a, b, c, d, e, f, g, h, i, j) =
 
 -- ── kinds ──────────────────────────────────────────────────────────────────────────────────────────────────────────
 
-kind-told : (k : ℕ) → KnownKind k → (k ≡ reads) ⊎ (k ≡ writes)
-kind-told k (inl c) = inr (carries-writes k c)
-kind-told k (inr a) = inl (asks-reads k a)
+abbrev OneKind : ℕ → Type 0
+OneKind k = (k ≡ reads) ⊎ (k ≡ writes) ⊎ (k ≡ checks) ⊎ (k ≡ readsBack)
 
-kind-known : (k : ℕ) → (k ≡ reads) ⊎ (k ≡ writes) → KnownKind k
-kind-known k (inl e) = inr (reads-asks k e)
-kind-known k (inr e) = inl (writes-carries k e)
+kind-told : (k : ℕ) → KnownKind k → OneKind k
+kind-told k (inl c) = go (carries-kinds k c)
+  where
+    go : (k ≡ writes) ⊎ (k ≡ checks) → OneKind k
+    go (inl e) = inr (inl e)
+    go (inr e) = inr (inr (inl e))
+kind-told k (inr a) = go (asks-kinds k a)
+  where
+    go : (k ≡ reads) ⊎ (k ≡ readsBack) → OneKind k
+    go (inl e) = inl e
+    go (inr e) = inr (inr (inr e))
+
+kind-known : (k : ℕ) → OneKind k → KnownKind k
+kind-known k (inl e) = inr (kinds-ask k (inl e))
+kind-known k (inr (inl e)) = inl (kinds-carry k (inl e))
+kind-known k (inr (inr (inl e))) = inl (kinds-carry k (inr e))
+kind-known k (inr (inr (inr e))) = inr (kinds-ask k (inr e))
 
 -- ── held slots: from the facts of each phase to the sentence ───────────────────────────────────────────────────────
 
 module _ (t : ℕ) (x : Slot) (h : x .phase ≢ free) where
-  in-phase : SlotOk x → (x .phase ≡ ready) ⊎ (x .phase ≡ waiting) ⊎ (x .phase ≡ done) ⊎ (x .phase ≡ gaveUp)
+  in-phase : SlotOk x → (x .phase ≡ ready) ⊎ (x .phase ≡ waiting) ⊎ (x .phase ≡ done) ⊎ (x .phase ≡ gaveUp) ⊎ (x .phase ≡ different)
   in-phase (okFree e) = absurd (h (phase-eq e))
   in-phase (okReady r) = inl (r .phase)
   in-phase (okWaiting w) = inr (inl (w .phase))
   in-phase (okDone d) = inr (inr (inl (d .phase)))
-  in-phase (okGaveUp g) = inr (inr (inr (g .phase)))
+  in-phase (okGaveUp g) = inr (inr (inr (inl (g .phase))))
+  in-phase (okDifferent g) = inr (inr (inr (inr (g .phase))))
 
   is-partway : SlotOk x → x .phase ≢ done → Partway x
   is-partway (okFree e) d = absurd (h (phase-eq e))
@@ -61,18 +78,23 @@ module _ (t : ℕ) (x : Slot) (h : x .phase ≢ free) where
   is-partway (okWaiting w) d = w .partway
   is-partway (okDone e) d = absurd (d (e .phase))
   is-partway (okGaveUp g) d = g .partway
+  is-partway (okDifferent g) d = g .partway
 
   at-count : SlotOk x → x .progress ≡ x .count → Dec (x .phase ≡ done) → x .phase ≡ done
   at-count k e (yes d) = d
   at-count k e (no d) = absurd (omega (arith, e, is-partway k d .below))
 
+  write-carries : x .kind ≡ writes → carries (x .kind) ≡ true
+  write-carries w = kinds-carry (x .kind) (inl w)
+
   none-sent : SlotOk x → (x .kind ≡ writes) ⊎ (x .phase ≡ done) → x .sends ≡ 0
   none-sent k (inr d) = done-ok x k d .sends
   none-sent (okFree e) (inl w) = absurd (h (phase-eq e))
-  none-sent (okReady r) (inl w) = r .unsent (writes-carries (x .kind) w)
-  none-sent (okWaiting a) (inl w) = one-kind (x .kind) (writes-carries (x .kind) w) (a .asking)
+  none-sent (okReady r) (inl w) = r .unsent (write-carries w)
+  none-sent (okWaiting a) (inl w) = one-kind (x .kind) (write-carries w) (a .asking)
   none-sent (okDone d) (inl w) = d .sends
-  none-sent (okGaveUp g) (inl w) = one-kind (x .kind) (writes-carries (x .kind) w) (g .asking)
+  none-sent (okGaveUp g) (inl w) = one-kind (x .kind) (write-carries w) (g .asking)
+  none-sent (okDifferent g) (inl w) = g .sends
 
   none-left : SlotOk x → x .phase ≢ waiting → x .left ≡ 0
   none-left (okFree e) d = left-eq e
@@ -80,6 +102,7 @@ module _ (t : ℕ) (x : Slot) (h : x .phase ≢ free) where
   none-left (okWaiting w) d = absurd (d (w .phase))
   none-left (okDone e) d = e .left
   none-left (okGaveUp g) d = g .left
+  none-left (okDifferent g) d = g .left
 
   held-sentence : SlotOk x → x .ticket ≤ t → SoundHeld t x
   held-sentence k g =
@@ -100,9 +123,11 @@ module _ (t : ℕ) (x : Slot) (h : x .phase ≢ free) where
         gaveUpSends = λ e. gave-up-ok x k e .sends;
         noSends = none-sent k;
         neverWaits = λ w. (
-          λ e. one-kind (x .kind) (writes-carries (x .kind) w) (wait-ok x k (ap isWaiting e) .asking),
-          λ e. one-kind (x .kind) (writes-carries (x .kind) w) (gave-up-ok x k e .asking),
+          λ e. one-kind (x .kind) (write-carries w) (wait-ok x k (ap isWaiting e) .asking),
+          λ e. one-kind (x .kind) (write-carries w) (gave-up-ok x k e .asking),
         );
+        unfinished = λ c. let r : ReadyOk x = checking-ready x k (kind-checking (x .kind) c) in (r .phase, r .unsent (kinds-carry (x .kind) (inr c)));
+        differs = λ e. let d : DifferentOk x = different-ok x k e in (compares-kind (x .kind) (d .comparing), d .sends);
         unused = none-left k;
       }
 
@@ -125,31 +150,47 @@ module _ (t : ℕ) (x : Slot) (h : SoundHeld t x) where
   part : x .phase ≢ done → Partway x
   part d = let m = h .partway d in record { chunk = m .0 .0; at = m .0 .1; below = m .1 }
 
-  asking : x .kind ≢ writes → asks (x .kind) ≡ true
-  asking n = go (h .kinds)
+  -- one that is not ready is no checked write that still sends
+  not-sending : x .phase ≢ ready → x .kind ≢ checks
+  not-sending n c = n (h .unfinished c .0)
+
+  asking : x .phase ≢ ready → x .kind ≢ writes → asks (x .kind) ≡ true
+  asking r n = go (kind-known (x .kind) (h .kinds))
     where
-      go : (x .kind ≡ reads) ⊎ (x .kind ≡ writes) → asks (x .kind) ≡ true
-      go (inl e) = reads-asks (x .kind) e
-      go (inr e) = absurd (n e)
+      carried : (x .kind ≡ writes) ⊎ (x .kind ≡ checks) → asks (x .kind) ≡ true
+      carried (inl e) = absurd (n e)
+      carried (inr e) = absurd (not-sending r e)
+
+      go : KnownKind (x .kind) → asks (x .kind) ≡ true
+      go (inl c) = carried (carries-kinds (x .kind) c)
+      go (inr a) = a
+
+  unsent : (x .kind ≡ writes) ⊎ (x .kind ≡ checks) → x .sends ≡ 0
+  unsent (inl e) = h .noSends (inl e)
+  unsent (inr e) = h .unfinished e .1
+
+  notChecking : x .phase ≢ ready → (b : Bool) → checking (x .kind) ≡ b → b ≡ false
+  notChecking n true e = absurd (not-sending n (checking-kind (x .kind) e))
+  notChecking n false e = refl
 
   -- it has one phase only
   apart : {q p : ℕ} → x .phase ≡ q → eqb q p ≡ false → x .phase ≢ p
   apart e n z = other-phase e z n
 
-  held-facts : (x .phase ≡ ready) ⊎ (x .phase ≡ waiting) ⊎ (x .phase ≡ done) ⊎ (x .phase ≡ gaveUp) → SlotOk x
+  held-facts : (x .phase ≡ ready) ⊎ (x .phase ≡ waiting) ⊎ (x .phase ≡ done) ⊎ (x .phase ≡ gaveUp) ⊎ (x .phase ≡ different) → SlotOk x
   held-facts (inl e) = okReady (record {
     phase = e;
     held = held;
     partway = part (apart e refl);
     sends = h .readySends e;
-    unsent = λ c. h .noSends (inl (carries-writes (x .kind) c));
+    unsent = λ c. unsent (carries-kinds (x .kind) c);
     left = h .unused (apart e refl);
   })
   held-facts (inr (inl e)) = okWaiting (record {
     phase = e;
     held = held;
     partway = part (apart e refl);
-    asking = asking (λ w. h .neverWaits w .0 e);
+    asking = asking (apart e refl) (λ w. h .neverWaits w .0 e);
     once = h .waitingSends e .0;
     thrice = h .waitingSends e .1;
     some = h .turnsLeft e .0;
@@ -158,16 +199,25 @@ module _ (t : ℕ) (x : Slot) (h : SoundHeld t x) where
   held-facts (inr (inr (inl e))) = okDone (record {
     phase = e;
     held = held;
+    notChecking = notChecking (apart e refl) (checking (x .kind)) refl;
     whole = h .whole .1 e;
     sends = h .noSends (inr e);
     left = h .unused (apart e refl);
   })
-  held-facts (inr (inr (inr e))) = okGaveUp (record {
+  held-facts (inr (inr (inr (inl e)))) = okGaveUp (record {
     phase = e;
     held = held;
     partway = part (apart e refl);
-    asking = asking (λ w. h .neverWaits w .1 e);
+    asking = asking (apart e refl) (λ w. h .neverWaits w .1 e);
     sends = h .gaveUpSends e;
+    left = h .unused (apart e refl);
+  })
+  held-facts (inr (inr (inr (inr e)))) = okDifferent (record {
+    phase = e;
+    held = held;
+    partway = part (apart e refl);
+    comparing = kind-compares (x .kind) (h .differs e .0);
+    sends = h .differs e .1;
     left = h .unused (apart e refl);
   })
 
@@ -178,7 +228,7 @@ facts-sentence s h = record {
   own = h .own;
   last = h .last;
   held = λ k l p. held-sentence (s .issued) (slot s k) p (h .each k l) (h .given k l);
-  different = λ k j l m d p q. h .apart k j l m d (has-ticket (slot s k) (h .each k l) (ne-eqb (slot s k .phase) free p));
+  distinct = λ k j l m d p q. h .apart k j l m d (has-ticket (slot s k) (h .each k l) (ne-eqb (slot s k .phase) free p));
   unheld = λ k l p. blank-zero (slot s k) (free-ok (slot s k) (h .each k l) (ap isFree p));
   four = h .four;
   issued = h .issued;
@@ -192,7 +242,7 @@ sentence-facts s h = record {
   four = h .four;
   each = λ k l. each k l (ℕ-discrete (slot s k .phase) free);
   given = λ k l. given k l (ℕ-discrete (slot s k .phase) free);
-  apart = λ k j l m d p z. h .different k j l m d (taken k l p) (taken j m (omega (arith, p, z))) z;
+  apart = λ k j l m d p z. h .distinct k j l m d (taken k l p) (taken j m (omega (arith, p, z))) z;
 }
   where
     each : (k : ℕ) → k < 4 → Dec (slot s k .phase ≡ free) → SlotOk (slot s k)

@@ -2,7 +2,6 @@
 use Prim.Native.Nat.{ℕ, zero, suc, _≤_, _<_}
 use mathlib.Core.Path.{_≡_, refl, sym, _∙_, ap}
 use mathlib.Core.Logic.{_≢_}
-use mathlib.Core.List.{List}
 use mathlib.Core.Option.{some}
 use mathlib.Core.Bool.{true}
 use native.Mathlib.Omega.{arith}
@@ -10,9 +9,10 @@ use native.Mathlib.Decide.{ℕ-discrete}
 use lib.ListN.{length, set, length-set, length-map, List·getD-map}
 use lib.Seq.{getD-set-same, getD-set-other}
 use Rattle.bridge_rules.specs.State.{Bridge, Slot, blank, slot, fresh, isReady}
-use Rattle.bridge_rules.specs.Opening.{Ask, opened}
+use Rattle.bridge_rules.specs.Answers.{Buffers}
+use Rattle.bridge_rules.specs.Opening.{Ask, askKind, opened}
 use Rattle.bridge_rules.specs.Turn.{aged, sentSlot, agedBridge, sendFor}
-use Rattle.bridge_rules.proofs.KindTests.{asked-known}
+use Rattle.bridge_rules.proofs.KindTests.{fits-known, asked-fits}
 use Rattle.bridge_rules.proofs.NumberLaws.{LawfulAsk}
 use Rattle.bridge_rules.proofs.SlotOk.{SlotOk, okFree, okReady, ready-ok, ticket-eq}
 use Rattle.bridge_rules.proofs.SlotChanges.{aged-same, sent-same, aged-ok, sent-ok}
@@ -94,7 +94,7 @@ aged-sound s h = record {
   apart = λ k j l m d. rw (slot-aged s k, slot-aged s j, aged-same (slot s k) .ticket, aged-same (slot s j) .ticket) (h .apart k j l m d);
 }
 
-pub sends-sound : (s : Bridge) (b : List ℕ) (k : ℕ) → Sound s → k < 4 → isReady (slot s k .phase) ≡ true → Sound (sendFor s b (some k) .state)
+pub sends-sound : (s : Bridge) (b : Buffers) (k : ℕ) → Sound s → k < 4 → isReady (slot s k .phase) ≡ true → Sound (sendFor s b (some k) .state)
 unfolding sendFor
 sends-sound s b k h l r = set-sound s _ k (sentSlot (slot s k)) h (record {
   bound = l;
@@ -144,7 +144,7 @@ pub opened-ok : (a : Ask) (t : ℕ) → LawfulAsk a → SlotOk (opened a (suc t)
 unfolding opened
 opened-ok a t l = okReady (record {
   phase = refl;
-  held = record { kind = asked-known a; ticket = omega arith; args = l };
+  held = record { kind = fits-known a (askKind a) (asked-fits a); ticket = omega arith; args = l };
   partway = record { chunk = 0; at = refl; below = l .some };
   sends = omega arith;
   unsent = λ z. refl;

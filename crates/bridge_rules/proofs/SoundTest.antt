@@ -9,12 +9,13 @@ use native.Mathlib.Decide.{ℕ-discrete, decLe}
 use lib.ListN.{length, getD}
 use lib.Dec.{leb, ltb, eqb}
 use borrow.Author.Tests.{not-true, eqb-true, eqb-false, ne-eqb, eq-eqb, lt-ltb, le-leb, ltb-true, leb-true}
-use Rattle.bridge_rules.specs.State.{Bridge, Slot, free, ready, waiting, done, gaveUp, isZero, isFree, blank, slot, asks, carries, partway, askNumber}
+use Rattle.bridge_rules.specs.State.{Bridge, Slot, free, ready, waiting, done, gaveUp, different, isZero, isFree, blank, slot, partway, askNumber}
+use Rattle.bridge_rules.specs.State.{asks, carries, checking, compares}
 use Rattle.bridge_rules.specs.State.{soundPhase, soundSlot, soundSlots, absent, distinct, sound}
 use Rattle.bridge_rules.proofs.KindTests.{KnownKind, carries-only, known-tested, tested-known}
 use Rattle.bridge_rules.proofs.NumberLaws.{args-lawful, args-clear}
 use Rattle.bridge_rules.proofs.Search.{and-intro, and-true, contradiction}
-use Rattle.bridge_rules.proofs.SlotOk.{HeldOk, Partway, SlotOk, okFree, okReady, okWaiting, okDone, okGaveUp, ticket-eq}
+use Rattle.bridge_rules.proofs.SlotOk.{HeldOk, Partway, SlotOk, okFree, okReady, okWaiting, okDone, okGaveUp, okDifferent, ticket-eq}
 
 pub record Sound (s : Bridge) : Type 0 where
   pub own : s .own ≤ 15
@@ -67,7 +68,13 @@ slot-true t x (okWaiting w) g = held-true t x (w .held) g (ap isFree (w .phase))
       le-leb (x .left) 20 (w .few),
     ))
 slot-true t x (okDone d) g = held-true t x (d .held) g (ap isFree (d .phase))
-    (rw (d .phase, eq-eqb (x .progress) (x .count) (d .whole), eq-eqb (x .sends) 0 (d .sends), eq-eqb (x .left) 0 (d .left)))
+    (rw (
+      d .phase,
+      d .notChecking,
+      eq-eqb (x .progress) (x .count) (d .whole),
+      eq-eqb (x .sends) 0 (d .sends),
+      eq-eqb (x .left) 0 (d .left),
+    ))
 slot-true t x (okGaveUp u) g = held-true t x (u .held) g (ap isFree (u .phase))
     (rw (
       u .phase,
@@ -75,6 +82,15 @@ slot-true t x (okGaveUp u) g = held-true t x (u .held) g (ap isFree (u .phase))
       partway-mod x (u .partway),
       partway-below x (u .partway),
       eq-eqb (x .sends) 3 (u .sends),
+      eq-eqb (x .left) 0 (u .left),
+    ))
+slot-true t x (okDifferent u) g = held-true t x (u .held) g (ap isFree (u .phase))
+    (rw (
+      u .phase,
+      u .comparing,
+      partway-mod x (u .partway),
+      partway-below x (u .partway),
+      eq-eqb (x .sends) 0 (u .sends),
       eq-eqb (x .left) 0 (u .left),
     ))
 
@@ -245,13 +261,16 @@ module _ (t : ℕ) (x : Slot) (h : HeldTrue t x) where
   true-done : x .phase ≡ done → SlotOk x
   unfolding soundPhase
   true-done e =
-      let h0 : (eqb (x .progress) (x .count) && isZero (x .sends) && isZero (x .left)) ≡ true = rw e at (h .phase) in
+      let h0 : (not (checking (x .kind)) && eqb (x .progress) (x .count) && isZero (x .sends) && isZero (x .left)) ≡ true
+      = rw e at (h .phase) in
       let a1 = and-true _ (isZero (x .left)) h0 in
-      let a2 = and-true (eqb (x .progress) (x .count)) (isZero (x .sends)) (a1 .0) in
+      let a2 = and-true _ (isZero (x .sends)) (a1 .0) in
+      let a3 = and-true (not (checking (x .kind))) (eqb (x .progress) (x .count)) (a2 .0) in
       okDone (record {
         phase = e;
         held = h .held;
-        whole = eqb-true _ _ (a2 .0);
+        notChecking = not-true _ (a3 .0);
+        whole = eqb-true _ _ (a3 .1);
         sends = zero-true _ (a2 .1);
         left = zero-true _ (a1 .1);
       })
@@ -273,21 +292,41 @@ module _ (t : ℕ) (x : Slot) (h : HeldTrue t x) where
         left = zero-true _ (a1 .1);
       })
 
+  true-different : x .phase ≡ different → SlotOk x
+  unfolding soundPhase
+  true-different e =
+      let h0 : (partway (x .count) (x .progress) && compares (x .kind) && isZero (x .sends) && isZero (x .left)) ≡ true
+      = rw e at (h .phase) in
+      let a1 = and-true _ (isZero (x .left)) h0 in
+      let a2 = and-true _ (isZero (x .sends)) (a1 .0) in
+      let a3 = and-true _ (compares (x .kind)) (a2 .0) in
+      okDifferent (record {
+        phase = e;
+        held = h .held;
+        partway = partway-true x (a3 .0);
+        comparing = a3 .1;
+        sends = zero-true _ (a2 .1);
+        left = zero-true _ (a1 .1);
+      })
+
   true-phase : x .phase ≢ free → SlotOk x
   unfolding soundPhase
   true-phase f = go (ℕ-discrete (x .phase) ready) (ℕ-discrete (x .phase) waiting) (ℕ-discrete (x .phase) done)
-      (ℕ-discrete (x .phase) gaveUp)
+      (ℕ-discrete (x .phase) gaveUp) (ℕ-discrete (x .phase) different)
     where
-      go : Dec (x .phase ≡ ready) → Dec (x .phase ≡ waiting) → Dec (x .phase ≡ done) → Dec (x .phase ≡ gaveUp) → SlotOk x
-      go (yes e) b c d = true-ready e
-      go (no a) (yes e) c d = true-waiting e
-      go (no a) (no b) (yes e) d = true-done e
-      go (no a) (no b) (no c) (yes e) = true-gave-up e
-      go (no a) (no b) (no c) (no d) = absurd (false≢true (rw (
+      go : Dec (x .phase ≡ ready) → Dec (x .phase ≡ waiting) → Dec (x .phase ≡ done) → Dec (x .phase ≡ gaveUp) → Dec (x .phase ≡ different)
+          → SlotOk x
+      go (yes e) b c d f = true-ready e
+      go (no a) (yes e) c d f = true-waiting e
+      go (no a) (no b) (yes e) d f = true-done e
+      go (no a) (no b) (no c) (yes e) f = true-gave-up e
+      go (no a) (no b) (no c) (no d) (yes e) = true-different e
+      go (no a) (no b) (no c) (no d) (no f) = absurd (false≢true (rw (
         ne-eqb (x .phase) ready a,
         ne-eqb (x .phase) waiting b,
         ne-eqb (x .phase) done c,
         ne-eqb (x .phase) gaveUp d,
+        ne-eqb (x .phase) different f,
       ) at (h .phase)))
 
 true-slot : (t : ℕ) (x : Slot) → soundSlot t x ≡ true → SlotOk x × (x .ticket ≤ t)

@@ -1,26 +1,27 @@
 -- A standing transfer keeps its slot, from its opening on, whatever the calls.
-use Prim.Native.Nat.{ℕ, zero, suc, _*_, _≤_, _<_}
+use Prim.Native.Nat.{ℕ, zero, suc, _≤_, _<_}
 use mathlib.Core.Path.{_≡_, refl, sym, _∙_, ap, subst}
 use mathlib.Core.Logic.{inl, inr}
 use mathlib.Core.Bool.{Bool, false, _&&_}
 use native.Mathlib.Omega.{arith}
 use native.Mathlib.Decide.{ℕ-discrete}
 use lib.ListN.{set}
-use lib.Seq.{sets}
 use lib.Dec.{eqb}
 use borrow.Author.Tests.{eq-eqb}
 use Rattle.bridge_rules.specs.State.{Slot, slot, ready, done, isFree}
 use Rattle.bridge_rules.specs.Answers.{Result}
-use Rattle.bridge_rules.specs.Opening.{askKind, askDevice, askTable, askOffset, askCount, askGiven, opened}
+use Rattle.bridge_rules.specs.Opening.{askDevice, askTable, askOffset, askCount, withGiven, opened}
 use Rattle.bridge_rules.specs.Call.{close}
-use Rattle.bridge_rules.specs.Run.{Run, storage, state, buffer, answer, Lawful, Transfer, ticket, slotOf, Closing, Stands, ledger}
+use Rattle.bridge_rules.specs.Run.{Run, storage, state, buffers, answer, Lawful, Transfer, ticket, slotOf, Closing, Stands, ledger}
 use Rattle.bridge_rules.proofs.NumberLaws.{LawfulAsk}
 use Rattle.bridge_rules.proofs.Search.{contradiction, Lowest}
-use Rattle.bridge_rules.proofs.SlotOk.{SlotOk, okFree, okReady, okWaiting, okDone, okGaveUp, held-free, no-ticket, ticket-eq}
+use Rattle.bridge_rules.proofs.SlotOk.{SlotOk, okFree, okReady, okWaiting, okDone, okGaveUp, okDifferent}
+use Rattle.bridge_rules.proofs.SlotOk.{held-free, no-ticket, ticket-eq}
+use Rattle.bridge_rules.proofs.KindTests.{KindFits, KindGoes, asked-fits, fits-goes}
 use Rattle.bridge_rules.proofs.SlotChanges.{Same, Aging, aging}
 use Rattle.bridge_rules.proofs.SoundStates.{slot-set-same}
-use Rattle.bridge_rules.proofs.CallCases.{CallCase, nothing, opens, sends, idles, takes, closes, resets, freeAt, isNoted, other-call}
-use Rattle.bridge_rules.proofs.SlotEffects.{keeps, opensHere, closesHere, resetsHere, change-same}
+use Rattle.bridge_rules.proofs.CallCases.{CallCase, nothing, opens, sends, idles, takes, disagrees, closes, resets, freeAt, isNoted, other-call}
+use Rattle.bridge_rules.proofs.SlotEffects.{keeps, opensHere, closesHere, resetsHere, change-same, change-kind}
 use Rattle.bridge_rules.proofs.SoundRuns.{storage-sound, caseAt, ChangeAt, EffectAt, effectAt}
 use Rattle.bridge_rules.proofs.LedgerAgrees.{agrees, lowest-agrees}
 
@@ -32,14 +33,14 @@ pub record Opened (r : Run) (x : Transfer r) : Type 0 where
   pub ticketed : ticket r x ≡ suc (state r (x .at) .issued)
   pub lowest : Lowest (freeAt (state r (x .at))) (slotOf r x)
   pub slot : slot (state r (suc (x .at))) (slotOf r x) ≡ opened (x .ask) (ticket r x)
-  pub given : buffer r (suc (x .at)) ≡ sets (buffer r (x .at)) (128 * slotOf r x) (askGiven (x .ask))
+  pub given : buffers r (suc (x .at)) ≡ withGiven (buffers r (x .at)) (slotOf r x) (x .ask)
 
 module _ (r : Run) (w : Lawful r) (x : Transfer r) where
   pub openedAt : Opened r x
   unfolding storage slotOf
   openedAt = go (caseAt r w (x .at))
     where
-      go : CallCase (state r (x .at)) (buffer r (x .at)) (r .calls (x .at)) → Opened r x
+      go : CallCase (state r (x .at)) (buffers r (x .at)) (r .calls (x .at)) → Opened r x
       go (nothing u) = contradiction (ap (λ (b : Bool). b && eqb (answer r (x .at) .number) 0) (ap isNoted (x .call))
           ∙ eq-eqb (answer r (x .at) .number) 0 (x .accepted)) (u .unnoted)
       go (opens u) =
@@ -56,11 +57,12 @@ module _ (r : Run) (w : Lawful r) (x : Transfer r) where
             lowest = rw kk (u .lowest);
             slot = rw (kk, tk, ← same) (slot-set-same (state r (x .at)) (state r (suc (x .at))) (u .k)
                 (opened (u .ask) (suc (state r (x .at) .issued))) (storage-sound r w (x .at) .0 .four) slots (u .lowest .bound));
-            given = rw (kk, ← same) (ap (λ (v : Result). v .buffer) (u .result));
+            given = rw (kk, ← same) (ap (λ (v : Result). v .buffers) (u .result));
           }
       go (sends u) = other-call (x .call) (u .call) refl
       go (idles u) = other-call (x .call) (u .call) refl
       go (takes u) = other-call (x .call) (u .call) refl
+      go (disagrees u) = other-call (x .call) (u .call) refl
       go (closes u) = other-call (x .call) (u .call) refl
       go (resets u) = other-call (x .call) (u .call) refl
 
@@ -76,7 +78,7 @@ ChangesSlot r x n = ChangeAt r n (slotOf r x)
 
 pub record Held (r : Run) (x : Transfer r) (n : ℕ) : Type 0 where
   pub ticket : slotAt r x n .ticket ≡ ticket r x
-  pub kind : slotAt r x n .kind ≡ askKind (x .ask)
+  pub kind : KindFits (x .ask) (slotAt r x n .kind)
   pub device : slotAt r x n .device ≡ askDevice (x .ask)
   pub table : slotAt r x n .table ≡ askTable (x .ask)
   pub offset : slotAt r x n .offset ≡ askOffset (x .ask)
@@ -119,12 +121,13 @@ module _ (r : Run) (w : Lawful r) (x : Transfer r) where
   unfolding opened
   opened-held =
       let e : slotAt r x (suc (x .at)) ≡ opened (x .ask) (ticket r x) = openedAt r w x .slot in
-      record { ticket = rw e; kind = rw e; device = rw e; table = rw e; offset = rw e; count = rw e }
+      record { ticket = rw e; kind = rw e (asked-fits (x .ask)); device = rw e; table = rw e; offset = rw e; count = rw e }
 
-  held-next : (n : ℕ) → Held r x n → Same (slotAt r x n) (slotAt r x (suc n)) → Held r x (suc n)
-  held-next n h e = record {
+  held-next : (n : ℕ) → Held r x n → Same (slotAt r x n) (slotAt r x (suc n)) → KindGoes (slotAt r x n .kind) (slotAt r x (suc n) .kind)
+      → Held r x (suc n)
+  held-next n h e g = record {
     ticket = e .ticket ∙ h .ticket;
-    kind = e .kind ∙ h .kind;
+    kind = fits-goes (x .ask) (slotAt r x n .kind) (slotAt r x (suc n) .kind) (h .kind) g;
     device = e .device ∙ h .device;
     table = e .table ∙ h .table;
     offset = e .offset ∙ h .offset;
@@ -140,7 +143,8 @@ module _ (r : Run) (w : Lawful r) (x : Transfer r) where
       go ih (no p) =
           let l : x .at < n = omega (arith, s .0) in
           let h : Held r x n = ih (stands-before n s l) in
-          held-next n h (change-same (changes-held n s l h))
+          let v : ChangesSlot r x n = changes-held n s l h in
+          held-next n h (change-same v) (change-kind v)
 
   pub changes : (n : ℕ) → Stands r x (suc n) → x .at < n → ChangesSlot r x n
   changes n s l = changes-held n s l (held n (stands-before n s l))
@@ -164,6 +168,7 @@ module _ (r : Run) (w : Lawful r) (x : Transfer r) where
       go (okWaiting u) = absurd (omega (arith, u .partway .below, h .count))
       go (okDone u) = u .phase
       go (okGaveUp u) = absurd (omega (arith, u .partway .below, h .count))
+      go (okDifferent u) = absurd (omega (arith, u .partway .below, h .count))
 
   -- induction over a standing transfer's events, from any event b on
   pub along-from : (b : ℕ) → x .at < b → (P : ℕ → Type 0) → P b

@@ -1,35 +1,37 @@
--- If the device's replies are its own, the bytes shown are the table's.
+-- If the device's replies are its own, the bytes that a done read shows, and those that a done checked write was given, are the table's.
 use Prim.Native.Nat.{ℕ, _+_, _*_, _/_, _≤_, _<_}
 use mathlib.Core.Path.{_≡_, refl, sym, _∙_, ap, ap₂}
-use mathlib.Core.Logic.{_⊎_, inl, inr}
+use mathlib.Core.Logic.{_⊎_, inl, inr, _≢_}
 use mathlib.Core.List.{List}
 use mathlib.Core.Option.{some}
-use mathlib.Core.Bool.{true}
+use mathlib.Core.Bool.{true, false}
 use native.Mathlib.Omega.{arith}
 use lib.ListN.{length, take, drop}
+use lib.Seq.{take-length}
 use Rattle.bus_rules.specs.Frames.{cmd, req, rsp, frameWith, content}
 use Rattle.bus_rules.specs.Device.{Device, ownOf, rangeOf}
 use Rattle.bus_rules.specs.Holder.{requestAt, tableOf, answerWith, serveOf}
 use Rattle.bus_rules.specs.Ident.{idOf, idOffset, idKind, idFrom, idTable}
 use Rattle.bus_rules.specs.Request.{request}
 use Rattle.bridge_rules.specs.State.{Frame, Slot, done, asks, carries}
-use Rattle.bridge_rules.specs.Opening.{askDevice, askTable, askOffset, askCount}
+use Rattle.bridge_rules.specs.Answers.{Buffers}
+use Rattle.bridge_rules.specs.Opening.{isRead, isCheck, askDevice, askTable, askOffset, askCount, askGiven}
 use Rattle.bridge_rules.specs.Turn.{aged, sentFrame, chunkLen}
 use Rattle.bridge_rules.specs.Incoming.{contentNumber}
 use Rattle.bridge_rules.specs.Call.{opening}
-use Rattle.bridge_rules.specs.Run.{Run, state, buffer, Lawful, Transfer, slotOf, Stands, lenOf, shownAt, Done}
-use Rattle.bridge_rules.specs.Replies.{Sent, Replied}
+use Rattle.bridge_rules.specs.Run.{Run, state, buffers, Lawful, Transfer, slotOf, Stands, chunks, lenOf, shownAt, Done}
+use Rattle.bridge_rules.specs.Replies.{given, Sent, Replied}
 use Rattle.bridge_rules.specs.Device.{Arrives, Timeline, range, Own, NotAfter, Meanwhile, Arrivals, Unwritten, Premises}
-use Rattle.bridge_rules.specs.Demand3.{brought, showing}
+use Rattle.bridge_rules.specs.Demand3.{join, brought, showing}
 use Rattle.bridge_rules.specs.Corollaries.{SinceTaken}
-use Rattle.bridge_rules.proofs.KindTests.{read-of}
+use Rattle.bridge_rules.proofs.KindTests.{asks-not-write}
 use Rattle.bus_rules.proofs.IdentLaws.{offset-of-id, kind-of-id, table-of-id}
 use Rattle.bus_rules.proofs.Ranges.{range-part, range-whole, range-short}
 use Rattle.bus_rules.proofs.Replies.{command-unanswered, request-answered, answerer-own, answerer-unchanged, request-read}
 use Rattle.bridge_rules.proofs.FrameLaws.{len-eight, len-inside, id-of, content-of, read-is}
 use Rattle.bridge_rules.proofs.FrameLaws.{write-is}
 use Rattle.bridge_rules.proofs.SlotOk.{ReadyOk}
-use Rattle.bridge_rules.proofs.SlotChanges.{Same, aged-same}
+use Rattle.bridge_rules.proofs.SlotChanges.{Same, aged-same, aged-kind}
 use Rattle.bridge_rules.proofs.SoundRuns.{storage-sound}
 use Rattle.bridge_rules.proofs.LedgerAgrees.{own-is}
 use Rattle.bridge_rules.proofs.Standing.{slotAt, Held, held, openedAt}
@@ -39,6 +41,7 @@ use Rattle.bridge_rules.proofs.Matching.{MatchesOk, matches-ok}
 use Rattle.bridge_rules.proofs.AskedSoFar.{AskedSoFar, Got}
 use Rattle.bridge_rules.proofs.ShownBytes.{join-all, shown-part, shown-done, all-got}
 use Rattle.bridge_rules.proofs.SlotHolders.{same-slot, Sender, sender}
+use Rattle.bridge_rules.proofs.AskTests.{given-count, check-not-read}
 
 from-small : (id : ℕ) → idFrom id ≤ 15
 unfolding idFrom
@@ -49,7 +52,7 @@ record Answered (d : Device) (own k : ℕ) (y : Slot) (g : Frame) : Type 0 where
   offset : idOffset (g .id) ≡ 128 * k + y .progress
   bytes : content g ≡ rangeOf d (y .table) (y .offset + y .progress) (chunkLen (y .count) (y .progress))
 
-answered : (d : Device) (own k : ℕ) (y : Slot) (b : List ℕ) (g : Frame) → k < 4 → own ≤ 15 → ReadyOk y
+answered : (d : Device) (own k : ℕ) (y : Slot) (b : Buffers) (g : Frame) → k < 4 → own ≤ 15 → ReadyOk y
     → asks (y .kind) ≡ true → serveOf d (sentFrame own k y b) ≡ answerWith g → Answered d own k y g
 answered d own k y b g kb o r u e = record {
   offset = ap (λ (f : Frame). idOffset (f .id)) gq ∙ ap idOffset (id-of _ _)
@@ -168,7 +171,7 @@ module _ (r : Run) (w : Lawful r) (x : Transfer r) (n : ℕ) (t : Timeline) (pre
       ownS : state r j .own ≤ 15
       ownS = storage-sound r w j .0 .own
 
-      sv : serveOf d (sentFrame (state r j .own) (slotOf r y) (aged (slotAt r y j)) (buffer r j)) ≡ answerWith (ow .reply)
+      sv : serveOf d (sentFrame (state r j .own) (slotOf r y) (aged (slotAt r y j)) (buffers r j)) ≡ answerWith (ow .reply)
       sv = ap₂ serveOf same-device (sym (sd .is)) ∙ ow .gives
 
       sa : Same (slotAt r y j) (aged (slotAt r y j))
@@ -176,32 +179,32 @@ module _ (r : Run) (w : Lawful r) (x : Transfer r) (n : ℕ) (t : Timeline) (pre
 
       kinds : (carries (aged (slotAt r y j) .kind) ≡ true) ⊎ (asks (aged (slotAt r y j) .kind) ≡ true)
           → Answers c m
-      kinds (inl u) = absurd (command-unanswered d (sentFrame (state r j .own) (slotOf r y) (aged (slotAt r y j)) (buffer r j)) (ow .reply)
-          sv (ap (λ (f : Frame). idKind (f .id)) (write-is (state r j .own) (slotOf r y) (aged (slotAt r y j)) (buffer r j) u)
+      kinds (inl u) = absurd (command-unanswered d (sentFrame (state r j .own) (slotOf r y) (aged (slotAt r y j)) (buffers r j)) (ow .reply)
+          sv (ap (λ (f : Frame). idKind (f .id)) (write-is (state r j .own) (slotOf r y) (aged (slotAt r y j)) (buffers r j) u)
           ∙ ap idKind (id-of _ _)
           ∙ kind-of-id _ cmd _ _ _ (omega (arith, k .partway .below, k .held .args .inside)) (omega arith) (omega (arith, ownS))
           (omega (arith, k .held .args .device)) (omega (arith, k .held .args .table))))
       kinds (inr u) = record {
         sent = record {
           stands = (omega (arith, at, sd .stands .0), λ i a b. p .awaits .stands .1 i a (omega (arith, ow .earlier)));
-          isRead = p .awaits .sent .isRead;
+          asks = p .awaits .sent .asks;
           chunk = p .awaits .sent .chunk;
           turned = ow .turned;
           yields = ow .yields
-              ∙ ap some (sd .is ∙ ap (λ (i : ℕ). sentFrame (state r j .own) i (aged (slotAt r y j)) (buffer r j)) (sp .0)
+              ∙ ap some (sd .is ∙ ap (λ (i : ℕ). sentFrame (state r j .own) i (aged (slotAt r y j)) (buffers r j)) (sp .0)
               ∙ sends-request r w x c j (aged (slotAt r y j)) u progress (sa .device ∙ h .device ∙ ap askDevice ask) tab off cnt);
         };
         bytes = ap brought (fo .1 .is) ∙ ow .sameBytes ∙ an .bytes ∙ same-range;
       }
         where
           an : Answered d (state r j .own) (slotOf r y) (aged (slotAt r y j)) (ow .reply)
-          an = answered d (state r j .own) (slotOf r y) (aged (slotAt r y j)) (buffer r j) (ow .reply)
+          an = answered d (state r j .own) (slotOf r y) (aged (slotAt r y j)) (buffers r j) (ow .reply)
               (openedAt r w y .bound) ownS k u sv
 
           sent : Sent r y (k .partway .chunk) j
           sent = record {
             stands = sd .stands;
-            isRead = read-of (y .ask) (sa .kind ∙ h .kind) u;
+            asks = asks-not-write (y .ask) (slotAt r y j .kind) (h .kind) (sym (ap asks (aged-kind (slotAt r y j))) ∙ u);
             chunk = omega (arith, k .partway .at, k .partway .below, sa .count, h .count);
             turned = ow .turned;
             yields = ow .yields ∙ ap some (sd .is ∙ sends-request r w y (k .partway .chunk) j (aged (slotAt r y j)) u (k .partway .at)
@@ -236,28 +239,46 @@ module _ (r : Run) (w : Lawful r) (x : Transfer r) (n : ℕ) (t : Timeline) (pre
               ≡ take (lenOf r x c) (drop (8 * c) (range r x (t .device (t .answered m))))
           same-range = rw (tab, off, progress, cnt) (sym (range-chunk r x (t .device (t .answered m)) c (sm .0)))
 
-  -- the bytes shown are the table's, at all moments of a set in which the range isn't written and which holds each answer that the
-  -- read took
-  pub table-shown : (During : ℕ → Type 0) → Unwritten r x t During
-      → ((c m : ℕ) → m < n → Replied r x c m → t .answered m ≤ t .when m → During (t .answered m))
-      → Stands r x n → AskedSoFar r x n → Done r x n → (τ : ℕ) → During τ → shownAt r x n ≡ showing (range r x (t .device τ))
-  table-shown During un covers s p e τ mw =
-      shown-done r w x n s p e ∙ ap showing (shown-part r w x n s p dn g same
-      ∙ join-all g (askCount (x .ask)) (range r x (t .device τ)) (λ c q. refl) ∙ whole-range r x (t .device τ))
-    where
-      dn : slotAt r x n .phase ≡ done
-      dn = done-is r w x n s .0 e
+  -- the replies' bytes are the table's, at all moments of a set in which the range isn't written and which holds each answer that was
+  -- taken
+  abbrev Covers : (ℕ → Type 0) → Type 0
+  Covers During = (c m : ℕ) → m < n → Replied r x c m → t .answered m ≤ t .when m → During (t .answered m)
 
-      g : ℕ → List ℕ
-      g c = take (chunkLen (askCount (x .ask)) (8 * c)) (drop (8 * c) (range r x (t .device τ)))
+  module _ (During : ℕ → Type 0) (un : Unwritten r x t During) (covers : Covers During) (s : Stands r x n) (p : AskedSoFar r x n)
+      (e : Done r x n) (τ : ℕ) (mw : During τ) where
+    dn : slotAt r x n .phase ≡ done
+    dn = done-is r w x n s .0 e
 
-      same : (c : ℕ) (q : 8 * c < askCount (x .ask)) → g c ≡ brought (r .calls (all-got r w x n s p dn c q .m))
-      same c q =
-          let gt : Got r x c n = all-got r w x n s p dn c q in
-          let ow : Own r t (gt .m) _ = pre .own (gt .m) _ (arrives c (gt .m) (gt .before) (gt .replied)) in
-          ap (λ (l : List ℕ). take (lenOf r x c) (drop (8 * c) l))
-          (un .unchanged τ (t .answered (gt .m)) mw (covers c (gt .m) (gt .before) (gt .replied) (ow .untilArrived)))
-          ∙ sym (answers c (gt .m) (gt .before) (gt .replied) .bytes)
+    -- chunk c of the table
+    chunk : ℕ → List ℕ
+    chunk c = take (chunkLen (askCount (x .ask)) (8 * c)) (drop (8 * c) (range r x (t .device τ)))
+
+    chunks-joined : join chunk (chunks r x) ≡ range r x (t .device τ)
+    unfolding chunk
+    chunks-joined = join-all chunk (askCount (x .ask)) (range r x (t .device τ)) (λ c q. refl) ∙ whole-range r x (t .device τ)
+
+    same : (c : ℕ) (q : 8 * c < askCount (x .ask)) → chunk c ≡ brought (r .calls (all-got r w x n s p dn c q .m))
+    unfolding chunk
+    same c q =
+        let gt : Got r x c n = all-got r w x n s p dn c q in
+        let ow : Own r t (gt .m) _ = pre .own (gt .m) _ (arrives c (gt .m) (gt .before) (gt .replied)) in
+        ap (λ (l : List ℕ). take (lenOf r x c) (drop (8 * c) l))
+        (un .unchanged τ (t .answered (gt .m)) mw (covers c (gt .m) (gt .before) (gt .replied) (ow .untilArrived)))
+        ∙ sym (answers c (gt .m) (gt .before) (gt .replied) .bytes)
+
+    -- those that a read shows
+    table-shown : isRead (x .ask) ≡ true → shownAt r x n ≡ showing (range r x (t .device τ))
+    table-shown rd = shown-done r w x n s p rd e ∙ ap showing (shown-part r w x n s p dn chunk same ∙ chunks-joined)
+
+    -- those that a checked write was given
+    table-given : isCheck (x .ask) ≡ true → range r x (t .device τ) ≡ askGiven (x .ask)
+    unfolding chunk
+    table-given ck =
+        let ur : isRead (x .ask) ≡ false = check-not-read (x .ask) ck in
+        sym (whole-range r x (t .device τ)) ∙ sym (join-all (given r x) (askCount (x .ask)) (range r x (t .device τ))
+        (λ c q. sym (same c q ∙ all-got r w x n s p dn c q .equal ck)))
+        ∙ join-all (given r x) (askCount (x .ask)) (askGiven (x .ask)) (λ c q. refl)
+        ∙ ap (λ (k : ℕ). take k (askGiven (x .ask))) (given-count (x .ask) ur) ∙ take-length (askGiven (x .ask))
 
   -- an answer that was taken is meanwhile
   taken-meanwhile : (τ₀ : ℕ) → NotAfter r x n t τ₀ → (c m : ℕ) → m < n → Replied r x c m → t .answered m ≤ t .when m
@@ -266,8 +287,17 @@ module _ (r : Run) (w : Lawful r) (x : Transfer r) (n : ℕ) (t : Timeline) (pre
       record { since = omega (arith, first c m l p); c = c; m = m; before = l; last = p; until = omega arith }
 
   pub table-meanwhile : (τ₀ : ℕ) → Premises r x n t τ₀ → Stands r x n → AskedSoFar r x n → Done r x n → (τ : ℕ) → Meanwhile r x n t τ₀ τ
-      → shownAt r x n ≡ showing (range r x (t .device τ))
+      → isRead (x .ask) ≡ true → shownAt r x n ≡ showing (range r x (t .device τ))
   table-meanwhile τ₀ h = table-shown (Meanwhile r x n t τ₀) (h .unwritten) (taken-meanwhile τ₀ (h .first))
+
+  pub given-meanwhile : (τ₀ : ℕ) → Premises r x n t τ₀ → Stands r x n → AskedSoFar r x n → Done r x n → (τ : ℕ) → Meanwhile r x n t τ₀ τ
+      → isCheck (x .ask) ≡ true → range r x (t .device τ) ≡ askGiven (x .ask)
+  given-meanwhile τ₀ h = table-given (Meanwhile r x n t τ₀) (h .unwritten) (taken-meanwhile τ₀ (h .first))
+
+  -- a reply that disagrees says that the table's bytes were other when the device answered
+  pub other-then : (c m : ℕ) → m < n → Replied r x c m → brought (r .calls m) ≢ given r x c
+      → take (lenOf r x c) (drop (8 * c) (range r x (t .device (t .answered m)))) ≢ given r x c
+  other-then c m l p d e = d (answers c m l p .bytes ∙ e)
 
   -- there is such a moment: the answer to the first request
   pub some-moment : (τ₀ : ℕ) → NotAfter r x n t τ₀ → Stands r x n → AskedSoFar r x n → Done r x n → (τ : ℕ) × Meanwhile r x n t τ₀ τ
@@ -278,7 +308,7 @@ module _ (r : Run) (w : Lawful r) (x : Transfer r) (n : ℕ) (t : Timeline) (pre
 
   -- from the first answer that was taken on
   pub table-since : Unwritten r x t (SinceTaken r x n t) → Stands r x n → AskedSoFar r x n → Done r x n → (τ : ℕ) → SinceTaken r x n t τ
-      → shownAt r x n ≡ showing (range r x (t .device τ))
+      → isRead (x .ask) ≡ true → shownAt r x n ≡ showing (range r x (t .device τ))
   table-since un = table-shown (SinceTaken r x n t) un (λ c m l p u. record {
     c = c;
     m = m;

@@ -11,47 +11,52 @@ use lib.ListN.{length, take, drop, length-take, length-drop}
 use Rattle.bus_rules.specs.Frames.{cmd, req, frameWith}
 use Rattle.bus_rules.specs.Ident.{idOf}
 use Rattle.bus_rules.specs.Request.{request}
-use Rattle.bridge_rules.specs.State.{Frame, Bridge, Slot, ready, slot, sound, isReady, nextReady}
-use Rattle.bridge_rules.specs.Answers.{Result, lentNumber}
-use Rattle.bridge_rules.specs.Turn.{aged, sentFrame, agedBridge, sendFor, turnOf, chunkLen}
+use Rattle.bridge_rules.specs.State.{Frame, Bridge, Slot, ready, waiting, done, writes, checks, slot, sound, isReady, nextReady, asks, carries}
+use Rattle.bridge_rules.specs.Answers.{Buffers, Result, rightLengths, lentNumber}
+use Rattle.bridge_rules.specs.Turn.{aged, carriedFrom, sentFrame, agedBridge, sendFor, turnOf, chunkLen}
 use Rattle.bridge_rules.specs.Call.{itsOwn, turn, step}
-use Rattle.bridge_rules.specs.Run.{Transfer}
-use Rattle.bridge_rules.specs.Changes.{FirstReady, NextBytes}
-use Rattle.bridge_rules.specs.Calls.{TurnYields, TurnSends, SendsForTransfers}
-use Rattle.bridge_rules.proofs.NumberLaws.{lent-ok, lent-clear}
-use Rattle.bridge_rules.proofs.KindTests.{KnownKind, asks-of}
-use Rattle.bridge_rules.proofs.FrameLaws.{len-some, len-eight, len-inside, read-is, write-is}
+use Rattle.bridge_rules.specs.Opening.{isRead}
+use Rattle.bridge_rules.specs.Run.{Run, Lawful, statusAt}
+use Rattle.bridge_rules.specs.Replies.{requestFrame, commandFrame, AllWritten}
+use Rattle.bridge_rules.specs.Changes.{FirstReady, CarriesBytes, NextBytes}
+use Rattle.bridge_rules.specs.Calls.{TurnYields, TurnSends, SentFor, SendsForTransfers}
+use Rattle.bridge_rules.proofs.NumberLaws.{RightLengths, lent-ok, lent-clear}
+use Rattle.bridge_rules.proofs.KindTests.{KnownKind, asks-kinds, kinds-ask, carries-kinds, kinds-carry, kind-checking}
+use Rattle.bridge_rules.proofs.KindTests.{writes-not-checking, asks-of, carries-of}
+use Rattle.bridge_rules.proofs.FrameLaws.{len-some, len-eight, len-inside, read-is, write-is, from-first, from-second}
 use Rattle.bridge_rules.proofs.Search.{some-eq, none-some, contradiction, Found, search-some, search-none, Outcome, through, refused, outcome}
 use Rattle.bridge_rules.proofs.Search.{option-cases}
 use Rattle.bridge_rules.proofs.SlotOk.{ReadyOk, ready-ok}
-use Rattle.bridge_rules.proofs.SlotChanges.{Same, aged-same}
+use Rattle.bridge_rules.proofs.Status.{done-is, unfinished-in}
+use Rattle.bridge_rules.proofs.SlotChanges.{Same, aged-same, aged-kind, ReadyAgain, aged-ready}
 use Rattle.bridge_rules.proofs.SoundTest.{Sound, sound-true, true-sound}
 use Rattle.bridge_rules.proofs.SoundStates.{slot-aged, aged-sound}
 use Rattle.bridge_rules.proofs.CallCases.{readyAt}
 use Rattle.bridge_rules.proofs.SlotEffects.{distance, distance-small, distance-is}
-use Rattle.bridge_rules.proofs.Standing.{slotAt, Held, held}
+use Rattle.bridge_rules.proofs.Standing.{slotAt, okAt, Held, held}
 use Rattle.bridge_rules.proofs.SentRequests.{sends-request}
 use Rattle.bridge_rules.proofs.SlotHolders.{Sender, sender}
-use Rattle.bridge_rules.proofs.WrittenInOrder.{written-so-far, sends-write}
+use Rattle.bridge_rules.proofs.AskTests.{check-not-read}
+use Rattle.bridge_rules.proofs.WrittenInOrder.{Stage, carrying, back, stage-at, all-mono, sends-write, written-ends}
 
 unready-phase : (p : ℕ) → isReady p ≡ false → p ≢ ready
 unready-phase p e q = contradiction (ap isReady q) e
 
--- an accepted turn was handed a sound bridge and its buffer
-pub turn-lent : (s : Bridge) (b : List ℕ) → step s b (turn itsOwn) .answer .number ≡ 0 → (sound s ≡ true) × (length b ≡ 512)
+-- an accepted turn was handed a sound bridge and its buffers
+pub turn-lent : (s : Bridge) (b : Buffers) → step s b (turn itsOwn) .answer .number ≡ 0 → (sound s ≡ true) × RightLengths b
 unfolding step turnOf
-turn-lent s b e = go (outcome (lentNumber s (length b)) (sendFor (agedBridge s) b (nextReady (agedBridge s))) s b)
+turn-lent s b e = go (outcome (lentNumber s (rightLengths b)) (sendFor (agedBridge s) b (nextReady (agedBridge s))) s b)
   where
-    go : Outcome (lentNumber s (length b)) (sendFor (agedBridge s) b (nextReady (agedBridge s))) s b (turnOf s b)
-        → (sound s ≡ true) × (length b ≡ 512)
-    go (through z q) = lent-ok s (length b) z
+    go : Outcome (lentNumber s (rightLengths b)) (sendFor (agedBridge s) b (nextReady (agedBridge s))) s b (turnOf s b)
+        → (sound s ≡ true) × RightLengths b
+    go (through z q) = lent-ok s b z
     go (refused z q) = absurd (z (sym (ap (λ (u : Result). u .answer .number) q) ∙ e))
 
-sends-none : (s : Bridge) (b : List ℕ) → sendFor s b none .answer .sent ≡ none
+sends-none : (s : Bridge) (b : Buffers) → sendFor s b none .answer .sent ≡ none
 unfolding sendFor
 sends-none s b = refl
 
-sends-some : (s : Bridge) (b : List ℕ) (k : ℕ) → sendFor s b (some k) .answer .sent ≡ some (sentFrame (s .own) k (slot s k) b)
+sends-some : (s : Bridge) (b : Buffers) (k : ℕ) → sendFor s b (some k) .answer .sent ≡ some (sentFrame (s .own) k (slot s k) b)
 unfolding sendFor
 sends-some s b k = refl
 
@@ -60,33 +65,46 @@ unfolding agedBridge
 aged-own s = refl
 
 -- what a ready slot sends are its next bytes, and nothing else is
-pub next-bytes : (own k : ℕ) (x : Slot) (b : List ℕ) → k < 4 → length b ≡ 512 → ReadyOk x → NextBytes own k x b (sentFrame own k x b)
-next-bytes own k x b l lb r =
-    let in-count = len-inside (x .count) (x .progress) (r .partway .below) in
-    record {
-      n = chunkLen (x .count) (x .progress);
-      next = refl;
-      nonempty = len-some (x .count) (x .progress) (r .partway .below);
-      few = len-eight (x .count) (x .progress);
-      inside = in-count;
-      requests = read-is own k x b;
-      commands = λ e. (
-        write-is own k x b e,
-        length-take (chunkLen (x .count) (x .progress)) (drop (128 * k + x .progress) b)
-            ∙ omega (arith, length-drop (128 * k + x .progress) b, in-count, r .held .args .few),
-      );
-    }
+module _ (own k : ℕ) (x : Slot) (b : Buffers) where
+  -- one that carries sends them from its buffer
+  carried-is : (l : List ℕ) → carries (x .kind) ≡ true → carriedFrom (x .kind) b ≡ l
+      → sentFrame own k x b ≡ frameWith (idOf (x .offset + x .progress) cmd own (x .device) (x .table))
+      (take (chunkLen (x .count) (x .progress)) (drop (128 * k + x .progress) l))
+  carried-is l e q = write-is own k x b e ∙ rw q refl
 
-next-only : (own k : ℕ) (x : Slot) (b : List ℕ) (f : Frame) → KnownKind (x .kind) → NextBytes own k x b f → sentFrame own k x b ≡ f
-next-only own k x b f told n = go told
-  where
-    go : KnownKind (x .kind) → sentFrame own k x b ≡ f
-    go (inl e) = write-is own k x b e ∙ sym (n .commands e .0
-        ∙ ap (λ (i : ℕ). frameWith (idOf (x .offset + x .progress) cmd own (x .device) (x .table)) (take i (drop (128 * k + x .progress) b)))
-        (n .next))
-    go (inr e) = read-is own k x b e
-        ∙ sym (n .requests e ∙ ap (λ (i : ℕ). frameWith (idOf (x .offset + x .progress) req own (x .device) (x .table))
-        (request 6 (128 * k + x .progress) i)) (n .next))
+  next-carried : (l : List ℕ) → k < 4 → length l ≡ 512 → ReadyOk x → carries (x .kind) ≡ true → carriedFrom (x .kind) b ≡ l
+      → CarriesBytes own k (chunkLen (x .count) (x .progress)) x l (sentFrame own k x b)
+  next-carried l m ll r e q = record {
+    is = carried-is l e q;
+    all = length-take (chunkLen (x .count) (x .progress)) (drop (128 * k + x .progress) l)
+        ∙ omega (arith, length-drop (128 * k + x .progress) l, len-inside (x .count) (x .progress) (r .partway .below), r .held .args .few);
+  }
+
+  pub next-bytes : k < 4 → RightLengths b → ReadyOk x → NextBytes own k x b (sentFrame own k x b)
+  next-bytes l lb r = record {
+    n = chunkLen (x .count) (x .progress);
+    next = refl;
+    nonempty = len-some (x .count) (x .progress) (r .partway .below);
+    few = len-eight (x .count) (x .progress);
+    inside = len-inside (x .count) (x .progress) (r .partway .below);
+    requests = λ e. read-is own k x b (kinds-ask (x .kind) e);
+    commands = λ e. next-carried (b .first) l (lb .0) r (kinds-carry (x .kind) (inl e)) (from-first (x .kind) b (writes-not-checking (x .kind) e));
+    checked = λ e. next-carried (b .second) l (lb .1) r (kinds-carry (x .kind) (inr e)) (from-second (x .kind) b (kind-checking (x .kind) e));
+  }
+
+  module _ (f : Frame) (n : NextBytes own k x b f) where
+    only-carried : (l : List ℕ) → carries (x .kind) ≡ true → carriedFrom (x .kind) b ≡ l → CarriesBytes own k (n .n) x l f → sentFrame own k x b ≡ f
+    only-carried l e q c = carried-is l e q ∙ sym (c .is ∙ ap (λ (i : ℕ). frameWith (idOf (x .offset + x .progress) cmd own (x .device) (x .table))
+        (take i (drop (128 * k + x .progress) l))) (n .next))
+
+    next-only : KnownKind (x .kind) → sentFrame own k x b ≡ f
+    next-only (inl e) = go (carries-kinds (x .kind) e)
+      where
+        go : (x .kind ≡ writes) ⊎ (x .kind ≡ checks) → sentFrame own k x b ≡ f
+        go (inl q) = only-carried (b .first) e (from-first (x .kind) b (writes-not-checking (x .kind) q)) (n .commands q)
+        go (inr q) = only-carried (b .second) e (from-second (x .kind) b (kind-checking (x .kind) q)) (n .checked q)
+    next-only (inr e) = read-is own k x b e ∙ sym (n .requests (asks-kinds (x .kind) e)
+        ∙ ap (λ (i : ℕ). frameWith (idOf (x .offset + x .progress) req own (x .device) (x .table)) (request 6 (128 * k + x .progress) i)) (n .next))
 
 -- the first ready slot is one
 first-only : (s : Bridge) (k j : ℕ) → FirstReady s k → FirstReady s j → j ≡ k
@@ -117,10 +135,10 @@ module _ (s : Bridge) (h : Sound s) (k : ℕ) (found : Found (readyAt (agedBridg
     before = λ e l. unready-phase _ (sym (ready-at s ((suc (s .last) + e) % 4)) ∙ found .skipped e l);
   }
 
-module _ (s : Bridge) (b : List ℕ) (h : Sound s) (lb : length b ≡ 512) where
+module _ (s : Bridge) (b : Buffers) (h : Sound s) (lb : RightLengths b) where
   is : step s b (turn itsOwn) ≡ sendFor (agedBridge s) b (nextReady (agedBridge s))
   unfolding step turnOf
-  is = rw (lent-clear s (length b) (sound-true s h) lb)
+  is = rw (lent-clear s b (sound-true s h) lb)
 
   -- no slot is ready
   module _ (z : nextReady (agedBridge s) ≡ none) where
@@ -168,8 +186,9 @@ module _ (s : Bridge) (b : List ℕ) (h : Sound s) (lb : length b ≡ 512) where
           subst (NextBytes (s .own) k (aged (slot s k)) b) (some-eq (sym sent ∙ e))
               (next-bytes (s .own) k (aged (slot s k)) b bound lb readied),
         ),
-        λ p. sent ∙ ap some (next-only (s .own) k (aged (slot s k)) b f (readied .held .kind)
-            (subst (λ (i : ℕ). NextBytes (s .own) i (aged (slot s i)) b f) (first-only s k (p .0) (found-first s h k found) (p .1)) (p .2))),
+        λ p. sent ∙ ap some (next-only (s .own) k (aged (slot s k)) b f
+            (subst (λ (i : ℕ). NextBytes (s .own) i (aged (slot s i)) b f) (first-only s k (p .0) (found-first s h k found) (p .1)) (p .2))
+            (readied .held .kind)),
       );
     }
 
@@ -184,28 +203,62 @@ module _ (s : Bridge) (b : List ℕ) (h : Sound s) (lb : length b ≡ 512) where
 pub turn-sends : TurnSends
 turn-sends s b e = let l = turn-lent s b e in turn-yields s b (true-sound s (l .0)) (l .1)
 
--- in a run, the frame is that of a standing transfer's chunk
+-- ── in a run, the frame is that of a standing transfer's chunk ─────────────────────────────────────────────────────
+
+module _ (r : Run) (w : Lawful r) (j : ℕ) (f : Frame) (sd : Sender r w j f) where
+  -- the slot that sends it
+  abbrev its : Slot
+  its = slotAt r (sd .y) j
+
+  as-request : asks (its .kind) ≡ true → f ≡ requestFrame r (sd .y) (sd .ready .partway .chunk) j
+  as-request a =
+      let sa : Same its (aged its) = aged-same its in
+      let h : Held r (sd .y) j = held r w (sd .y) j (sd .stands) in
+      sd .is ∙ sends-request r w (sd .y) (sd .ready .partway .chunk) j (aged its) (ap asks (aged-kind its) ∙ a) (sd .ready .partway .at)
+      (sa .device ∙ h .device) (sa .table ∙ h .table) (sa .offset ∙ h .offset) (sa .count ∙ h .count)
+
+  as-command : carries (its .kind) ≡ true → f ≡ commandFrame r (sd .y) (sd .ready .partway .chunk) j
+  as-command u = sd .is ∙ sends-write r w (sd .y) j (sd .stands) u (sd .ready)
+
+  -- what has not sent all its CMDs, and is no read, carries
+  carries-yet : isRead (sd .y .ask) ≡ false → ¬ AllWritten r (sd .y) j → carries (its .kind) ≡ true
+  carries-yet u n = go (stage-at r w (sd .y) u j (sd .stands))
+    where
+      go : Stage r (sd .y) j → carries (its .kind) ≡ true
+      go (carrying p) = p .carrying
+      go (back b) = absurd (n (all-mono r (sd .y) (suc (b .j)) j (b .before) (b .written)))
+
+  -- what sends has not ended
+  still : statusAt r (sd .y) j ≡ 15
+  still = unfinished-in r w (sd .y) j (sd .stands) (go (aged-ready its (okAt r w (sd .y) j) (sd .ready .phase)))
+    where
+      go : ((its .phase ≡ ready) × (aged its ≡ its)) ⊎ ReadyAgain its → (its .phase ≡ ready) ⊎ (its .phase ≡ waiting)
+      go (inl p) = inl (p .0)
+      go (inr p) = inr (p .was .phase)
+
+  -- what has sent all its CMDs, and still sends, asks
+  asks-now : AllWritten r (sd .y) j → asks (its .kind) ≡ true
+  asks-now a = go (written-ends r w (sd .y) j (sd .stands) a)
+    where
+      go : (asks (its .kind) ≡ true) ⊎ (its .phase ≡ done) → asks (its .kind) ≡ true
+      go (inl q) = q
+      go (inr e) = absurd (omega (arith, still, done-is r w (sd .y) j (sd .stands) .1 e))
+
+  sent-for : SentFor r j f
+  sent-for =
+      let h : Held r (sd .y) j = held r w (sd .y) j (sd .stands) in
+      record {
+        asker = sd .y;
+        stands = sd .stands;
+        unfinished = still;
+        served = sd .served;
+        c = sd .ready .partway .chunk;
+        chunk = omega (arith, sd .ready .partway .at, sd .ready .partway .below, aged-same its .count, h .count);
+        asks = λ q. as-request (asks-of (sd .y .ask) (its .kind) (h .kind) q);
+        carries = λ q. as-command (carries-of (sd .y .ask) (its .kind) (h .kind) q);
+        checks = λ q n. as-command (carries-yet (check-not-read (sd .y .ask) q) n);
+        readsBack = λ q a. as-request (asks-now a);
+      }
+
 pub sends-for-transfers : SendsForTransfers
-sends-for-transfers r w j f a e = record {
-  asker = y;
-  stands = sd .stands;
-  served = sd .served;
-  c = sd .ready .partway .chunk;
-  chunk = omega (arith, sd .ready .partway .at, sd .ready .partway .below, sa .count, h .count);
-  asks = λ q. sd .is ∙ sends-request r w y (sd .ready .partway .chunk) j (aged (slotAt r y j))
-      (asks-of (y .ask) (sa .kind ∙ h .kind) q) (sd .ready .partway .at)
-      (sa .device ∙ h .device) (sa .table ∙ h .table) (sa .offset ∙ h .offset) (sa .count ∙ h .count);
-  carries = λ q. sd .is ∙ sends-write r w y q j h (written-so-far r w y q j (sd .stands)) (sd .ready);
-}
-  where
-    sd : Sender r w j f
-    sd = sender r w j f a e
-
-    y : Transfer r
-    y = sd .y
-
-    h : Held r y j
-    h = held r w y j (sd .stands)
-
-    sa : Same (slotAt r y j) (aged (slotAt r y j))
-    sa = aged-same (slotAt r y j)
+sends-for-transfers r w j f a e = sent-for r w j f (sender r w j f a e)

@@ -2,7 +2,8 @@
 use Prim.Native.Nat.{ℕ}
 use mathlib.Core.List.{List, []}
 use mathlib.Core.Option.{Option, none, some}
-use mathlib.Core.Bool.{cond, not}
+use mathlib.Core.Bool.{Bool, cond, not, _&&_}
+use lib.ListN.{length}
 use lib.Dec.{eqb}
 use Rattle.wire.specs.Order.{_if_else_}
 use Rattle.bus_rules.specs.Frames.{noFrame}
@@ -21,27 +22,40 @@ pub record Answer : Type 0 where
   pub sent : Option Frame
   pub shown : List ℕ
 
--- an answer with the state and the buffer after the call
+-- the bridge's lent buffers: 01's, and C-17's "second lent buffer", which holds what checked writes send
+pub record Buffers : Type 0 where
+  pub first : List ℕ
+  pub second : List ℕ
+
+abbrev pub both : (first second : List ℕ) → Buffers
+both a b = record { first = a; second = b }
+
+-- buffers of exactly 512 bytes each
+abbrev pub rightLengths : Buffers → Bool
+rightLengths b = eqb (length (b .first)) 512 && eqb (length (b .second)) 512
+
+-- an answer with the state and the buffers after the call
 pub record Result : Type 0 where
   pub answer : Answer
   pub state : Bridge
-  pub buffer : List ℕ
+  pub buffers : Buffers
 
 -- a number alone
 abbrev pub plain : ℕ → Answer
 plain n = record { number = n; ticket = 0; sent = none; shown = [] }
 
 -- a refusal leaves state and lent memory unchanged and yields no frame; every other number in it is 0
-abbrev pub unless : ℕ → Result → Bridge → List ℕ → Result
-unless n r s b = cond (eqb n 0) r (record { answer = plain n; state = s; buffer = b })
+abbrev pub unless : ℕ → Result → Bridge → Buffers → Result
+unless n r s b = cond (eqb n 0) r (record { answer = plain n; state = s; buffers = b })
 
 -- the same of a call that takes no buffer
 abbrev pub changedBy : ℕ → Bridge → Bridge → Changed
 changedBy n after before = record { bridge = cond (eqb n 0) after before; number = n }
 
--- 11: state unsound; 10: lent memory of wrong length. A lent buffer of exactly 512 bytes; n is its length
-unfoldable pub lentNumber : Bridge → ℕ → ℕ
-lentNumber s n = 11 if not (sound s) else 10 if not (eqb n 512) else 0
+-- 11: state unsound; 10: lent memory of wrong length, "for the second buffer" too, "which every opening, turn and frame takes"; `ok` says
+-- whether both lengths are right
+unfoldable pub lentNumber : Bridge → Bool → ℕ
+lentNumber s ok = 11 if not (sound s) else 10 if not ok else 0
 
 -- an opening's state, ticket and number
 unfoldable pub openedOf : Result → Opened

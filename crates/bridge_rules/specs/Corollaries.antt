@@ -1,9 +1,9 @@
 -- Beside demand 3: what has ended stays so; a premise on writes that asks for less; which answers a read takes.
 use Prim.Native.Nat.{ℕ, _≤_, _<_}
 use mathlib.Core.Path.{_≡_}
-use mathlib.Core.Bool.{false}
-use Rattle.bridge_rules.specs.Opening.{isWrite}
-use Rattle.bridge_rules.specs.Run.{Run, Lawful, Transfer, Stands, Done, GivenUp, shownAt}
+use mathlib.Core.Bool.{true}
+use Rattle.bridge_rules.specs.Opening.{isRead}
+use Rattle.bridge_rules.specs.Run.{Run, Lawful, Transfer, Stands, Done, GivenUp, Different, shownAt}
 use Rattle.bridge_rules.specs.Replies.{Replied, Sent}
 use Rattle.bridge_rules.specs.Device.{Timeline, range, Arrivals, Unwritten}
 use Rattle.bridge_rules.specs.Demand3.{showing}
@@ -13,6 +13,7 @@ use Rattle.bridge_rules.specs.Demand3.{showing}
 pub record Stays (r : Run) (x : Transfer r) (n n′ : ℕ) : Type 0 where
   pub done : Done r x n → Done r x n′
   pub givenUp : GivenUp r x n → GivenUp r x n′
+  pub different : Different r x n → Different r x n′
   -- and a done transfer shows the same
   pub shown : Done r x n → shownAt r x n′ ≡ shownAt r x n
 
@@ -38,7 +39,7 @@ pub record SinceTaken (r : Run) (x : Transfer r) (n : ℕ) (t : Timeline) (τ : 
 -- if the range isn't written between these, the bytes shown are the table's at each such moment
 abbrev pub NarrowMeanwhile : Type 0
 NarrowMeanwhile =
-    (r : Run) → Lawful r → (x : Transfer r) (n : ℕ) → Stands r x n → isWrite (x .ask) ≡ false → Done r x n →
+    (r : Run) → Lawful r → (x : Transfer r) (n : ℕ) → Stands r x n → isRead (x .ask) ≡ true → Done r x n →
     (t : Timeline) → Arrivals r x n t → Unwritten r x t (SinceTaken r x n t) →
     (τ : ℕ) → SinceTaken r x n t τ → shownAt r x n ≡ showing (range r x (t .device τ))
 

@@ -10,18 +10,18 @@ use Rattle.wire.specs.Log.{partOf}
 use Rattle.wire.specs.declared.Span.{Span}
 use Rattle.bridge_rules.specs.declared.Bridge.{Bridge}
 use Rattle.bridge_rules.specs.declared.Changed.{Changed}
-use Rattle.bridge_rules.specs.State.{done, gaveUp, asks, blank, slot, fresh, withSlots, sound, heldSlot, isNone, orZero}
+use Rattle.bridge_rules.specs.State.{done, gaveUp, different, shows, blank, slot, fresh, withSlots, sound, heldSlot, isNone, orZero}
 use Rattle.bridge_rules.specs.Answers.{Answer, changedBy}
 
--- of a held slot: 0 done, 16 gave up, 15 not finished. Done write means sent, no more
+-- of a held slot: 0 done, 16 gave up, 18 "read back different, a status after 16", 15 not finished. Done write means sent, no more
 unfoldable pub phaseNumber : ℕ → ℕ
-phaseNumber phase = 0 if eqb phase done else 16 if eqb phase gaveUp else 15
+phaseNumber phase = 0 if eqb phase done else 16 if eqb phase gaveUp else 18 if eqb phase different else 15
 
 -- 14: ticket unknown
 unfoldable pub ticketNumber : Bridge → ℕ → ℕ
 ticketNumber s t = 14 if isNone (heldSlot s t) else phaseNumber (slot s (orZero (heldSlot s t)) .phase)
 
--- status answers 11, then 0, 14, 15 or 16
+-- status answers 11, then 0, 14, 15, 16 or 18
 unfoldable pub statusOf : Bridge → ℕ → ℕ
 statusOf s t = 11 if not (sound s) else ticketNumber s t
 
@@ -32,9 +32,9 @@ bytesNumber s n t = 11 if not (sound s) else 10 if not (eqb n 512) else ticketNu
 abbrev pub noSpan : ℕ → Span
 noSpan n = record { number = n; start = 0; len = 0 }
 
--- where a done transfer's bytes lie: in its slot's part of the buffer for a read, nowhere for a write
+-- where a done transfer's bytes lie: in its slot's part of the buffer for a read, nowhere for a write or a checked write
 unfoldable pub slotSpan : Bridge → ℕ → Span
-slotSpan s k = cond (asks (slot s k .kind)) (record { number = 0; start = 128 * k; len = slot s k .count }) (noSpan 0)
+slotSpan s k = cond (shows (slot s k .kind)) (record { number = 0; start = 128 * k; len = slot s k .count }) (noSpan 0)
 
 -- of a ticket, with a buffer of length n
 unfoldable pub spanOf : Bridge → ℕ → ℕ → Span

@@ -1,24 +1,31 @@
--- Examples, which compute: 01's reckonings of the bridge that are not marked *, short runs, states one number away from a sound one, and
--- an opening's numbers in their order.
-use Prim.Native.Nat.{ℕ, zero, suc}
+-- Examples, which compute: 01's reckonings of the bridge that are not marked *, short runs, states one number away from a sound one, an
+-- opening's numbers in their order, and calls lent a buffer that is too short. Some fields say in short what a longer one says too, so that
+-- a wrong definition shows in a line.
+use Prim.Native.Nat.{ℕ, zero, suc, _+_}
 use mathlib.Core.Path.{_≡_}
-use mathlib.Core.List.{List, [], _∷_, _++_}
+use mathlib.Core.List.{List, [], _∷_, _++_, map}
 use mathlib.Core.Option.{Option, none, some}
-use mathlib.Core.Bool.{Bool, true, false}
-use lib.ListN.{replicate, take}
+use mathlib.Core.Bool.{Bool, true, false, cond}
+use lib.ListN.{replicate, take, drop}
+use lib.Dec.{leb}
 use Rattle.bus_rules.specs.Ident.{idOf}
 use Rattle.bus_rules.specs.Frames.{cmd, req, rsp, frameWith}
 use Rattle.bus_rules.specs.Request.{request}
-use Rattle.bridge_rules.specs.State.{Frame, Bridge, Slot, free, ready, waiting, done, gaveUp, reads, writes, blank, moved, sound}
-use Rattle.bridge_rules.specs.Answers.{plain}
-use Rattle.bridge_rules.specs.Opening.{Ask, read, write}
+use Rattle.bridge_rules.specs.State.{Frame, Bridge, Slot, free, ready, waiting, done, gaveUp, different, reads, writes, checks, readsBack}
+use Rattle.bridge_rules.specs.State.{blank, slot, moved, sound}
+use Rattle.bridge_rules.specs.Answers.{Buffers, Result, both, plain}
+use Rattle.bridge_rules.specs.Opening.{Ask, read, write, check}
 use Rattle.bridge_rules.specs.Call.{Call, Lent, itsOwn, other, opening, turn, frame, status, bytes, close, reset, step}
-use Rattle.bridge_rules.specs.Run.{Run, answer, answerTo, buffer}
+use Rattle.bridge_rules.specs.Run.{Run, state, buffers, answer, answerTo, isTurn, turnsEach}
 use Rattle.bridge_rules.specs.Demand3.{runOf, showing}
 
--- the run of bridge 0, from 512 bytes of 255
+-- 512 bytes of 255, and of 254
+abbrev pub start : Buffers
+start = both (replicate 512 255) (replicate 512 254)
+
+-- the run of bridge 0 from there
 abbrev pub run : List Call → Run
-run cs = runOf 0 (replicate 512 255) cs
+run cs = runOf 0 start cs
 
 -- a reply to bridge 0 for a place in its buffer
 unfoldable pub reply : (device place : ℕ) → List ℕ → Frame
@@ -40,6 +47,11 @@ sendsOf r (suc n) = sendsOf r n ++ yielded (answer r n .sent) (λ f. n)
 unfoldable pub framesOf : Run → ℕ → List Frame
 framesOf r zero = []
 framesOf r (suc n) = framesOf r n ++ yielded (answer r n .sent) (λ f. f)
+
+-- what status answers to ticket 1 after each of the first n calls
+unfoldable pub statusesOf : Run → ℕ → List ℕ
+statusesOf r zero = []
+statusesOf r (suc n) = statusesOf r n ++ answerTo r (suc n) (status 1) .number ∷ []
 
 -- ── A silent device, alone ─────────────────────────────────────────────────────────────────────────────────────────
 
@@ -84,12 +96,12 @@ pub record Fetched : Type 0 where
   pub requests : framesOf (run fetching) 13
       ≡ frameWith 0x1882B8 (6 ∷ 0 ∷ 8 ∷ []) ∷ frameWith 0x3882B8 (6 ∷ 1 ∷ 2 ∷ []) ∷ frameWith (idOf 0 req 0 5 7) (request 6 128 1) ∷ []
   -- what is refused stores nothing
-  pub kept : take 12 (buffer (run fetching) 5) ≡ replicate 12 255
+  pub kept : take 12 (buffers (run fetching) 5 .first) ≡ replicate 12 255
   -- it shows nothing until it is done, and the last reply stores two bytes and no more
   pub hidden : answerTo (run fetching) 6 (bytes itsOwn 1) ≡ plain 15
   pub shown : answerTo (run fetching) 10 (bytes itsOwn 1)
       ≡ showing (106 ∷ 107 ∷ 108 ∷ 109 ∷ 110 ∷ 111 ∷ 112 ∷ 113 ∷ 114 ∷ 115 ∷ [])
-  pub stored : take 12 (buffer (run fetching) 10)
+  pub stored : take 12 (buffers (run fetching) 10 .first)
       ≡ 106 ∷ 107 ∷ 108 ∷ 109 ∷ 110 ∷ 111 ∷ 112 ∷ 113 ∷ 114 ∷ 115 ∷ 255 ∷ 255 ∷ []
   pub beside : answerTo (run fetching) 13 (bytes itsOwn 2) ≡ showing (100 ∷ [])
 
@@ -116,6 +128,175 @@ pub record ByTurns : Type 0 where
       ∷ frameWith (idOf 2 cmd 0 5 7) (21 ∷ [])
       ∷ frameWith (idOf 3 cmd 0 5 7) (22 ∷ [])
       ∷ []
+
+-- ── A checked write, alone ─────────────────────────────────────────────────────────────────────────────────────────
+
+abbrev pub ten : List ℕ
+ten = 1 ∷ 2 ∷ 3 ∷ 4 ∷ 5 ∷ 6 ∷ 7 ∷ 8 ∷ 9 ∷ 10 ∷ []
+
+abbrev pub eight : List ℕ
+eight = take 8 ten
+
+-- it "sends the write, then reads the same range back": 1 and 2 send its CMDs, 3 and 5 its REQs
+unfoldable pub readingBack : List Call
+readingBack =
+    opening itsOwn (check 5 7 6 ten)
+    ∷ turn itsOwn
+    ∷ turn itsOwn
+    ∷ turn itsOwn
+    ∷ frame itsOwn (reply 5 0 eight)
+    ∷ turn itsOwn
+    -- two bytes; those past the length are ignored
+    ∷ frame itsOwn (record { id = idOf 8 rsp 5 0 6; len = 2; bytes = 9 ∷ 10 ∷ replicate 6 77 })
+    ∷ turn itsOwn
+    ∷ []
+
+pub record Checked : Type 0 where
+  -- "opening copies only into a second lent buffer"
+  pub kept : take 12 (buffers (run readingBack) 1 .first) ≡ replicate 12 255
+  pub copied : take 12 (buffers (run readingBack) 1 .second) ≡ ten ++ 254 ∷ 254 ∷ []
+  -- not finished until the last reply is taken, then done
+  pub statuses : statusesOf (run readingBack) 8 ≡ 15 ∷ 15 ∷ 15 ∷ 15 ∷ 15 ∷ 15 ∷ 0 ∷ 0 ∷ []
+  pub sends : sendsOf (run readingBack) 8 ≡ 1 ∷ 2 ∷ 3 ∷ 5 ∷ []
+  pub frames : framesOf (run readingBack) 8
+      ≡ frameWith (idOf 6 cmd 0 5 7) eight
+      ∷ frameWith (idOf 14 cmd 0 5 7) (9 ∷ 10 ∷ [])
+      ∷ frameWith 0x1882B8 (6 ∷ 0 ∷ 8 ∷ [])
+      ∷ frameWith 0x3882B8 (6 ∷ 1 ∷ 2 ∷ [])
+      ∷ []
+  pub numbers : numbersOf (run readingBack) 8 ≡ replicate 8 0
+  -- what came back equal is stored in the first
+  pub stored : take 12 (buffers (run readingBack) 8 .first) ≡ ten ++ 255 ∷ 255 ∷ []
+  -- no other byte is changed
+  pub opened : buffers (run readingBack) 1 ≡ both (replicate 512 255) (ten ++ replicate 502 254)
+  pub ended : buffers (run readingBack) 8 ≡ both (ten ++ replicate 502 255) (ten ++ replicate 502 254)
+  -- "It shows no bytes"
+  pub hidden : answerTo (run readingBack) 6 (bytes itsOwn 1) ≡ plain 15
+  pub shown : answerTo (run readingBack) 7 (bytes itsOwn 1) ≡ plain 0
+
+-- an unplugged box: event k is turn k
+unfoldable pub unplugged : List Call
+unplugged = opening itsOwn (check 5 7 6 ten) ∷ replicate 64 (turn itsOwn)
+
+-- CMDs on turns 1 and 2, REQs on 3, 23, 43; it gives up on turn 63, and is never done
+pub record Unplugged : Type 0 where
+  pub sends : sendsOf (run unplugged) 65 ≡ 1 ∷ 2 ∷ 3 ∷ 23 ∷ 43 ∷ []
+  pub statuses : statusesOf (run unplugged) 65 ≡ replicate 63 15 ++ 16 ∷ 16 ∷ []
+  pub kept : buffers (run unplugged) 65 ≡ both (replicate 512 255) (ten ++ replicate 502 254)
+  pub shown : answerTo (run unplugged) 65 (bytes itsOwn 1) ≡ plain 16
+
+-- a device that drops the second CMD: its old bytes there, 9 and 115, differ in the second alone. What it replies after that is 17
+unfoldable pub dropping : List Call
+dropping =
+    opening itsOwn (check 5 7 6 ten)
+    ∷ turn itsOwn
+    ∷ turn itsOwn
+    ∷ turn itsOwn
+    ∷ frame itsOwn (reply 5 0 eight)
+    ∷ turn itsOwn
+    ∷ frame itsOwn (reply 5 8 (9 ∷ 115 ∷ []))
+    ∷ frame itsOwn (reply 5 8 (9 ∷ 10 ∷ []))
+    ∷ frame itsOwn (reply 5 0 eight)
+    ∷ replicate 21 (turn itsOwn)
+
+-- it "ends as different at the first reply that disagrees; that frame is answered 0 and not stored"
+pub record Dropped : Type 0 where
+  pub eighteen : answerTo (run dropping) 7 (status 1) .number ≡ 18
+  pub statuses : statusesOf (run dropping) 9 ≡ 15 ∷ 15 ∷ 15 ∷ 15 ∷ 15 ∷ 15 ∷ 18 ∷ 18 ∷ 18 ∷ []
+  pub numbers : numbersOf (run dropping) 9 ≡ 0 ∷ 0 ∷ 0 ∷ 0 ∷ 0 ∷ 0 ∷ 0 ∷ 17 ∷ 17 ∷ []
+  -- nothing more is sent for it
+  pub sends : sendsOf (run dropping) 30 ≡ 1 ∷ 2 ∷ 3 ∷ 5 ∷ []
+  pub notStored : take 12 (buffers (run dropping) 7 .first) ≡ eight ++ replicate 4 255
+  pub stored : buffers (run dropping) 30 ≡ both (eight ++ replicate 504 255) (ten ++ replicate 502 254)
+  pub ended : slot (state (run dropping) 30) 0 ≡ record {
+    ticket = 1;
+    offset = 6;
+    phase = different;
+    kind = readsBack;
+    device = 5;
+    table = 7;
+    count = 10;
+    progress = 8;
+    sends = 0;
+    left = 0;
+  }
+  pub shown : answerTo (run dropping) 30 (bytes itsOwn 1) ≡ plain 18
+
+-- ── A slow read and a slow checked write of one byte ───────────────────────────────────────────────────────────────
+
+abbrev pub threeWrites : List ℕ → List Call
+threeWrites bs = replicate 3 (opening itsOwn (write 5 7 0 bs))
+
+-- while slot 3 waits the others are still; then three writes, opened in place of those of tickets t on, come before its next send
+unfoldable pub heldUp : (t : ℕ) → List Call
+heldUp t =
+    replicate 19 (turn itsOwn) ++ close t ∷ close (suc t) ∷ close (suc (suc t)) ∷ threeWrites eight ++ replicate 4 (turn itsOwn)
+
+-- ticket 4, in slot 3: event 3 opens it, its first request is sent by the nth turn, and no reply comes
+unfoldable pub slowly : List ℕ → Ask → (n : ℕ) → List Call
+slowly bs a n = threeWrites bs ++ opening itsOwn a ∷ replicate n (turn itsOwn) ++ heldUp 1 ++ heldUp 5 ++ replicate 20 (turn itsOwn)
+
+abbrev pub readSlowly : List Call
+readSlowly = slowly eight (read 5 7 0 1) 4
+
+abbrev pub checkSlowly : List Call
+checkSlowly = slowly (take 16 (ten ++ ten)) (check 5 7 0 (1 ∷ [])) 8
+
+-- how many of these calls are turns; with the bridge's own buffers each is accepted
+unfoldable pub turnsAmong : List Call → ℕ
+turnsAmong [] = 0
+turnsAmong (c ∷ cs) = cond (isTurn c) 1 0 + turnsAmong cs
+
+-- 69 turns do not end it, so it is not claimed that they do; one turn more, and it has given up
+pub record SlowRead : Type 0 where
+  pub bound : leb (turnsEach (read 5 7 0 1)) 69 ≡ false
+  pub elapsed : turnsAmong (drop 4 (take 85 readSlowly)) ≡ 69
+  pub unfinished : answerTo (run readSlowly) 85 (status 4) .number ≡ 15
+  pub givenUp : answerTo (run readSlowly) 86 (status 4) .number ≡ 16
+
+-- 73 do not
+pub record SlowCheck : Type 0 where
+  pub bound : leb (turnsEach (check 5 7 0 (1 ∷ []))) 73 ≡ false
+  pub elapsed : turnsAmong (drop 4 (take 89 checkSlowly)) ≡ 73
+  pub unfinished : answerTo (run checkSlowly) 89 (status 4) .number ≡ 15
+  pub givenUp : answerTo (run checkSlowly) 90 (status 4) .number ≡ 16
+
+-- ── A checked write between a write and a read ─────────────────────────────────────────────────────────────────────
+
+-- 3 and 4 send the CMDs of tickets 1 and 2, 5 and 6 the REQs of tickets 3 and 2
+unfoldable pub threeKinds : List Call
+threeKinds =
+    opening itsOwn (write 5 7 0 (21 ∷ 22 ∷ []))
+    ∷ opening itsOwn (check 5 7 6 (1 ∷ 2 ∷ []))
+    ∷ opening itsOwn (read 5 7 12 2)
+    ∷ turn itsOwn
+    ∷ turn itsOwn
+    ∷ turn itsOwn
+    ∷ turn itsOwn
+    ∷ frame itsOwn (reply 5 256 (112 ∷ 113 ∷ []))
+    ∷ frame itsOwn (reply 5 128 (1 ∷ 2 ∷ []))
+    ∷ []
+
+pub record OwnBuffers : Type 0 where
+  -- the write's bytes lie in the first buffer, the checked write's in the second, each in its slot's 128
+  pub first : take 2 (buffers (run threeKinds) 3 .first) ≡ 21 ∷ 22 ∷ []
+  pub slotZero : take 2 (buffers (run threeKinds) 3 .second) ≡ 254 ∷ 254 ∷ []
+  pub slotOne : take 2 (drop 128 (buffers (run threeKinds) 3 .second)) ≡ 1 ∷ 2 ∷ []
+  pub copied : buffers (run threeKinds) 7
+      ≡ both (21 ∷ 22 ∷ replicate 510 255) (replicate 128 254 ++ 1 ∷ 2 ∷ replicate 382 254)
+  pub frames : framesOf (run threeKinds) 9
+      ≡ frameWith (idOf 0 cmd 0 5 7) (21 ∷ 22 ∷ [])
+      ∷ frameWith (idOf 6 cmd 0 5 7) (1 ∷ 2 ∷ [])
+      ∷ frameWith (idOf 12 req 0 5 7) (request 6 256 2)
+      ∷ frameWith (idOf 6 req 0 5 7) (request 6 128 2)
+      ∷ []
+  pub stored : buffers (run threeKinds) 9
+      ≡ both (21 ∷ 22 ∷ replicate 126 255 ++ 1 ∷ 2 ∷ replicate 126 255 ++ 112 ∷ 113 ∷ replicate 254 255)
+      (replicate 128 254 ++ 1 ∷ 2 ∷ replicate 382 254)
+  -- all three are done, and the read alone shows bytes
+  pub written : answerTo (run threeKinds) 9 (bytes itsOwn 1) ≡ plain 0
+  pub checked : answerTo (run threeKinds) 9 (bytes itsOwn 2) ≡ plain 0
+  pub shown : answerTo (run threeKinds) 9 (bytes itsOwn 3) ≡ showing (112 ∷ 113 ∷ [])
 
 -- ── A closing, and a reset ─────────────────────────────────────────────────────────────────────────────────────────
 
@@ -213,14 +394,42 @@ pub record Limits : Type 0 where
   pub writeGivesUp : soundWith (held gaveUp writes 120 3 0) ≡ false
   pub readyTurns : soundWith (held ready reads 120 2 1) ≡ false
   pub freeTurns : soundWith (moved blank free 0 0 1) ≡ false
-  pub noPhase : soundWith (held 5 reads 120 3 0) ≡ false
-  pub noKind : soundWith (held ready 2 120 0 0) ≡ false
+  pub noPhase : soundWith (held 6 reads 120 3 0) ≡ false
+  pub noKind : soundWith (held ready 4 120 0 0) ≡ false
+
+-- C-17: "sound as an unfinished write while sending, then as a read; different, with progress a multiple of 8 below the count and no sends"
+pub record CheckedLimits : Type 0 where
+  pub sending : soundWith (held ready checks 120 0 0) ≡ true
+  pub readied : soundWith (held ready readsBack 120 2 0) ≡ true
+  pub waits : soundWith (held waiting readsBack 120 3 20) ≡ true
+  pub whole : soundWith (held done readsBack 128 0 0) ≡ true
+  pub givenUp : soundWith (held gaveUp readsBack 120 3 0) ≡ true
+  pub differs : soundWith (held different readsBack 120 0 0) ≡ true
+  pub sendingDone : soundWith (held done checks 128 0 0) ≡ false
+  pub sendingEnded : soundWith (held done checks 120 0 0) ≡ false
+  pub sendingWhole : soundWith (held ready checks 128 0 0) ≡ false
+  pub sendingWaits : soundWith (held waiting checks 120 3 20) ≡ false
+  pub sendingGivesUp : soundWith (held gaveUp checks 120 3 0) ≡ false
+  pub sendingDiffers : soundWith (held different checks 120 0 0) ≡ false
+  pub sendingSends : soundWith (held ready checks 120 1 0) ≡ false
+  pub readyWhole : soundWith (held ready readsBack 128 2 0) ≡ false
+  pub readySends : soundWith (held ready readsBack 120 3 0) ≡ false
+  pub noSends : soundWith (held waiting readsBack 120 0 20) ≡ false
+  pub manyTurns : soundWith (held waiting readsBack 120 3 21) ≡ false
+  pub gaveUpSends : soundWith (held gaveUp readsBack 120 2 0) ≡ false
+  pub doneSends : soundWith (held done readsBack 128 1 0) ≡ false
+  pub readDiffers : soundWith (held different reads 120 0 0) ≡ false
+  pub writeDiffers : soundWith (held different writes 120 0 0) ≡ false
+  pub differsSends : soundWith (held different readsBack 120 1 0) ≡ false
+  pub differsTurns : soundWith (held different readsBack 120 0 1) ≡ false
+  pub differsWhole : soundWith (held different readsBack 128 0 0) ≡ false
+  pub differsWithin : soundWith (held different readsBack 124 0 0) ≡ false
 
 -- ── An opening's numbers ───────────────────────────────────────────────────────────────────────────────────────────
 
 -- what an opening answers
-abbrev pub opens : Bridge → Lent → Ask → ℕ
-opens s l a = step s (replicate 512 255) (opening l a) .answer .number
+abbrev pub opens : Bridge → Lent Buffers → Ask → ℕ
+opens s l a = step s start (opening l a) .answer .number
 
 -- all slots held, and all tickets given
 abbrev pub full : (own : ℕ) → Bridge
@@ -235,23 +444,79 @@ full own = record {
 abbrev pub given : (issued : ℕ) → Bridge
 given issued = record { slots = replicate 4 blank; issued = issued; own = 15; last = 3 }
 
--- 11, 10, 7, 9, 8, 12, 13: where one is answered, the causes of all that come after it are there too
+-- buffers, one of which is a byte too short
+abbrev pub shortFirst : Buffers
+shortFirst = both (replicate 511 255) (replicate 512 254)
+
+abbrev pub shortSecond : Buffers
+shortSecond = both (replicate 512 255) (replicate 511 254)
+
+-- 11, 10, 7, 9, 8, 12, 13, 0: where one is answered, the causes of all that come after it are there too
+unfoldable pub inOrder : ((device table offset count : ℕ) → Ask) → List ℕ
+inOrder ask =
+    opens (full 16) (other shortSecond) (ask 16 32 2048 129)
+    -- either buffer
+    ∷ opens (full 15) (other shortSecond) (ask 16 32 2048 129)
+    ∷ opens (full 15) (other shortFirst) (ask 16 32 2048 129)
+    -- device, table
+    ∷ opens (full 15) itsOwn (ask 16 31 2048 129)
+    ∷ opens (full 15) itsOwn (ask 15 32 2048 129)
+    -- too many bytes, past the table
+    ∷ opens (full 15) itsOwn (ask 15 31 2048 129)
+    ∷ opens (full 15) itsOwn (ask 15 31 1921 128)
+    -- no slot, no ticket
+    ∷ opens (full 15) itsOwn (ask 15 31 1920 128)
+    ∷ opens (given 4294967295) itsOwn (ask 15 31 1920 128)
+    ∷ opens (given 4294967294) itsOwn (ask 15 31 1920 128)
+    ∷ []
+
 pub record Openings : Type 0 where
-  pub unsound : opens (full 16) (other []) (read 16 32 2048 129) ≡ 11
-  pub otherBuffer : opens (full 15) (other []) (read 16 32 2048 129) ≡ 10
-  pub noDevice : opens (full 15) itsOwn (read 16 31 2048 129) ≡ 7
-  pub noTable : opens (full 15) itsOwn (read 15 32 2048 129) ≡ 7
-  pub tooMany : opens (full 15) itsOwn (read 15 31 2048 129) ≡ 9
-  pub pastTable : opens (full 15) itsOwn (read 15 31 1921 128) ≡ 8
-  pub noSlot : opens (full 15) itsOwn (read 15 31 1920 128) ≡ 12
-  pub noTicket : opens (given 4294967295) itsOwn (read 15 31 1920 128) ≡ 13
-  pub accepted : opens (given 4294967294) itsOwn (read 15 31 1920 128) ≡ 0
+  pub reads : inOrder read ≡ 11 ∷ 10 ∷ 10 ∷ 7 ∷ 7 ∷ 9 ∷ 8 ∷ 12 ∷ 13 ∷ 0 ∷ []
+  pub writes : inOrder (λ d t o n. write d t o (replicate n 0)) ≡ 11 ∷ 10 ∷ 10 ∷ 7 ∷ 7 ∷ 9 ∷ 8 ∷ 12 ∷ 13 ∷ 0 ∷ []
+  pub checks : inOrder (λ d t o n. check d t o (replicate n 0)) ≡ 11 ∷ 10 ∷ 10 ∷ 7 ∷ 7 ∷ 9 ∷ 8 ∷ 12 ∷ 13 ∷ 0 ∷ []
+
+-- ── A buffer that is too short ─────────────────────────────────────────────────────────────────────────────────────
+
+-- slot 0 waits, slot 1 is ready, slot 2 is free
+abbrev pub busy : Bridge
+busy = besideOne 15 3 (held ready checks 120 0 0)
+
+-- the reply that slot 0 awaits
+abbrev pub awaited : Frame
+awaited = frameWith (idOf 120 rsp 15 15 6) (replicate 8 9)
+
+-- what takes both buffers
+abbrev pub lending : List Call
+lending = opening itsOwn (read 5 7 6 10) ∷ opening itsOwn (check 5 7 6 ten) ∷ turn itsOwn ∷ frame itsOwn awaited ∷ []
+
+-- what each of them does with these buffers
+abbrev pub lentTo : Buffers → List Result
+lentTo b = map (step busy b) lending
+
+abbrev pub numbers : List Result → List ℕ
+numbers = map (λ r. r .answer .number)
+
+-- 10 for either, and nothing is changed
+pub record ShortBuffers : Type 0 where
+  pub whole : numbers (lentTo start) ≡ replicate 4 0
+  pub first : numbers (lentTo shortFirst) ≡ replicate 4 10
+  pub second : numbers (lentTo shortSecond) ≡ replicate 4 10
+  pub keptFirst : lentTo shortFirst ≡ replicate 4 (record { answer = plain 10; state = busy; buffers = shortFirst })
+  pub keptSecond : lentTo shortSecond ≡ replicate 4 (record { answer = plain 10; state = busy; buffers = shortSecond })
 
 -- all of it
 pub record Examples : Type 0 where
   pub unstarred : Unstarred
   pub fetched : Fetched
   pub byTurns : ByTurns
+  pub checked : Checked
+  pub unplugged : Unplugged
+  pub dropped : Dropped
+  pub slowRead : SlowRead
+  pub slowCheck : SlowCheck
+  pub ownBuffers : OwnBuffers
   pub ended : Ended
   pub limits : Limits
+  pub checkedLimits : CheckedLimits
   pub openings : Openings
+  pub shortBuffers : ShortBuffers

@@ -1,5 +1,6 @@
 -- DEMAND 3, continued: what a transfer sends, and what replies to it.
 use Prim.Native.Nat.{ℕ, suc, _+_, _*_, _≤_, _<_}
+use mathlib.Core.List.{List}
 use mathlib.Core.Option.{some}
 use mathlib.Core.Bool.{Bool, true, false, _&&_}
 use lib.ListN.{take, drop}
@@ -22,11 +23,15 @@ use Rattle.bridge_rules.specs.Run.{Run, state, answer, ledger, Transfer,
 abbrev pub lastServed : Run → ℕ → ℕ
 lastServed r m = state r (suc m) .last
 
+-- chunk c of the bytes that a write or a checked write was given
+abbrev pub given : (r : Run) → Transfer r → ℕ → List ℕ
+given r x c = take (lenOf r x c) (drop (8 * c) (askGiven (x .ask)))
+
 -- the CMD for chunk c of the bytes that the write was given, from the bridge's own number at event j
 unfoldable pub commandFrame : (r : Run) → Transfer r → ℕ → ℕ → Frame
 commandFrame r x c j =
     frameWith (idOf (askOffset (x .ask) + 8 * c) cmd (ledger r j .own) (askDevice (x .ask)) (askTable (x .ask)))
-    (take (lenOf r x c) (drop (8 * c) (askGiven (x .ask))))
+    (given r x c)
 
 -- turn j, since the opening, SERVED the write's slot and yielded its CMD for chunk c
 pub record Wrote (r : Run) (x : Transfer r) (c j : ℕ) : Type 0 where
@@ -56,10 +61,11 @@ requestFrame r x c j =
     frameWith (idOf (askOffset (x .ask) + 8 * c) req (ledger r j .own) (askDevice (x .ask)) (askTable (x .ask)))
     (request 6 (place r x c) (lenOf r x c))
 
--- the request for chunk c is SENT by turn j
+-- the request for chunk c is SENT by turn j; "requests and replies of the reading back count there as a read's do", so the asker is a read
+-- or a checked write
 pub record Sent (r : Run) (x : Transfer r) (c j : ℕ) : Type 0 where
   pub stands : Stands r x j
-  pub isRead : isWrite (x .ask) ≡ false
+  pub asks : isWrite (x .ask) ≡ false
   pub chunk : c < chunks r x
   pub turned : accepted r j ≡ true
   pub yields : answer r j .sent ≡ some (requestFrame r x c j)

@@ -11,61 +11,64 @@ use mathlib.Core.Path.{_≡_}
 use mathlib.Core.Logic.{_⊎_, _≢_}
 use Rattle.bridge_rules.specs.declared.Bridge.{Bridge}
 use Rattle.bridge_rules.specs.State.{fresh}
-use Rattle.bridge_rules.specs.Answers.{Answer, Result}
-use Rattle.bridge_rules.specs.Opening.{Ask, askCount}
+use Rattle.bridge_rules.specs.Answers.{Answer, Buffers, Result}
+use Rattle.bridge_rules.specs.Opening.{Ask, read, write, check, askCount}
 use Rattle.bridge_rules.specs.Turn.{chunkLen}
 use Rattle.bridge_rules.specs.Call.{Lent, itsOwn, other, Call, opening, turn, frame, status, bytes, close, reset, step}
 
--- ── A run: any own number, any 512 bytes and the calls ─────────────────────────────────────────────────────────────
+-- ── A run: any own number, any two buffers of 512 bytes and the calls ──────────────────────────────────────────────
 
 pub record Run : Type 0 where
   pub own : ℕ
-  pub buffer : List ℕ
+  pub buffers : Buffers
   pub calls : ℕ → Call
 
--- the bridge and its buffer
+-- the bridge and its buffers
 pub record Storage : Type 0 where
   pub state : Bridge
-  pub buffer : List ℕ
+  pub buffers : Buffers
 
 abbrev pub next : Storage → Call → Storage
-next w c = let r : Result = step (w .state) (w .buffer) c in record { state = r .state; buffer = r .buffer }
+next w c = let r : Result = step (w .state) (w .buffers) c in record { state = r .state; buffers = r .buffers }
 
--- after the first n calls: each gets the bridge as the last left it, and the bridge's own buffer
+-- after the first n calls: each gets the bridge as the last left it, and the bridge's own buffers
 unfoldable pub storage : Run → ℕ → Storage
-storage r zero = record { state = fresh (r .own); buffer = r .buffer }
+storage r zero = record { state = fresh (r .own); buffers = r .buffers }
 storage r (suc n) = next (storage r n) (r .calls n)
 
 abbrev pub state : Run → ℕ → Bridge
 state r n = storage r n .state
 
-abbrev pub buffer : Run → ℕ → List ℕ
-buffer r n = storage r n .buffer
+abbrev pub buffers : Run → ℕ → Buffers
+buffers r n = storage r n .buffers
 
 -- what a call c answers after the first n calls, and what call n answers
 abbrev pub answerTo : Run → ℕ → Call → Answer
-answerTo r n c = step (state r n) (buffer r n) c .answer
+answerTo r n c = step (state r n) (buffers r n) c .answer
 
 abbrev pub answer : Run → ℕ → Answer
 answer r n = answerTo r n (r .calls n)
 
--- the shape of arguments: a frame has eight bytes; a buffer that is not the bridge's own is one of wrong length
-abbrev pub ShapedLent : Lent → Type 0
+-- the shape of arguments: a frame has eight bytes; of buffers that are not both the bridge's own, one is of wrong length (the other may
+-- be the bridge's)
+abbrev pub ShapedLent : Lent Buffers → Type 0
 ShapedLent itsOwn = Unit {0}
-ShapedLent (other l) = length l ≢ 512
+ShapedLent (other l) = ¬ ((length (l .first) ≡ 512) × (length (l .second) ≡ 512))
 
 abbrev pub Shaped : Call → Type 0
 Shaped (opening l a) = ShapedLent l
 Shaped (turn l) = ShapedLent l
 Shaped (frame l f) = ShapedLent l × (length (f .bytes) ≡ 8)
 Shaped (status t) = Unit {0}
-Shaped (bytes l t) = ShapedLent l
+Shaped (bytes itsOwn t) = Unit {0}
+Shaped (bytes (other l) t) = length l ≢ 512
 Shaped (close t) = Unit {0}
 Shaped (reset o) = Unit {0}
 
 pub record Lawful (r : Run) : Type 0 where
   pub own : r .own ≤ 15
-  pub buffer : length (r .buffer) ≡ 512
+  pub first : length (r .buffers .first) ≡ 512
+  pub second : length (r .buffers .second) ≡ 512
   pub shaped : (k : ℕ) → Shaped (r .calls k)
 
 -- ── The ledger: own number, tickets and slots by the calls and their answers alone ─────────────────────────────────
@@ -112,7 +115,7 @@ ledger r (suc n) = cond (eqb (answer r n .number) 0) (noted (ledger r n) (answer
 -- a TRANSFER
 pub record Transfer (r : Run) : Type 0 where
   pub at : ℕ
-  pub lent : Lent
+  pub lent : Lent Buffers
   pub ask : Ask
   pub call : r .calls at ≡ opening lent ask
   pub accepted : answer r at .number ≡ 0
@@ -170,9 +173,18 @@ statusAt r x n = answerTo r n (status (ticket r x)) .number
 abbrev pub shownAt : (r : Run) → Transfer r → ℕ → Answer
 shownAt r x n = answerTo r n (bytes itsOwn (ticket r x))
 
--- DONE and GIVEN UP, of a transfer that stands
+-- DONE, GIVEN UP and, of a checked write, DIFFERENT, of a transfer that stands: no two hold together
 abbrev pub Done : (r : Run) → Transfer r → ℕ → Type 0
 Done r x n = statusAt r x n ≡ 0
 
 abbrev pub GivenUp : (r : Run) → Transfer r → ℕ → Type 0
 GivenUp r x n = statusAt r x n ≡ 16
+
+abbrev pub Different : (r : Run) → Transfer r → ℕ → Type 0
+Different r x n = statusAt r x n ≡ 18
+
+-- the accepted turns within which it ends, for each started eight bytes: C-17 has "76 .. in place of 72" for a checked write
+abbrev pub turnsEach : Ask → ℕ
+turnsEach (read d t o n) = 72
+turnsEach (write d t o bs) = 72
+turnsEach (check d t o bs) = 76

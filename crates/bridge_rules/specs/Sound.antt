@@ -1,11 +1,11 @@
--- 01's paragraph "A sound state", part by part, as facts about the state's numbers. `Calls.soundExactly`: the calls' test passes exactly
--- where they hold.
+-- 01's paragraph "A sound state", and what C-17 adds to it, part by part, as facts about the state's numbers. `Calls.soundExactly`: the
+-- calls' test passes exactly where they hold.
 use Prim.Native.Nat.{ℕ, _+_, _*_, _≤_, _<_}
 use mathlib.Core.Path.{_≡_}
 use mathlib.Core.Logic.{_↔_, _⊎_, _≢_}
 use mathlib.Core.Bool.{true}
 use lib.ListN.{length}
-use Rattle.bridge_rules.specs.State.{Bridge, Slot, free, ready, waiting, done, gaveUp, reads, writes, slot, sound}
+use Rattle.bridge_rules.specs.State.{Bridge, Slot, free, ready, waiting, done, gaveUp, different, reads, writes, checks, readsBack, slot, sound}
 
 -- every number of a slot is 0
 abbrev pub AllZero : Slot → Type 0
@@ -15,9 +15,9 @@ AllZero x =
 
 -- a held slot, where `issued` is the last ticket given
 pub record SoundHeld (issued : ℕ) (x : Slot) : Type 0 where
-  -- it is a read's or a write's, in one of the four phases
-  pub kinds : (x .kind ≡ reads) ⊎ (x .kind ≡ writes)
-  pub phases : (x .phase ≡ ready) ⊎ (x .phase ≡ waiting) ⊎ (x .phase ≡ done) ⊎ (x .phase ≡ gaveUp)
+  -- it is a read's, a write's or a checked write's, in one of the five phases
+  pub kinds : (x .kind ≡ reads) ⊎ (x .kind ≡ writes) ⊎ (x .kind ≡ checks) ⊎ (x .kind ≡ readsBack)
+  pub phases : (x .phase ≡ ready) ⊎ (x .phase ≡ waiting) ⊎ (x .phase ≡ done) ⊎ (x .phase ≡ gaveUp) ⊎ (x .phase ≡ different)
   -- "a .. ticket from 1 to the last given"
   pub ticket : (1 ≤ x .ticket) × (x .ticket ≤ issued)
   -- "lawful opening arguments": "device 0..15 and table 0..31, .. 1..128 bytes, .. offset plus count at most 2,048"
@@ -36,6 +36,10 @@ pub record SoundHeld (issued : ℕ) (x : Slot) : Type 0 where
   -- "a write or done read has no sends, a write never waits or gives up"
   pub noSends : (x .kind ≡ writes) ⊎ (x .phase ≡ done) → x .sends ≡ 0
   pub neverWaits : x .kind ≡ writes → (x .phase ≢ waiting) × (x .phase ≢ gaveUp)
+  -- C-17: "sound as an unfinished write while sending, then as a read"
+  pub unfinished : x .kind ≡ checks → (x .phase ≡ ready) × (x .sends ≡ 0)
+  -- "different, with progress a multiple of 8 below the count and no sends" (the progress: `partway`), and only when it reads back
+  pub differs : x .phase ≡ different → (x .kind ≡ readsBack) × (x .sends ≡ 0)
   -- "numbers that a slot doesn't use are 0": the turns left of one that does not wait
   pub unused : x .phase ≢ waiting → x .left ≡ 0
 
@@ -46,7 +50,7 @@ pub record SoundState (s : Bridge) : Type 0 where
   -- "each held slot has .."
   pub held : (k : ℕ) → k < 4 → slot s k .phase ≢ free → SoundHeld (s .issued) (slot s k)
   -- ".. a different ticket"
-  pub different : (k j : ℕ) → k < 4 → j < 4 → k ≢ j → slot s k .phase ≢ free → slot s j .phase ≢ free →
+  pub distinct : (k j : ℕ) → k < 4 → j < 4 → k ≢ j → slot s k .phase ≢ free → slot s j .phase ≢ free →
       slot s k .ticket ≢ slot s j .ticket
   -- "numbers that a slot doesn't use are 0": all of a free one
   pub unheld : (k : ℕ) → k < 4 → slot s k .phase ≡ free → AllZero (slot s k)

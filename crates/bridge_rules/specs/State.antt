@@ -28,6 +28,10 @@ done = 3
 abbrev pub gaveUp : ℕ
 gaveUp = 4
 
+-- read back different
+abbrev pub different : ℕ
+different = 5
+
 abbrev pub isFree : ℕ → Bool
 isFree phase = eqb phase free
 
@@ -44,12 +48,32 @@ reads = 0
 abbrev pub writes : ℕ
 writes = 1
 
--- the only tests of a kind: a slot of a kind that asks sends REQ and may wait, one of a kind that carries sends CMD
+-- a checked write (02, C-17) "sends the write, then reads the same range back": while it sends, and from then on
+abbrev pub checks : ℕ
+checks = 3
+
+abbrev pub readsBack : ℕ
+readsBack = 2
+
+-- the tests of a kind, and nothing else looks at it: a slot of a kind that asks sends REQ and may wait (01's words on a waiting read hold of
+-- every slot that waits), one of a kind that carries sends CMD
 unfoldable pub asks : ℕ → Bool
-asks kind = eqb kind reads
+asks kind = eqb kind reads || eqb kind readsBack
 
 unfoldable pub carries : ℕ → Bool
-carries kind = eqb kind writes
+carries kind = eqb kind writes || eqb kind checks
+
+-- it carries the second buffer's bytes, and reads back what it sent
+unfoldable pub checking : ℕ → Bool
+checking kind = eqb kind checks
+
+-- its replies are compared
+unfoldable pub compares : ℕ → Bool
+compares kind = eqb kind readsBack
+
+-- its bytes are shown: a checked write "shows no bytes"
+unfoldable pub shows : ℕ → Bool
+shows kind = eqb kind reads
 
 -- ── The state ──────────────────────────────────────────────────────────────────────────────────────────────────────
 
@@ -66,6 +90,21 @@ fresh own = record { slots = replicate 4 blank; issued = 0; own = own; last = 3 
 
 abbrev pub withSlots : Bridge → List Slot → Bridge
 withSlots s xs = record { slots = xs; issued = s .issued; own = s .own; last = s .last }
+
+-- a slot of another kind
+abbrev pub ofKind : ℕ → Slot → Slot
+ofKind kind x = record {
+  ticket = x .ticket;
+  offset = x .offset;
+  phase = x .phase;
+  kind = kind;
+  device = x .device;
+  table = x .table;
+  count = x .count;
+  progress = x .progress;
+  sends = x .sends;
+  left = x .left;
+}
 
 -- a slot moved on: what may change, and the rest kept
 abbrev pub moved : Slot → (phase progress sends left : ℕ) → Slot
@@ -104,14 +143,16 @@ abbrev pub partway : ℕ → ℕ → Bool
 partway count progress = eqb (progress % 8) 0 && ltb progress count
 
 -- progress is the count itself exactly when done; ready has 0..2 sends, waiting 1..3 and 1..20 turns left, given up has 3; a write
--- or done read has no sends, a write never waits or gives up; no other phase is sound
+-- or done read has no sends, a write never waits or gives up; a checked write "is sound as an unfinished write while sending, then as a
+-- read; different, with progress a multiple of 8 below the count and no sends"; no other phase is sound
 unfoldable pub soundPhase : (phase kind count progress sends left : ℕ) → Bool
 soundPhase phase kind count progress sends left =
     cond (isReady phase) (partway count progress && leb sends (cond (asks kind) 2 0) && isZero left)
     (cond (isWaiting phase) (partway count progress && asks kind && ltb 0 sends && leb sends 3 && ltb 0 left && leb left 20)
-    (cond (eqb phase done) (eqb progress count && isZero sends && isZero left)
+    (cond (eqb phase done) (not (checking kind) && eqb progress count && isZero sends && isZero left)
     (cond (eqb phase gaveUp) (partway count progress && asks kind && eqb sends 3 && isZero left)
-    false)))
+    (cond (eqb phase different) (partway count progress && compares kind && isZero sends && isZero left)
+    false))))
 
 -- each held slot has a ticket from 1 to the last given, and lawful opening arguments; numbers that a slot doesn't use are 0
 unfoldable pub soundSlot : ℕ → Slot → Bool

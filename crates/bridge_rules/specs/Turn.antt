@@ -2,8 +2,8 @@
 use Prim.Native.Nat.{ℕ, suc, _+_, _*_, _-_, min}
 use mathlib.Core.List.{List, [], map}
 use mathlib.Core.Option.{Option, none, some}
-use mathlib.Core.Bool.{cond}
-use lib.ListN.{length, take, drop, set}
+use mathlib.Core.Bool.{cond, _&&_}
+use lib.ListN.{take, drop, set}
 use lib.Dec.{leb, ltb}
 use Rattle.bus_rules.specs.Ident.{idOf}
 use Rattle.bus_rules.specs.Frames.{cmd, req, frameWith}
@@ -11,8 +11,9 @@ use Rattle.bus_rules.specs.Request.{request}
 use Rattle.bus_rules.specs.declared.Frame.{Frame}
 use Rattle.bridge_rules.specs.declared.Bridge.{Bridge}
 use Rattle.bridge_rules.specs.declared.Slot.{Slot}
-use Rattle.bridge_rules.specs.State.{ready, waiting, done, gaveUp, isWaiting, asks, carries, slot, withSlots, moved, nextReady}
-use Rattle.bridge_rules.specs.Answers.{Result, plain, unless, lentNumber}
+use Rattle.bridge_rules.specs.State.{ready, waiting, done, gaveUp, readsBack, isWaiting, asks, carries, checking}
+use Rattle.bridge_rules.specs.State.{slot, withSlots, ofKind, moved, nextReady}
+use Rattle.bridge_rules.specs.Answers.{Buffers, Result, plain, unless, lentNumber, rightLengths}
 
 -- a waiting read one turn on: 20 turns after a send it is ready again, or after its third send has given up
 unfoldable pub ticked : Slot → Slot
@@ -22,7 +23,7 @@ ticked x =
 unfoldable pub aged : Slot → Slot
 aged x = cond (isWaiting (x .phase)) (ticked x) x
 
--- of all slots: waiting reads alone change
+-- of all slots: waiting ones alone change
 unfoldable pub agedBridge : Bridge → Bridge
 agedBridge s = withSlots s (map aged (s .slots))
 
@@ -43,8 +44,12 @@ outgoing k x b = take (chunkLen (x .count) (x .progress)) (drop (128 * k + x .pr
 unfoldable pub writeFrame : ℕ → ℕ → Slot → List ℕ → Frame
 writeFrame own k x b = frameWith (idOf (x .offset + x .progress) cmd own (x .device) (x .table)) (outgoing k x b)
 
-unfoldable pub sentFrame : ℕ → ℕ → Slot → List ℕ → Frame
-sentFrame own k x b = cond (carries (x .kind)) (writeFrame own k x b) (readFrame own k x)
+-- the buffer whose bytes a slot of this kind carries: a checked write's are in the second
+unfoldable pub carriedFrom : ℕ → Buffers → List ℕ
+carriedFrom kind b = cond (checking kind) (b .second) (b .first)
+
+unfoldable pub sentFrame : ℕ → ℕ → Slot → Buffers → Frame
+sentFrame own k x b = cond (carries (x .kind)) (writeFrame own k x (carriedFrom (x .kind) b)) (readFrame own k x)
 
 -- past the current eight bytes: the next are ready with no sends counted, or the transfer is done
 unfoldable pub advanced : Slot → Slot
@@ -54,19 +59,26 @@ advanced x = moved x (cond (ltb (x .progress + 8) (x .count)) ready done) (min (
 unfoldable pub requested : Slot → Slot
 requested x = moved x waiting (x .progress) (suc (x .sends)) 20
 
--- a write that sent its CMD is ready at once for the next, or done
+-- a checked write that sent its last CMD is ready to read "the same range back"
+unfoldable pub readBack : Slot → Slot
+readBack x = moved (ofKind readsBack x) ready 0 0 0
+
+-- a write that sent its CMD is ready at once for the next, or done; a checked write is ready for the next, or to read back
+unfoldable pub carried : Slot → Slot
+carried x = cond (checking (x .kind) && leb (x .count) (x .progress + 8)) (readBack x) (advanced x)
+
 unfoldable pub sentSlot : Slot → Slot
-sentSlot x = cond (asks (x .kind)) (requested x) (advanced x)
+sentSlot x = cond (asks (x .kind)) (requested x) (carried x)
 
 -- it sends for one ready slot, or answers 0 with no frame if none is ready
-unfoldable pub sendFor : Bridge → List ℕ → Option ℕ → Result
-sendFor s b none = record { answer = plain 0; state = s; buffer = b }
+unfoldable pub sendFor : Bridge → Buffers → Option ℕ → Result
+sendFor s b none = record { answer = plain 0; state = s; buffers = b }
 sendFor s b (some k) = record {
   answer = record { number = 0; ticket = 0; sent = some (sentFrame (s .own) k (slot s k) b); shown = [] };
   state = record { slots = set (s .slots) k (sentSlot (slot s k)); issued = s .issued; own = s .own; last = k };
-  buffer = b;
+  buffers = b;
 }
 
 -- a turn (refusals 11, 10) first ages each waiting read, then sends
-unfoldable pub turnOf : Bridge → List ℕ → Result
-turnOf s b = unless (lentNumber s (length b)) (sendFor (agedBridge s) b (nextReady (agedBridge s))) s b
+unfoldable pub turnOf : Bridge → Buffers → Result
+turnOf s b = unless (lentNumber s (rightLengths b)) (sendFor (agedBridge s) b (nextReady (agedBridge s))) s b

@@ -11,10 +11,16 @@ pub const DONE: u8 = 3;
 
 pub const GAVE_UP: u8 = 4;
 
-// A transfer's kinds.
+pub const DIFFERENT: u8 = 5;
+
+// A transfer's kinds. A checked write is CHECK while it sends, then READ_BACK.
 pub const READ: u8 = 0;
 
 pub const WRITE: u8 = 1;
+
+pub const READ_BACK: u8 = 2;
+
+pub const CHECK: u8 = 3;
 
 // A slot: free, or held by a transfer. Numbers that it doesn't use are 0.
 #[repr(C)]
