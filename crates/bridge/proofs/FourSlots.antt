@@ -1,7 +1,7 @@
 -- A bridge has four slots: the code's tests of them, one by one, are those of a sound state.
 use Prim.Native.Nat.{ℕ, _+_, _≤_, _<_}
 use mathlib.Core.Path.{_≡_, refl, sym, _∙_, ap}
-use mathlib.Core.Bool.{Bool, true, false, not, _&&_, _||_, and-true, and-assoc}
+use mathlib.Core.Bool.{Bool, true, false, not, _&&_, _||_, and-true}
 use mathlib.Core.List.{List, [], _∷_, map}
 use native.Mathlib.Omega.{arith}
 use native.Mathlib.Numerals.{add-one}
@@ -41,15 +41,21 @@ module _ (l : List Slot) (h : length l ≡ 4) where
   pub distinct-four : apartAll (getD l 0 blank) (getD l 1 blank) (getD l 2 blank) (getD l 3 blank) ≡ distinct l
   distinct-four = distinct-of _ _ _ _ ∙ ap distinct (sym (four blank l h))
 
--- the test of the slots from i on, with what the slots before said
-module _ (t : ℕ) (l : List Slot) (ok : Bool) (i : ℕ) where
-  pub slots-step : i < length l → (ok && soundSlots t (drop i l)) ≡ (ok && soundSlot t (getD l i blank) && soundSlots t (drop (i + 1) l))
+-- the test of the slots from i on
+module _ (t : ℕ) (l : List Slot) (i : ℕ) where
+  slots-step : i < length l → soundSlots t (drop i l) ≡ (soundSlot t (getD l i blank) && soundSlots t (drop (i + 1) l))
   unfolding soundSlots
-  slots-step h = rw (add-one, drop-cons l i blank h, and-assoc)
+  slots-step h = rw (add-one, drop-cons l i blank h)
 
-  pub slots-end : length l ≤ i → (ok && soundSlots t (drop i l)) ≡ ok
+  pub slots-next : i < length l → soundSlot t (getD l i blank) ≡ true → soundSlots t (drop i l) ≡ soundSlots t (drop (i + 1) l)
+  slots-next h e = slots-step h ∙ rw e
+
+  pub slots-stop : i < length l → soundSlot t (getD l i blank) ≡ false → soundSlots t (drop i l) ≡ false
+  slots-stop h e = slots-step h ∙ rw e
+
+  pub slots-end : length l ≤ i → soundSlots t (drop i l) ≡ true
   unfolding soundSlots
-  slots-end h = rw (drop-of-length-le l h, and-true)
+  slots-end h = rw (drop-of-length-le l h)
 
 pub sound-parts : (s : Bridge) → s .issued ≤ 4294967295 → length (s .slots) ≡ 4
     → (leb (s .own) 15 && leb (s .last) 3 && soundSlots (s .issued) (s .slots) && distinct (s .slots)) ≡ sound s

@@ -1,4 +1,5 @@
 pub mod FourSlots
+pub mod SoundTests
 pub mod Searches
 pub mod MovedSlots
 pub mod SentFrames

@@ -1,16 +1,17 @@
 -- The code's slots that age, go on or have sent are the definitions'.
 use Prim.Native.Nat.{ℕ, zero, suc, _+_, _-_, _%_, _≤_, _<_, min}
 use mathlib.Core.Path.{_≡_, refl, _∙_, ap}
-use mathlib.Core.Bool.{true, false}
+use mathlib.Core.Bool.{true, false, _&&_}
 use mathlib.Core.List.{List, [], _∷_, map}
 use native.Mathlib.Omega.{arith}
 use native.Mathlib.Numerals.{add-one}
 use lib.ListN.{length, getD, set}
 use lib.Seq.{set-getD}
+use lib.Dec.{leb}
 use borrow.Author.Tests.{le-leb, lt-leb, lt-ltb, le-ltb}
 use Rattle.bridge_rules.specs.declared.Slot.{Slot}
-use Rattle.bridge_rules.specs.State.{waiting, ready, done, gaveUp, isWaiting, asks, blank, moved}
-use Rattle.bridge_rules.specs.Turn.{ticked, aged, advanced, requested, sentSlot}
+use Rattle.bridge_rules.specs.State.{waiting, ready, done, gaveUp, isWaiting, asks, checking, blank, moved}
+use Rattle.bridge_rules.specs.Turn.{ticked, aged, advanced, requested, readBack, carried, sentSlot}
 use Rattle.bridge.proofs.FourSlots.{four}
 use Rattle.bridge.proofs.Searches.{fuel}
 
@@ -94,11 +95,21 @@ module _ (x : Slot) where
   unfolding advanced
   advance-done h = let z : min (x .progress + 8) (x .count) ≡ x .count = omega arith in rw (le-ltb (x .progress + 8) (x .count) h, z)
 
+-- a slot that sent its CMD
+module _ (x : Slot) where
+  pub carry-back : checking (x .kind) ≡ true → x .count ≤ x .progress + 8 → readBack x ≡ carried x
+  unfolding carried
+  carry-back e h = rw (e, le-leb (x .count) (x .progress + 8) h)
+
+  pub carry-on : (checking (x .kind) && leb (x .count) (x .progress + 8)) ≡ false → advanced x ≡ carried x
+  unfolding carried
+  carry-on e = rw e
+
 -- a slot that sent
 pub sent-asks : (x : Slot) → asks (x .kind) ≡ true → moved x waiting (x .progress) (x .sends + 1) 20 ≡ sentSlot x
 unfolding sentSlot requested
 sent-asks x e = rw (e, add-one (x .sends))
 
-pub sent-goes-on : (x : Slot) → asks (x .kind) ≡ false → advanced x ≡ sentSlot x
+pub sent-carries : (x : Slot) → asks (x .kind) ≡ false → carried x ≡ sentSlot x
 unfolding sentSlot
-sent-goes-on x e = rw e
+sent-carries x e = rw e

@@ -1,60 +1,64 @@
--- What an opening is where it is refused, and where it is not.
+-- What an opening is, by its number.
 use Prim.Native.Nat.{ℕ, _+_, _*_, _≤_, _<_}
-use mathlib.Core.Path.{_≡_, refl, _∙_}
-use mathlib.Core.Bool.{false}
+use mathlib.Core.Path.{_≡_, refl, sym, _∙_}
+use mathlib.Core.Bool.{Bool, true, false, cond}
 use mathlib.Core.List.{List}
 use native.Mathlib.Omega.{arith}
 use native.Mathlib.Numerals.{add-one}
 use lib.ListN.{length, set}
-use borrow.Author.Tests.{eq-eqb, ne-eqb}
+use lib.Seq.{sets}
+use lib.Dec.{eqb}
+use borrow.Author.Tests.{eqb-true}
 use Rattle.wire.specs.Put.{putOf}
 use Rattle.wire.proofs.Puts.{put-sets}
-use Rattle.wire.proofs.Orders.{else-zero}
 use Rattle.bridge_rules.specs.declared.Bridge.{Bridge}
 use Rattle.bridge_rules.specs.declared.Slot.{Slot}
 use Rattle.bridge_rules.specs.declared.Opened.{Opened}
-use Rattle.bridge_rules.specs.State.{lowestFree, isNone, orZero, orFour}
-use Rattle.bridge_rules.specs.Answers.{openedOf}
-use Rattle.bridge_rules.specs.Opening.{Ask, write, askCount, opened, openNumber, openOf}
-use Rattle.bridge_rules.proofs.NumberLaws.{open-facts, lent-ok}
-use Rattle.bridge.proofs.Searches.{free-small, slot-found}
+use Rattle.bridge_rules.specs.State.{lowestFree, isNone, orZero}
+use Rattle.bridge_rules.specs.Answers.{Buffers, Result, rightLengths, openedOf}
+use Rattle.bridge_rules.specs.Opening.{Ask, askCount, withGiven, opened, openNumber, openOf}
+use Rattle.bridge_rules.proofs.NumberLaws.{RightLengths, open-facts, open-lent}
+use Rattle.bridge.proofs.Searches.{free-small, orZero-four}
 
-module _ (s : Bridge) (b : List ℕ) (a : Ask) where
-  pub open-refused : (n : ℕ) → n ≡ openNumber s (length b) a → (n ≡ 0 → ⊥)
-      → _≡_ {A = Opened} (record { bridge = s; ticket = 0; number = n }) (openedOf (openOf s b a)) × (b ≡ openOf s b a .buffer)
+-- what the number 0 says
+pub open-allowed : (s : Bridge) (ok : Bool) (a : Ask) (n : ℕ) → n ≡ openNumber s ok a → n ≡ 0
+    → (isNone (lowestFree s) ≡ false) × (s .issued < 4294967295) × (askCount a ≤ 128)
+open-allowed s ok a n e z = let f = open-facts s ok a (sym e ∙ z) in (f .slotted, f .ticketed, f .law .few)
+
+-- a part of one of two
+part-cond : {A B : Type 0} (f : A → B) (t : Bool) (x y : A) → cond t (f x) (f y) ≡ f (cond t x y)
+part-cond f true x y = refl
+part-cond f false x y = refl
+
+-- the first of two, where it is taken
+taken-cond : {A : Type 0} (t : Bool) (x y z : A) → (t ≡ true → x ≡ y) → cond t x z ≡ cond t y z
+taken-cond true x y z h = h refl
+taken-cond false x y z h = refl
+
+module _ (s : Bridge) (b : Buffers) (a : Ask) (n : ℕ) (e : n ≡ openNumber s (rightLengths b) a) where
+  -- its answer
+  pub open-answer : (r : Opened) (x : Slot)
+      → r ≡ cond (eqb n 0) (record {
+        bridge = record { slots = set (s .slots) (orZero (lowestFree s)) x; issued = s .issued + 1; own = s .own; last = s .last };
+        ticket = s .issued + 1;
+        number = 0;
+      }) (record { bridge = s; ticket = 0; number = n })
+      → x ≡ opened a (s .issued + 1) → r ≡ openedOf (openOf s b a)
   unfolding openOf openedOf
-  open-refused n e h = rw (← e, ne-eqb n 0 h) (refl, refl)
+  open-answer r x h q = h ∙ rw (q, ← e, add-one (s .issued)) (part-cond openedOf (eqb n 0) _ _)
 
-  module _ (e : openNumber s (length b) a ≡ 0) where
-    pub open-room : isNone (lowestFree s) ≡ false
-    open-room = open-facts s (length b) a e .slotted
-
-    pub open-at : (k : ℕ) → k ≡ orFour (lowestFree s) → (k ≡ orZero (lowestFree s)) × (k < 4)
-    open-at k q = slot-found (lowestFree s) (free-small s) q open-room
-
-    pub open-ticket : s .issued < 4294967295
-    open-ticket = open-facts s (length b) a e .ticketed
-
-    pub open-few : askCount a ≤ 128
-    open-few = open-facts s (length b) a e .law .few
-
-    pub open-is : (x : Slot) → x ≡ opened a (s .issued + 1)
-        → _≡_ {A = Opened} (record {
-          bridge = record { slots = set (s .slots) (orZero (lowestFree s)) x; issued = x .ticket; own = s .own; last = s .last };
-          ticket = x .ticket;
-          number = 0;
-        }) (openedOf (openOf s b a))
-    unfolding openOf openedOf opened
-    open-is x q = rw (q, add-one (s .issued), eq-eqb _ 0 e)
-
--- a write's bytes fit its slot's part of the buffer, and are stored there
-module _ (s : Bridge) (b : List ℕ) (d t o : ℕ) (bs : List ℕ) (e : openNumber s (length b) (write d t o bs) ≡ 0) where
-  open-whole : length b ≡ 512
-  unfolding openNumber
-  open-whole = lent-ok s (length b) (else-zero _ _ e .0) .1
-
-  pub open-stored : (k : ℕ) → k ≡ orFour (lowestFree s) → putOf b (128 * k) bs ≡ openOf s b (write d t o bs) .buffer
+  -- the bytes that it was given, in the one of the buffers that takes them
+  pub open-copied : (part : Buffers → List ℕ) (m bs : List ℕ)
+      → m ≡ cond (eqb n 0) (putOf (part b) (128 * orZero (lowestFree s)) bs) (part b)
+      → (RightLengths b → length (part b) ≡ 512) → length bs ≡ askCount a
+      → part (withGiven b (orZero (lowestFree s)) a) ≡ sets (part b) (128 * orZero (lowestFree s)) bs → m ≡ part (openOf s b a .buffers)
   unfolding openOf
-  open-stored k q =
-      let h = open-at s b (write d t o bs) e k q in
-      put-sets b (128 * k) bs (omega (arith, open-few s b (write d t o bs) e, open-whole, h .1)) ∙ rw (← h .0, eq-eqb _ 0 e)
+  open-copied part m bs h right l w =
+      h ∙ taken-cond (eqb n 0) _ _ _ fits ∙ rw (← w, ← e) (part-cond (λ (r : Result). part (r .buffers)) (eqb n 0) _ _)
+    where
+      fits : eqb n 0 ≡ true → putOf (part b) (128 * orZero (lowestFree s)) bs ≡ sets (part b) (128 * orZero (lowestFree s)) bs
+      fits t =
+          let z = eqb-true n 0 t in
+          let few = open-allowed s (rightLengths b) a n e z .2 in
+          put-sets (part b) (128 * orZero (lowestFree s)) bs
+          (omega (arith, right (open-lent s b a (sym e ∙ z) .1), l, few, orZero-four (lowestFree s) (free-small s)))

@@ -1,15 +1,16 @@
 -- Which number an incoming frame is refused with, which slot awaits it, and what the call is where it is not refused.
 use Prim.Native.Nat.{ℕ, zero, suc, _+_, _*_, _/_, _≤_, _<_}
 use mathlib.Core.Path.{_≡_, refl, sym, _∙_, ap}
-use mathlib.Core.Bool.{Bool, true, false, not, _&&_, true≢false}
+use mathlib.Core.Bool.{Bool, true, false, cond, not, _&&_, true≢false}
 use mathlib.Core.Logic.{_⊎_, inl, inr}
 use mathlib.Core.List.{List}
 use mathlib.Core.Option.{none, some}
 use native.Mathlib.Omega.{arith}
-use lib.ListN.{length, length-take, set}
-use lib.Seq.{sets}
+use native.Mathlib.Numerals.{add-one}
+use lib.ListN.{length, getD, take, drop, set, length-take, drop-of-length-le}
+use lib.Seq.{sets, drop-cons, getD-take, getD-drop}
 use lib.Dec.{eqb}
-use borrow.Author.Tests.{le-ltb, eq-eqb, ne-eqb}
+use borrow.Author.Tests.{le-ltb, eq-eqb, ne-eqb, not-false}
 use Rattle.wire.specs.Order.{_if_else_, _orElse_}
 use Rattle.wire.specs.Answer.{answer}
 use Rattle.wire.specs.Put.{putOf}
@@ -20,19 +21,20 @@ use Rattle.bus_rules.specs.Frames.{rsp, content, headNumber, receiveNumber, rea
 use Rattle.bus_rules.specs.declared.Parts.{Parts}
 use Rattle.bus_rules.specs.declared.Unpacked.the-variants as U
 use Rattle.bus_rules.proofs.IdentLaws.{unpacked-is}
+use Rattle.bus_rules.proofs.FrameLaws.{content-length, content-at, part-length}
 use Rattle.bridge_rules.specs.declared.Bridge.{Bridge}
 use Rattle.bridge_rules.specs.declared.Slot.{Slot}
 use Rattle.bridge_rules.specs.declared.Stepped.{Stepped}
 use Rattle.bridge_rules.specs.State.{Frame, slot, sound, isNone, orZero, orFour, withSlots, isWaiting}
-use Rattle.bridge_rules.specs.Answers.{yieldedOf, steppedOf}
+use Rattle.bridge_rules.specs.Answers.{Buffers, rightLengths, lentNumber, yieldedOf, steppedOf}
 use Rattle.bridge_rules.specs.Turn.{chunkLen, advanced}
-use Rattle.bridge_rules.specs.Incoming.{awaits, awaiting, contentNumber, replyNumber, frameOf}
+use Rattle.bridge_rules.specs.Incoming.{awaits, awaiting, contentNumber, replyNumber, sameBytes, differs, differed, takeFor, frameOf}
 use Rattle.bridge_rules.proofs.Search.{lowest-some, lowest-none, option-cases}
 use Rattle.bridge_rules.proofs.SoundTest.{true-sound}
 use Rattle.bridge_rules.proofs.AwaitsTest.{AwaitsOk, awaits-ok}
 use Rattle.bridge_rules.proofs.SlotOk.{wait-ok}
-use Rattle.bridge_rules.proofs.FrameLaws.{len-inside}
-use Rattle.bridge_rules.proofs.NumberLaws.{lent-ok}
+use Rattle.bridge_rules.proofs.FrameLaws.{len-eight, len-inside}
+use Rattle.bridge_rules.proofs.NumberLaws.{RightLengths, lent-ok}
 use Rattle.bridge.proofs.Searches.{awaiting-small, slot-found}
 
 -- ── 1 to 5 ─────────────────────────────────────────────────────────────────────────────────────────────────────────
@@ -114,18 +116,66 @@ module _ (s : Bridge) (f : Frame) (h : sound s ≡ true) (p : Parts) (e : p ≡ 
           let g : j ≡ k = whose j (w .bound) (w .passes) in
           absurd (true≢false (sym (w .passes) ∙ ap (awaits s f) g ∙ sym (takes-of s f k p e) ∙ n (omega (arith, w .bound))))
 
+-- an accepted bridge is sound, whatever the buffers
+pub lent-sound : (s : Bridge) (ok : Bool) → lentNumber s ok ≡ 0 → sound s ≡ true
+unfolding lentNumber
+lent-sound s ok e = not-false _ (if-zero 10 _ _ e .0)
+
+-- ── A reply's bytes and a buffer's ─────────────────────────────────────────────────────────────────────────────────
+
+module _ (xs ys : List ℕ) (i : ℕ) where
+  same-step : i < length xs → i < length ys
+      → sameBytes (drop i xs) (drop i ys) ≡ (eqb (getD xs i 0) (getD ys i 0) && sameBytes (drop (i + 1) xs) (drop (i + 1) ys))
+  unfolding sameBytes
+  same-step h l = rw (drop-cons xs i 0 h, drop-cons ys i 0 l, add-one i)
+
+  same-none : length xs ≤ i → length ys ≤ i → sameBytes (drop i xs) (drop i ys) ≡ true
+  unfolding sameBytes
+  same-none h l = rw (drop-of-length-le xs h, drop-of-length-le ys l)
+
+-- compared from byte i on
+module _ (f : Frame) (b : List ℕ) (start : ℕ) (eight : length (f .bytes) ≡ 8) (few : f .len ≤ 8) (fits : start + f .len ≤ length b) where
+  abbrev there : List ℕ
+  there = take (f .len) (drop start b)
+
+  there-length : length there ≡ f .len
+  there-length = part-length b start (f .len) fits
+
+  module _ (i : ℕ) where
+    same-here : i < f .len
+        → sameBytes (drop i (content f)) (drop i there)
+        ≡ (eqb (getD (f .bytes) i 0) (getD b (start + i) 0) && sameBytes (drop (i + 1) (content f)) (drop (i + 1) there))
+    same-here h =
+        let l : i < length (content f) = omega (arith, h, content-length f eight few) in
+        let m : i < length there = omega (arith, h, there-length) in
+        let y : getD there i 0 ≡ getD b (start + i) 0 = getD-take (f .len) (drop start b) i 0 h ∙ getD-drop start b i 0 in
+        rw (same-step (content f) there i l m, content-at f i h, y)
+
+    pub same-on : i < f .len → getD (f .bytes) i 0 ≡ getD b (start + i) 0
+        → sameBytes (drop i (content f)) (drop i there) ≡ sameBytes (drop (i + 1) (content f)) (drop (i + 1) there)
+    same-on h e = same-here h ∙ rw (eq-eqb _ _ e)
+
+    pub other-byte : i < f .len → (getD (f .bytes) i 0 ≡ getD b (start + i) 0 → ⊥) → sameBytes (drop i (content f)) (drop i there) ≡ false
+    other-byte h e = same-here h ∙ rw (ne-eqb _ _ e)
+
+    pub same-all : f .len ≤ i → sameBytes (drop i (content f)) (drop i there) ≡ true
+    same-all h =
+        let l : length (content f) ≤ i = omega (arith, h, content-length f eight few) in
+        same-none (content f) there i l (omega (arith, h, there-length))
+
 -- ── The call ───────────────────────────────────────────────────────────────────────────────────────────────────────
 
-module _ (s : Bridge) (b : List ℕ) (f : Frame) where
-  pub frame-refused : (n : ℕ) → n ≡ replyNumber s (length b) f → (n ≡ 0 → ⊥)
-      → _≡_ {A = Stepped} (record { bridge = s; answer = yieldedOf n none }) (steppedOf (frameOf s b f)) × (b ≡ frameOf s b f .buffer)
+module _ (s : Bridge) (b : Buffers) (f : Frame) where
+  pub frame-refused : (n : ℕ) → n ≡ replyNumber s (rightLengths b) f → (n ≡ 0 → ⊥)
+      → _≡_ {A = Stepped} (record { bridge = s; answer = yieldedOf n none }) (steppedOf (frameOf s b f))
+      × (b .first ≡ frameOf s b f .buffers .first)
   unfolding frameOf steppedOf
   frame-refused n e h = rw (← e, ne-eqb n 0 h) (refl, refl)
 
-  module _ (e : replyNumber s (length b) f ≡ 0) where
-    reply-lent : (sound s ≡ true) × (length b ≡ 512)
+  module _ (e : replyNumber s (rightLengths b) f ≡ 0) where
+    reply-lent : (sound s ≡ true) × RightLengths b
     unfolding replyNumber
-    reply-lent = lent-ok s (length b) (else-zero _ _ e .0)
+    reply-lent = lent-ok s b (else-zero _ _ e .0)
 
     reply-found : isNone (awaiting s f) ≡ false
     unfolding replyNumber
@@ -145,21 +195,34 @@ module _ (s : Bridge) (b : List ℕ) (f : Frame) where
               let g : k ≡ j = reply-at .0 ∙ ap orZero z in
               rw g (awaits-ok s f j (lowest-some (awaits s f) j z .passes))
 
-      reply-fits : 128 * k + slot s k .progress + f .len ≤ length b
+      -- the reply's bytes lie within both buffers
+      pub reply-fits : (f .len ≤ 8) × (128 * k + slot s k .progress + f .len ≤ 512)
       reply-fits =
           let w = wait-ok (slot s k) (true-sound s (reply-lent .0) .each k (reply-at .1)) (reply-awaited .waits) in
-          let i = len-inside (slot s k .count) (slot s k .progress) (w .partway .below) in
-          omega (arith, reply-at .1, reply-lent .1, reply-awaited .len, w .held .args .few, w .partway .below, i)
+          let n = len-eight (slot s k .count) (slot s k .progress) in
+          let i = len-inside (slot s k .count) (slot s k .progress) (w .partway .below) in (
+            omega (arith, reply-awaited .len, n),
+            omega (arith, reply-at .1, reply-awaited .len, w .held .args .few, w .partway .below, i),
+          )
 
-      reply-puts : putOf b (128 * k + slot s k .progress) (content f) ≡ sets b (128 * k + slot s k .progress) (content f)
+      pub reply-compared : 128 * k + slot s k .progress + f .len ≤ length (b .second)
+      reply-compared = omega (arith, reply-fits .1, reply-lent .1 .1)
+
+      reply-puts : putOf (b .first) (128 * k + slot s k .progress) (content f) ≡ sets (b .first) (128 * k + slot s k .progress) (content f)
       unfolding content
       reply-puts =
-          put-sets b (128 * k + slot s k .progress) (content f) (omega (arith, reply-fits, length-take (f .len) (f .bytes)))
+          put-sets (b .first) (128 * k + slot s k .progress) (content f)
+          (omega (arith, reply-fits .1, reply-lent .1 .0, length-take (f .len) (f .bytes)))
 
-      -- the bridge and the buffer after a frame that is not refused
-      abbrev pub taken : Stepped
-      taken = record { bridge = withSlots s (set (s .slots) k (advanced (slot s k))); answer = yieldedOf 0 none }
+      -- the bridge and the first buffer after a frame that is not refused
+      module _ (other : Bool) (o : other ≡ differs k (slot s k) (b .second) f) where
+        abbrev pub taken : Stepped
+        taken = record {
+          bridge = withSlots s (set (s .slots) k (cond other (differed (slot s k)) (advanced (slot s k))));
+          answer = yieldedOf 0 none;
+        }
 
-      pub frame-is : (taken ≡ steppedOf (frameOf s b f)) × (putOf b (128 * k + slot s k .progress) (content f) ≡ frameOf s b f .buffer)
-      unfolding frameOf steppedOf
-      frame-is = rw (reply-puts, ← reply-at .0, eq-eqb _ 0 e) (refl, refl)
+        pub frame-is : (taken ≡ steppedOf (frameOf s b f))
+            × (cond other (b .first) (putOf (b .first) (128 * k + slot s k .progress) (content f)) ≡ frameOf s b f .buffers .first)
+        unfolding frameOf takeFor steppedOf
+        frame-is = rw (reply-puts, ← reply-at .0, ← o, eq-eqb _ 0 e) (refl, refl)

@@ -10,7 +10,7 @@ use borrow.Author.Tests.{eq-eqb, ne-eqb, eqb-true, not-false}
 use Rattle.wire.specs.declared.Span.{Span}
 use Rattle.wire.proofs.Orders.{if-zero}
 use Rattle.bridge_rules.specs.declared.Bridge.{Bridge}
-use Rattle.bridge_rules.specs.State.{slot, heldSlot, isNone, orZero, orFour, sound, asks}
+use Rattle.bridge_rules.specs.State.{slot, heldSlot, isNone, orZero, orFour, sound, shows}
 use Rattle.bridge_rules.specs.Ending.{ticketNumber, bytesNumber, slotSpan, spanOf, noSpan, bytesOf}
 use Rattle.wire.specs.Log.{partOf}
 use Rattle.bridge_rules.proofs.SlotOk.{count-few}
@@ -41,10 +41,20 @@ module _ (s : Bridge) (n t : ℕ) where
     unfolding spanOf
     span-is = rw (← bytes-at .0, eq-eqb _ 0 e)
 
+-- a read's bytes are shown, and no other's
+module _ (s : Bridge) (k : ℕ) where
+  pub span-shown : shows (slot s k .kind) ≡ true → _≡_ {A = Span} (record { number = 0; start = 128 * k; len = slot s k .count }) (slotSpan s k)
+  unfolding slotSpan
+  span-shown e = rw e
+
+  pub span-empty : shows (slot s k .kind) ≡ false → noSpan 0 ≡ slotSpan s k
+  unfolding slotSpan
+  span-empty e = rw e
+
 -- a span lies within the buffer
 slotSpan-fits : (s : Bridge) (k : ℕ) → sound s ≡ true → k < 4 → slotSpan s k .start + slotSpan s k .len ≤ 512
 unfolding slotSpan
-slotSpan-fits s k h l = go (asks (slot s k .kind))
+slotSpan-fits s k h l = go (shows (slot s k .kind))
   where
     few : slot s k .count ≤ 128
     few = count-few (slot s k) (true-sound s h .each k l)

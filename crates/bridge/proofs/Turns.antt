@@ -2,27 +2,25 @@
 use Prim.Native.Nat.{ℕ, suc}
 use mathlib.Core.Path.{_≡_}
 use mathlib.Core.Bool.{true}
-use mathlib.Core.List.{List}
 use mathlib.Core.Option.{none, some}
-use lib.ListN.{length}
 use borrow.Author.Tests.{eq-eqb, ne-eqb}
 use Rattle.bridge_rules.specs.declared.Bridge.{Bridge}
 use Rattle.bridge_rules.specs.declared.Stepped.{Stepped}
 use Rattle.bridge_rules.specs.State.{slot, sound, isReady, nextReady}
-use Rattle.bridge_rules.specs.Answers.{lentNumber, yieldedOf, steppedOf}
+use Rattle.bridge_rules.specs.Answers.{Buffers, rightLengths, lentNumber, yieldedOf, steppedOf}
 use Rattle.bridge_rules.specs.Turn.{agedBridge, turnOf, sendFor}
 use Rattle.bridge_rules.proofs.Search.{search-some}
 use Rattle.bridge_rules.proofs.SoundTest.{true-sound, sound-true}
 use Rattle.bridge_rules.proofs.SoundStates.{aged-sound}
 use Rattle.bridge_rules.proofs.NumberLaws.{lent-ok}
 
-module _ (s : Bridge) (b : List ℕ) where
-  pub turn-refused : (n : ℕ) → n ≡ lentNumber s (length b) → (n ≡ 0 → ⊥)
+module _ (s : Bridge) (b : Buffers) where
+  pub turn-refused : (n : ℕ) → n ≡ lentNumber s (rightLengths b) → (n ≡ 0 → ⊥)
       → _≡_ {A = Stepped} (record { bridge = s; answer = yieldedOf n none }) (steppedOf (turnOf s b))
   unfolding turnOf steppedOf
   turn-refused n e h = rw (← e, ne-eqb n 0 h)
 
-  module _ (e : lentNumber s (length b) ≡ 0) (a : Bridge) (q : a ≡ agedBridge s) where
+  module _ (e : lentNumber s (rightLengths b) ≡ 0) (a : Bridge) (q : a ≡ agedBridge s) where
     pub turn-idles : nextReady a ≡ none
         → _≡_ {A = Stepped} (record { bridge = a; answer = yieldedOf 0 none }) (steppedOf (turnOf s b))
     unfolding turnOf steppedOf sendFor
@@ -34,7 +32,7 @@ module _ (s : Bridge) (b : List ℕ) where
       turn-sends = rw (← q, z, eq-eqb _ 0 e)
 
       pub turn-sound : sound a ≡ true
-      turn-sound = rw q (sound-true (agedBridge s) (aged-sound s (true-sound s (lent-ok s (length b) e .0))))
+      turn-sound = rw q (sound-true (agedBridge s) (aged-sound s (true-sound s (lent-ok s b e .0))))
 
       pub turn-ready : isReady (slot a k .phase) ≡ true
       unfolding nextReady

@@ -5,30 +5,30 @@ use crate::ending::close;
 use crate::incoming::frame;
 use crate::turning::turn;
 ghost use mathlib.Core.Path.{_≡_};
-ghost use Rattle.bridge_rules.specs.Answers.{steppedOf};
+ghost use Rattle.bridge_rules.specs.Answers.{both, steppedOf};
 ghost use Rattle.bridge_rules.specs.Turn.{turnOf};
 ghost use Rattle.bridge_rules.specs.Incoming.{frameOf};
 ghost use Rattle.bridge_rules.specs.Ending.{closeOf};
 
 // A turn.
-pub fn turn_in_place(b: &mut Bridge, buffer: &[u8]) -> Yielded
-    ensures { λ r. ⌜ (r ≡ steppedOf (turnOf (now (b .entry)) (now (buffer .entry))) .answer)
-        × (now (b .exit) ≡ steppedOf (turnOf (now (b .entry)) (now (buffer .entry))) .bridge) ⌝ }
+pub fn turn_in_place(b: &mut Bridge, first: &[u8], second: &[u8]) -> Yielded
+    ensures { λ r. ⌜ (r ≡ steppedOf (turnOf (now (b .entry)) (both (now (first .entry)) (now (second .entry)))) .answer)
+        × (now (b .exit) ≡ steppedOf (turnOf (now (b .entry)) (both (now (first .entry)) (now (second .entry)))) .bridge) ⌝ }
 {
     let old = *b;
-    let t = turn(old, buffer);
+    let t = turn(old, first, second);
     *b = t.bridge;
     t.answer
 }
 
 // An incoming frame.
-pub fn frame_in_place(b: &mut Bridge, buffer: &mut [u8], f: bus::Frame) -> Yielded
-    ensures { λ r. ⌜ (r ≡ steppedOf (frameOf (now (b .entry)) (now (buffer .entry)) f) .answer)
-        × ((now (b .exit) ≡ steppedOf (frameOf (now (b .entry)) (now (buffer .entry)) f) .bridge)
-        × (now (buffer .exit) ≡ frameOf (now (b .entry)) (now (buffer .entry)) f .buffer)) ⌝ }
+pub fn frame_in_place(b: &mut Bridge, first: &mut [u8], second: &[u8], f: bus::Frame) -> Yielded
+    ensures { λ r. ⌜ (r ≡ steppedOf (frameOf (now (b .entry)) (both (now (first .entry)) (now (second .entry))) f) .answer)
+        × ((now (b .exit) ≡ steppedOf (frameOf (now (b .entry)) (both (now (first .entry)) (now (second .entry))) f) .bridge)
+        × (now (first .exit) ≡ frameOf (now (b .entry)) (both (now (first .entry)) (now (second .entry))) f .buffers .first)) ⌝ }
 {
     let old = *b;
-    let t = frame(old, buffer, f);
+    let t = frame(old, first, second, f);
     *b = t.bridge;
     t.answer
 }

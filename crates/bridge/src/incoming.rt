@@ -1,5 +1,6 @@
-// An incoming frame: the waiting read that awaits it stores its bytes.
+// An incoming frame: the waiting slot that awaits it stores its bytes; a checked write that reads back first compares them.
 use crate::Bridge;
+use crate::DIFFERENT;
 use crate::Slot;
 use crate::Stepped;
 use crate::WAITING;
@@ -7,20 +8,23 @@ use crate::answers::lent_number;
 use crate::answers::plain;
 use crate::progress::advanced;
 use crate::progress::chunk_len;
+use crate::state::compares;
+use crate::state::moved;
 use crate::state::with_slots;
 ghost use mathlib.Core.Path.{_≡_};
 ghost use mathlib.Core.Bool.{true, not, _&&_};
-ghost use Prim.Native.Nat.{_+_, _*_, _<_};
+ghost use Prim.Native.Nat.{_+_, _*_, _≤_, _<_};
 ghost use lib.Dec.{eqb};
+ghost use lib.ListN.{length, take, drop};
 ghost use Rattle.wire.specs.Order.{_if_else_, _orElse_};
 ghost use Rattle.bus_rules.specs.Ident.{partsOf};
-ghost use Rattle.bus_rules.specs.Frames.{rsp};
+ghost use Rattle.bus_rules.specs.Frames.{rsp, content};
 ghost use Rattle.bridge_rules.specs.State.{sound, isWaiting, isNone, orFour};
-ghost use Rattle.bridge_rules.specs.Answers.{steppedOf};
+ghost use Rattle.bridge_rules.specs.Answers.{both, steppedOf};
 ghost use Rattle.bridge_rules.specs.Turn.{chunkLen};
-ghost use Rattle.bridge_rules.specs.Incoming.{contentNumber, awaiting, replyNumber, frameOf};
+ghost use Rattle.bridge_rules.specs.Incoming.{contentNumber, awaiting, replyNumber, sameBytes, differs, frameOf};
 
-// Whether slot k is a waiting read that awaits a frame of these parts and this length.
+// Whether slot k waits for a frame of these parts and this length.
 fn awaits(x: Slot, k: usize, p: bus::Parts, len: u8) -> bool
     requires { ⌜ k < 4 ⌝ }
     ensures { λ r. ⌜ r ≡ (isWaiting (x .phase) && eqb (p .table) 6 && eqb (p .from) (x .device)
@@ -81,10 +85,10 @@ fn judge_content(b: Bridge, f: bus::Frame) -> Judged
 }
 
 // 11, 10, 1 to 5 and 17, by which an incoming frame is judged; else 0 and its slot.
-fn judge_reply(b: Bridge, n: usize, f: bus::Frame) -> Judged
-    ensures { λ r. ⌜ (r .number ≡ replyNumber b n f) × (r .number ≡ 0 → r .slot ≡ orFour (awaiting b f)) ⌝ }
+fn judge_reply(b: Bridge, n: usize, m: usize, f: bus::Frame) -> Judged
+    ensures { λ r. ⌜ (r .number ≡ replyNumber b (eqb n 512 && eqb m 512) f) × (r .number ≡ 0 → r .slot ≡ orFour (awaiting b f)) ⌝ }
 {
-    let lent = lent_number(b, n);
+    let lent = lent_number(b, n, m);
     if lent != 0 {
         return Judged {
             number: lent,
@@ -94,11 +98,42 @@ fn judge_reply(b: Bridge, n: usize, f: bus::Frame) -> Judged
     judge_content(b, f)
 }
 
-// An incoming frame: 17 where no waiting read awaits it; else its bytes are stored, and the read goes on or is done.
-pub fn frame(b: Bridge, buffer: &mut [u8], f: bus::Frame) -> Stepped
-    ensures { λ r. ⌜ (r ≡ steppedOf (frameOf b (now (buffer .entry)) f)) × (now (buffer .exit) ≡ frameOf b (now (buffer .entry)) f .buffer) ⌝ }
+// Whether a frame's bytes are those that a buffer has from a place on.
+fn same_bytes(f: bus::Frame, buffer: &[u8], start: usize) -> bool
+    requires { ⌜ (f .len ≤ 8) × (start + f .len ≤ length (now buffer)) ⌝ }
+    ensures { λ r. ⌜ r ≡ sameBytes (content f) (take (f .len) (drop start (now (buffer .entry)))) ⌝ }
 {
-    let judged = judge_reply(b, buffer.len(), f);
+    let n = f.len as usize;
+    let mut i: usize = 0;
+    while i < 8 {
+        if i < n {
+            if f.bytes[i] != buffer[start + i] {
+                return false;
+            }
+        }
+        i += 1;
+    }
+    true
+}
+
+// Whether slot k's reply brings other bytes than a checked write sent: those that the second buffer has at the same place.
+fn differs(k: usize, x: Slot, second: &[u8], f: bus::Frame) -> bool
+    requires { ⌜ (k < 4) × (f .len ≤ 8) × (128 * k + x .progress + f .len ≤ length (now second)) ⌝ }
+    ensures { λ r. ⌜ r ≡ differs k x (now (second .entry)) f ⌝ }
+{
+    if !compares(x.kind) {
+        return false;
+    }
+    !same_bytes(f, second, 128 * k + x.progress as usize)
+}
+
+// An incoming frame: 17 where no waiting slot awaits it; else its bytes are stored, and the slot is ready for the next or done. A checked
+// write that reads back ends as different at bytes that it did not send, and these are not stored.
+pub fn frame(b: Bridge, first: &mut [u8], second: &[u8], f: bus::Frame) -> Stepped
+    ensures { λ r. ⌜ (r ≡ steppedOf (frameOf b (both (now (first .entry)) (now (second .entry))) f))
+        × (now (first .exit) ≡ frameOf b (both (now (first .entry)) (now (second .entry))) f .buffers .first) ⌝ }
+{
+    let judged = judge_reply(b, first.len(), second.len(), f);
     let n = judged.number;
     if n != 0 {
         return plain(b, n);
@@ -106,7 +141,12 @@ pub fn frame(b: Bridge, buffer: &mut [u8], f: bus::Frame) -> Stepped
     let k = judged.slot;
     let mut slots = b.slots;
     let x = slots[k];
-    bus::frames::put_content(buffer, 128 * k + x.progress as usize, f);
+    if differs(k, x, second, f) {
+        let y = moved(x, DIFFERENT, x.progress, 0, 0);
+        slots[k] = y;
+        return plain(with_slots(b, slots), 0);
+    }
+    bus::frames::put_content(first, 128 * k + x.progress as usize, f);
     let y = advanced(x);
     slots[k] = y;
     plain(with_slots(b, slots), 0)

@@ -2,11 +2,13 @@
 use crate::Slot;
 use crate::progress::next_len;
 use crate::state::carries;
+use crate::state::checking;
 ghost use Prim.Native.Nat.{_+_, _≤_, _<_};
 ghost use mathlib.Core.Path.{_≡_};
 ghost use lib.ListN.{length};
 ghost use Rattle.bus_rules.specs.Ident.{idOf};
 ghost use Rattle.bus_rules.specs.Frames.{frameWith};
+ghost use Rattle.bridge_rules.specs.Answers.{both};
 ghost use Rattle.bridge_rules.specs.Turn.{readFrame, writeFrame, sentFrame};
 
 // A frame for a slot's next bytes, of a type and with these bytes.
@@ -25,7 +27,7 @@ fn next_frame(own: u8, kind: u8, x: Slot, bytes: &[u8]) -> bus::Frame
     bus::frames::build(parts, bytes)
 }
 
-// The REQ of a read in slot k.
+// The REQ of slot k.
 fn read_frame(own: u8, k: usize, x: Slot) -> bus::Frame
     requires { ⌜ (own ≤ 15) × (k < 4) × (x .device ≤ 15) × (x .table ≤ 31) × (x .progress < x .count)
         × (x .count ≤ 128) × (x .offset + x .count ≤ 2048) ⌝ }
@@ -41,7 +43,7 @@ fn read_frame(own: u8, k: usize, x: Slot) -> bus::Frame
     next_frame(own, bus::REQ, x, &three)
 }
 
-// The CMD of a write in slot k, with the next of its bytes.
+// The CMD of slot k, with the next of its bytes in a buffer.
 fn write_frame(own: u8, k: usize, x: Slot, buffer: &[u8]) -> bus::Frame
     requires { ⌜ (own ≤ 15) × (k < 4) × (x .device ≤ 15) × (x .table ≤ 31) × (x .progress < x .count)
         × (x .count ≤ 128) × (x .offset + x .count ≤ 2048) × (length (now buffer) ≡ 512) ⌝ }
@@ -52,14 +54,17 @@ fn write_frame(own: u8, k: usize, x: Slot, buffer: &[u8]) -> bus::Frame
     next_frame(own, bus::CMD, x, &buffer[start..end])
 }
 
-// What a ready slot k sends.
-pub(crate) fn sent_frame(own: u8, k: usize, x: Slot, buffer: &[u8]) -> bus::Frame
+// What a ready slot k sends: a checked write's bytes are in the second buffer.
+pub(crate) fn sent_frame(own: u8, k: usize, x: Slot, first: &[u8], second: &[u8]) -> bus::Frame
     requires { ⌜ (own ≤ 15) × (k < 4) × (x .device ≤ 15) × (x .table ≤ 31) × (x .progress < x .count)
-        × (x .count ≤ 128) × (x .offset + x .count ≤ 2048) × (length (now buffer) ≡ 512) ⌝ }
-    ensures { λ r. ⌜ r ≡ sentFrame own k x (now (buffer .entry)) ⌝ }
+        × (x .count ≤ 128) × (x .offset + x .count ≤ 2048) × (length (now first) ≡ 512) × (length (now second) ≡ 512) ⌝ }
+    ensures { λ r. ⌜ r ≡ sentFrame own k x (both (now (first .entry)) (now (second .entry))) ⌝ }
 {
     if carries(x.kind) {
-        return write_frame(own, k, x, buffer);
+        if checking(x.kind) {
+            return write_frame(own, k, x, second);
+        }
+        return write_frame(own, k, x, first);
     }
     read_frame(own, k, x)
 }

@@ -1,25 +1,48 @@
 // A bridge and its slots.
 use crate::Bridge;
+use crate::CHECK;
 use crate::FREE;
 use crate::READ;
+use crate::READ_BACK;
 use crate::READY;
 use crate::Slot;
 use crate::WRITE;
 ghost use mathlib.Core.Path.{_≡_};
-ghost use Rattle.bridge_rules.specs.State.{asks, carries, isReady, blank, fresh, withSlots, moved};
+ghost use Rattle.bridge_rules.specs.State.{asks, carries, checking, compares, shows, isReady, blank, fresh, withSlots, ofKind, moved};
 
 // A slot of this kind sends REQ and may wait.
 pub(crate) fn asks(kind: u8) -> bool
     ensures { λ r. ⌜ r ≡ asks kind ⌝ }
 {
-    kind == READ
+    (kind == READ) | (kind == READ_BACK)
 }
 
 // A slot of this kind sends CMD.
 pub(crate) fn carries(kind: u8) -> bool
     ensures { λ r. ⌜ r ≡ carries kind ⌝ }
 {
-    kind == WRITE
+    (kind == WRITE) | (kind == CHECK)
+}
+
+// It carries the second buffer's bytes, and reads back what it sent.
+pub(crate) fn checking(kind: u8) -> bool
+    ensures { λ r. ⌜ r ≡ checking kind ⌝ }
+{
+    kind == CHECK
+}
+
+// Its replies are compared with what it sent.
+pub(crate) fn compares(kind: u8) -> bool
+    ensures { λ r. ⌜ r ≡ compares kind ⌝ }
+{
+    kind == READ_BACK
+}
+
+// Its bytes are shown.
+pub(crate) fn shows(kind: u8) -> bool
+    ensures { λ r. ⌜ r ≡ shows kind ⌝ }
+{
+    kind == READ
 }
 
 pub(crate) fn is_ready(phase: u8) -> bool
@@ -69,6 +92,24 @@ pub(crate) fn with_slots(b: Bridge, slots: [Slot; 4]) -> Bridge
         issued: b.issued,
         own: b.own,
         last: b.last,
+    }
+}
+
+// A slot of another kind.
+pub(crate) fn of_kind(x: Slot, kind: u8) -> Slot
+    ensures { λ r. ⌜ r ≡ ofKind kind x ⌝ }
+{
+    Slot {
+        ticket: x.ticket,
+        offset: x.offset,
+        phase: x.phase,
+        kind: kind,
+        device: x.device,
+        table: x.table,
+        count: x.count,
+        progress: x.progress,
+        sends: x.sends,
+        left: x.left,
     }
 }
 

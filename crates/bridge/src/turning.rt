@@ -1,4 +1,4 @@
-// A turn: every waiting read ages, and one ready slot sends its next frame.
+// A turn: every waiting slot ages, and one ready slot sends its next frame.
 use crate::Bridge;
 use crate::GAVE_UP;
 use crate::READY;
@@ -8,7 +8,7 @@ use crate::WAITING;
 use crate::Yielded;
 use crate::answers::lent_number;
 use crate::answers::plain;
-use crate::progress::advanced;
+use crate::progress::carried;
 use crate::search::next_ready;
 use crate::sending::sent_frame;
 use crate::state::asks;
@@ -20,7 +20,7 @@ ghost use mathlib.Core.Bool.{true};
 ghost use mathlib.Core.Option.{some};
 ghost use lib.ListN.{length};
 ghost use Rattle.bridge_rules.specs.State.{waiting, slot, sound, isReady};
-ghost use Rattle.bridge_rules.specs.Answers.{steppedOf};
+ghost use Rattle.bridge_rules.specs.Answers.{both, steppedOf};
 ghost use Rattle.bridge_rules.specs.Turn.{aged, agedBridge, sentSlot, sendFor, turnOf};
 
 // A waiting slot one turn older.
@@ -37,7 +37,7 @@ fn aged(x: Slot) -> Slot
     moved(x, GAVE_UP, x.progress, x.sends, 0)
 }
 
-// The bridge with every waiting read one turn older. It starts at the slot last served only for speed: with a constant start the compiler
+// The bridge with every waiting slot one turn older. It starts at the slot last served only for speed: with a constant start the compiler
 // takes the array apart.
 fn aged_bridge(b: Bridge) -> Bridge
     ensures { λ r. ⌜ r ≡ agedBridge b ⌝ }
@@ -57,7 +57,8 @@ fn aged_bridge(b: Bridge) -> Bridge
     with_slots(b, slots)
 }
 
-// A slot that sent: a read waits, a write is ready for the next or done.
+// A slot that sent: a read, or a checked write that reads back, waits; a write is ready for the next or done, a checked write for the
+// next or to read back.
 fn sent_slot(x: Slot) -> Slot
     requires { ⌜ x .sends ≤ 2 ⌝ }
     ensures { λ r. ⌜ r ≡ sentSlot x ⌝ }
@@ -65,17 +66,18 @@ fn sent_slot(x: Slot) -> Slot
     if asks(x.kind) {
         return moved(x, WAITING, x.progress, x.sends + 1, 20);
     }
-    advanced(x)
+    carried(x)
 }
 
 // Sends for the ready slot k.
-fn send_for(b: Bridge, k: usize, buffer: &[u8]) -> Stepped
-    requires { ⌜ (sound b ≡ true) × (k < 4) × (isReady (slot b k .phase) ≡ true) × (length (now buffer) ≡ 512) ⌝ }
-    ensures { λ r. ⌜ r ≡ steppedOf (sendFor b (now (buffer .entry)) (some k)) ⌝ }
+fn send_for(b: Bridge, k: usize, first: &[u8], second: &[u8]) -> Stepped
+    requires { ⌜ (sound b ≡ true) × (k < 4) × (isReady (slot b k .phase) ≡ true) × (length (now first) ≡ 512)
+        × (length (now second) ≡ 512) ⌝ }
+    ensures { λ r. ⌜ r ≡ steppedOf (sendFor b (both (now (first .entry)) (now (second .entry))) (some k)) ⌝ }
 {
     let mut slots = b.slots;
     let x = slots[k];
-    let frame = sent_frame(b.own, k, x, buffer);
+    let frame = sent_frame(b.own, k, x, first, second);
     let y = sent_slot(x);
     slots[k] = y;
     let t = Bridge {
@@ -95,11 +97,11 @@ fn send_for(b: Bridge, k: usize, buffer: &[u8]) -> Stepped
     }
 }
 
-// One turn: every waiting read ages, then the first ready slot after the one last served sends.
-pub fn turn(b: Bridge, buffer: &[u8]) -> Stepped
-    ensures { λ r. ⌜ r ≡ steppedOf (turnOf b (now (buffer .entry))) ⌝ }
+// One turn: every waiting slot ages, then the first ready slot after the one last served sends.
+pub fn turn(b: Bridge, first: &[u8], second: &[u8]) -> Stepped
+    ensures { λ r. ⌜ r ≡ steppedOf (turnOf b (both (now (first .entry)) (now (second .entry)))) ⌝ }
 {
-    let n = lent_number(b, buffer.len());
+    let n = lent_number(b, first.len(), second.len());
     if n != 0 {
         return plain(b, n);
     }
@@ -108,5 +110,5 @@ pub fn turn(b: Bridge, buffer: &[u8]) -> Stepped
     if k == 4 {
         return plain(a, 0);
     }
-    send_for(a, k, buffer)
+    send_for(a, k, first, second)
 }

@@ -4,7 +4,7 @@ use Rattle.bridge.proofs.incoming.judge_reply.Tie as tie
 use mathlib.Core.Path.{sym, _∙_}
 use Rattle.wire.proofs.Orders.{order}
 use Rattle.bridge_rules.specs.Incoming.{replyNumber}
-use Rattle.bridge_rules.proofs.NumberLaws.{lent-ok}
+use Rattle.bridge.proofs.Replies.{lent-sound}
 
 lent-number-requires : tie.Need-lent-number-requires
 lent-number-requires c κs = search needs
@@ -15,7 +15,7 @@ returns c = (search order depth 12, λ e. absurd (c .if1 .taken e))
 
 judge-content-requires : tie.Need-judge-content-requires
 judge-content-requires c κs =
-    lent-ok (c .before .before .args .b) _ (sym (c .before .lent-number .ensures) ∙ c .if1 .left) .0
+    lent-sound (c .before .before .args .b) _ (sym (c .before .lent-number .ensures) ∙ c .if1 .left)
 
 returns-2 : tie.Need-returns-2
 unfolding replyNumber

@@ -1,69 +1,108 @@
 use borrow.Author.Needs.{needs}
 use Rattle.bridge.proofs.soundness.sound_phase.Statement.{statement}
 use Rattle.bridge.proofs.soundness.sound_phase.Tie as tie
-use borrow.Author.Tests.{eq-eqb, ne-eqb}
-use Rattle.bridge_rules.specs.State.{soundPhase}
+use Prim.Native.Nat.{_%_}
+use mathlib.Core.Path.{_≡_, sym}
+use mathlib.Core.Bool.{true, and-true, and-false}
+use lib.Dec.{eqb}
+use native.Mathlib.Omega.{arith}
+use borrow.Author.Tests.{lt-ltb, le-ltb, eq-eqb, ne-eqb}
+use Rattle.bridge_rules.specs.State.{partway, soundPhase}
+use Rattle.bridge.proofs.SoundTests.{not-partway, turns-left}
 
-most-sends-requires : tie.Need-most-sends-requires
-most-sends-requires c κs = search needs
+sound-done-requires : tie.Need-sound-done-requires
+sound-done-requires c κs = search needs
 
 returns : tie.Need-returns
 unfolding soundPhase
-returns c = rw (c .before .before .most-sends .ensures, eq-eqb _ 1 (c .before .before .before .if1 .taken))
-
-asks-requires : tie.Need-asks-requires
-asks-requires c κs = search needs
+returns c = rw (c .sound-done .ensures, c .before .if1 .taken)
 
 returns-2 : tie.Need-returns-2
-unfolding soundPhase
-returns-2 c =
-    let second = c .before .before .before .before .before in
-    let first = second .before .before in
-    rw (c .before .before .before .before .asks .ensures, ne-eqb _ 1 (first .if1 .left), eq-eqb _ 2 (second .if2 .taken))
+returns-2 c = sym (not-partway _ _ _ _ _ _ (c .before .before .if1 .left) (rw (ne-eqb _ 0 (c .if2 .taken))))
 
 returns-3 : tie.Need-returns-3
-unfolding soundPhase
 returns-3 c =
-    let third = c .before .before .before in
-    let second = third .before .before in
-    let first = second .before .before in
-    rw (ne-eqb _ 1 (first .if1 .left), ne-eqb _ 2 (second .if2 .left), eq-eqb _ 3 (third .if3 .taken))
+    let first = c .before .before .before .before in
+    let x = first .before .before .args .x in
+    sym (not-partway _ _ _ _ _ _ (first .if1 .left) (rw (le-ltb (x .progress) (x .count) (omega (arith, c .if3 .taken)), and-false)))
 
-asks-requires-2 : tie.Need-asks-requires-2
-asks-requires-2 c κs = search needs
+-- past both tests of the progress
+goes-on : (c : tie.Else3) → let x = c .before .before .before .before .before .before .args .x in partway (x .count) (x .progress) ≡ true
+goes-on c =
+    let x = c .before .before .before .before .before .before .args .x in
+    rw (eq-eqb (x .progress % 8) 0 (c .before .before .if2 .left), lt-ltb (x .progress) (x .count) (omega (arith, c .if3 .left)))
+
+sound-ready-requires : tie.Need-sound-ready-requires
+sound-ready-requires c κs = search needs
 
 returns-4 : tie.Need-returns-4
 unfolding soundPhase
-returns-4 c =
-    let fourth = c .before .before .before in
-    let third = fourth .before .before in
-    let second = third .before .before in
-    let first = second .before .before in
-    rw (
-      c .before .before .asks2 .ensures,
-      ne-eqb _ 1 (first .if1 .left),
-      ne-eqb _ 2 (second .if2 .left),
-      ne-eqb _ 3 (third .if3 .left),
-      eq-eqb _ 4 (fourth .if4 .taken),
-    )
+returns-4 c = rw (c .sound-ready .ensures, goes-on (c .before .before .before), c .before .if4 .taken)
+
+sound-waiting-requires : tie.Need-sound-waiting-requires
+sound-waiting-requires c κs = search needs
 
 returns-5 : tie.Need-returns-5
 unfolding soundPhase
 returns-5 c =
-    let third = c .before .before in
-    let second = third .before .before in
-    let first = second .before .before in
-    rw (ne-eqb _ 1 (first .if1 .left), ne-eqb _ 2 (second .if2 .left), ne-eqb _ 3 (third .if3 .left), ne-eqb _ 4 (c .if4 .left))
+    let fourth = c .before .before .before in
+    rw (c .sound-waiting .ensures, goes-on (fourth .before .before), c .before .if5 .taken)
+
+returns-6 : tie.Need-returns-6
+returns-6 c = sym (turns-left _ _ _ _ _ _ (c .before .before .if5 .left) (c .if6 .taken))
+
+-- with no turns left
+rests : (c : tie.Else6) → let x = c .before .before .before .before .before .before .before .before .before .before .before .before .args .x in
+    (partway (x .count) (x .progress) ≡ true) × (eqb (x .left) 0 ≡ true)
+rests c = (goes-on (c .before .before .before .before .before .before), eq-eqb _ 0 (c .if6 .left))
+
+asks-requires : tie.Need-asks-requires
+asks-requires c κs = search needs
+
+returns-7 : tie.Need-returns-7
+unfolding soundPhase
+returns-7 c =
+    let sixth = rests (c .before .before .before .before) in
+    rw (c .before .asks .ensures, sixth .0, sixth .1, c .before .before .if7 .taken, and-true)
+
+compares-requires : tie.Need-compares-requires
+compares-requires c κs = search needs
+
+returns-8 : tie.Need-returns-8
+unfolding soundPhase
+returns-8 c =
+    let sixth = rests (c .before .before .before .before .before .before) in
+    rw (c .before .compares .ensures, sixth .0, sixth .1, c .before .before .if8 .taken, and-true)
+
+returns-9 : tie.Need-returns-9
+unfolding soundPhase
+returns-9 c =
+    let fifth = c .before .before .before .before .before .before in
+    let fourth = fifth .before .before in
+    let first = fourth .before .before .before .before .before .before in
+    rw (
+      ne-eqb _ 1 (fourth .if4 .left),
+      ne-eqb _ 2 (fifth .if5 .left),
+      ne-eqb _ 3 (first .if1 .left),
+      ne-eqb _ 4 (c .before .before .if7 .left),
+      ne-eqb _ 5 (c .if8 .left),
+    )
 
 pub sound-phase-spec : {M : Type 1} → statement M
 sound-phase-spec =
     tie.close
     (tie.spec
-    most-sends-requires
+    sound-done-requires
     returns
-    asks-requires
     returns-2
     returns-3
-    asks-requires-2
+    sound-ready-requires
     returns-4
-    returns-5)
+    sound-waiting-requires
+    returns-5
+    returns-6
+    asks-requires
+    returns-7
+    compares-requires
+    returns-8
+    returns-9)

@@ -15,5 +15,9 @@ returns-3 : tie.Need-returns-3
 unfolding phaseNumber
 returns-3 c = search order depth 12
 
+returns-4 : tie.Need-returns-4
+unfolding phaseNumber
+returns-4 c = search order depth 12
+
 pub phase-number-spec : {M : Type 1} → statement M
-phase-number-spec = tie.close (tie.spec returns returns-2 returns-3)
+phase-number-spec = tie.close (tie.spec returns returns-2 returns-3 returns-4)

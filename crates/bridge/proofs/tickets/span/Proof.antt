@@ -9,7 +9,7 @@ span-of-requires c κs = search needs
 returns : tie.Need-returns
 returns c =
     let a = c .before .before .args in
-    (c .span-of .ensures, span-fits (a .b) (a .buffer .now) (a .ticket) _ (c .span-of .ensures))
+    (c .span-of .ensures, span-fits (a .b) (a .first .now) (a .ticket) _ (c .span-of .ensures))
 
 pub span-spec : {M : Type 1} → statement M
 span-spec = tie.close (tie.spec span-of-requires returns)

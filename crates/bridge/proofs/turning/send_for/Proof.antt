@@ -16,15 +16,16 @@ array-copy-out-x c = search needs
 sent-frame-requires : tie.Need-sent-frame-requires
 unfolding slot
 sent-frame-requires c κs =
-    let s = c .before .before .before in
+    let s = c .before .before .before .before in
     let w = readies (s .args .b) (s .args .k) (s .pre .0) (s .pre .1) (s .pre .2) in
     let x = w .held .args in
-    (true-sound (s .args .b) (s .pre .0) .own, s .pre .1, x .device, x .table, w .partway .below, x .few, x .inside, s .pre .3)
+    let own = true-sound (s .args .b) (s .pre .0) .own in
+    (own, s .pre .1, x .device, x .table, w .partway .below, x .few, x .inside, s .pre .3, s .pre .4)
 
 sent-slot-requires : tie.Need-sent-slot-requires
 unfolding slot
 sent-slot-requires c κs =
-    let s = c .before .before .before .before in
+    let s = c .before .before .before .before .before in
     readies (s .args .b) (s .args .k) (s .pre .0) (s .pre .1) (s .pre .2) .sends
 
 mul-slots : tie.Need-mul-slots
@@ -33,8 +34,8 @@ mul-slots c = search needs
 array-set-from-slots : tie.Need-array-set-from-slots
 array-set-from-slots c = search needs
 
-cast-t17 : tie.Need-cast-t17
-cast-t17 c = search needs
+cast-t18 : tie.Need-cast-t18
+cast-t18 c = search needs
 
 returns : tie.Need-returns
 unfolding sendFor slot steppedOf
@@ -50,5 +51,5 @@ send-for-spec =
     sent-slot-requires
     mul-slots
     array-set-from-slots
-    cast-t17
+    cast-t18
     returns)
