@@ -27,8 +27,8 @@ PLAIN_DECLARE(gcc_O2_)
 #define LIBRARY_CALL static inline __attribute__((always_inline))
 LIBRARY_CALL void library_unpack(uint32_t id, hg_unpacked *out) { *out = hg_bus_unpack(id); }
 LIBRARY_CALL void library_serve(const hg_directory *d, uint8_t *memory, size_t len, const hg_frame *f, hg_served *out) { *out = hg_bus_serve(*d, memory, len, *f); }
-LIBRARY_CALL void library_turn(hg_bridge *b, const uint8_t *buffer, size_t len, hg_yielded *out) { *out = hg_bridge_turn_in_place(b, buffer, len); }
-LIBRARY_CALL void library_frame(hg_bridge *b, uint8_t *buffer, size_t len, const hg_frame *f, hg_yielded *out) { *out = hg_bridge_frame_in_place(b, buffer, len, *f); }
+LIBRARY_CALL void library_turn(hg_bridge *b, const uint8_t *first, size_t first_len, const uint8_t *second, size_t second_len, hg_yielded *out) { *out = hg_bridge_turn_in_place(b, first, first_len, second, second_len); }
+LIBRARY_CALL void library_frame(hg_bridge *b, uint8_t *first, size_t first_len, const uint8_t *second, size_t second_len, const hg_frame *f, hg_yielded *out) { *out = hg_bridge_frame_in_place(b, first, first_len, second, second_len, *f); }
 LIBRARY_CALL void library_read_header(const uint8_t *file, size_t len, hg_mlg_header *out) { *out = hg_mlg_read_header(file, len); }
 LIBRARY_CALL void library_read_block(const uint8_t *file, size_t len, uint16_t size, uint64_t earlier, size_t place, hg_mlg_block *out) { *out = hg_mlg_read_block(file, len, size, earlier, place); }
 LIBRARY_CALL hg_written library_list(uint8_t *out, size_t len, const uint8_t *file, size_t file_len) { return hg_mlg_list(out, len, file, file_len); }
@@ -91,9 +91,16 @@ enum { IDS = 4096, FRAMES = 256, BRIDGES = 256, HEADERS = 16, ROOM = 1 << 20 };
 static uint32_t ids[IDS];
 static hg_directory directory;
 static uint8_t memory[32768], memory_start[32768];
-static hg_frame commands[FRAMES], requests[FRAMES], replies[BRIDGES];
-static hg_bridge bridges[BRIDGES], turn_start[BRIDGES], frame_start[BRIDGES];
-static uint8_t buffer[HG_BUFFER], buffer_start[HG_BUFFER];
+static hg_frame commands[FRAMES], requests[FRAMES];
+static hg_bridge bridges[BRIDGES];
+static uint8_t first[HG_BUFFER], first_start[HG_BUFFER], second[HG_BUFFER], second_start[HG_BUFFER];
+
+/* A busy bridge's states, before a turn and before a frame that it awaits: of reads and writes, and of checked writes. */
+typedef struct {
+    hg_bridge before_turn[BRIDGES], before_frame[BRIDGES];
+    hg_frame replies[BRIDGES];
+} busy;
+static busy plain_transfers, checked_writes;
 static uint8_t *logs[2];
 static size_t log_lens[2];
 static const uint16_t log_sizes[2] = {32, 512};
@@ -129,47 +136,66 @@ static void make_bus_inputs(void)
     }
 }
 
-/* Opens transfers in free slots, reads and writes by turns. */
-static void open_some(hg_bridge *b)
+/* Opens transfers in free slots: reads and writes by turns, or checked writes, which all send the same bytes, so that the second buffer fits each. */
+static void open_some(hg_bridge *b, bool checked)
 {
     uint8_t bytes[HG_MOST];
     for (int i = 0; i < HG_MOST; i++)
-        bytes[i] = (uint8_t)random_number();
+        bytes[i] = checked ? (uint8_t)(7 * i + 3) : (uint8_t)random_number();
     for (int i = 0; i < 4; i++) {
         size_t count = 1 + random_number() % HG_MOST;
         uint16_t offset = (uint16_t)(random_number() % 1900);
-        hg_opened o = random_number() % 2 ? hg_bridge_open_read(*b, buffer_start, HG_BUFFER, 5, 7, offset, count)
-                                          : hg_bridge_open_write(*b, buffer_start, HG_BUFFER, 5, 7, offset, bytes, count);
+        hg_opened o;
+        if (checked)
+            o = hg_bridge_open_check(*b, first_start, HG_BUFFER, second_start, HG_BUFFER, 5, 7, offset, bytes, count);
+        else if (random_number() % 2)
+            o = hg_bridge_open_read(*b, first_start, HG_BUFFER, second_start, HG_BUFFER, 5, 7, offset, count);
+        else
+            o = hg_bridge_open_write(*b, first_start, HG_BUFFER, second_start, HG_BUFFER, 5, 7, offset, bytes, count);
         *b = o.bridge;
     }
 }
 
-/* The states of a busy bridge, before a turn and before a frame that a read awaits. */
-static void make_bridge_inputs(void)
+/* The reply that the slot last served awaits; to a checked write it mostly brings back what that sent. */
+static hg_frame awaited(const hg_bridge *b)
+{
+    const hg_slot *s = &b->slots[b->last];
+    unsigned left = s->count - s->progress, place = 128u * b->last + s->progress;
+    hg_parts parts = {(uint16_t)place, HG_RSP, s->device, 0, 6};
+    hg_frame f = {hg_bus_pack(parts).id, (uint8_t)(left < 8 ? left : 8), {1, 2, 3, 4, 5, 6, 7, 8}};
+    if (s->kind == HG_READ_BACK && random_number() % 16 != 0)
+        memcpy(f.bytes, second_start + place, f.len);
+    return f;
+}
+
+static void make_busy(busy *out, bool checked)
 {
     hg_bridge b = hg_bridge_reset((hg_bridge){0}, 0).bridge;
     int turns = 0, frames = 0;
     while (turns < BRIDGES || frames < BRIDGES) {
         for (int i = 0; i < 4; i++)
-            if (b.slots[i].phase == HG_PHASE_DONE || b.slots[i].phase == HG_PHASE_GAVE_UP)
+            if (b.slots[i].phase >= HG_PHASE_DONE)
                 b = hg_bridge_close(b, b.slots[i].ticket).bridge;
-        open_some(&b);
+        open_some(&b, checked);
         if (turns < BRIDGES)
-            turn_start[turns++] = b;
-        hg_stepped t = hg_bridge_turn(b, buffer_start, HG_BUFFER);
+            out->before_turn[turns++] = b;
+        hg_stepped t = hg_bridge_turn(b, first_start, HG_BUFFER, second_start, HG_BUFFER);
         b = t.bridge;
-        const hg_slot *s = &b.slots[b.last];
-        if (!t.answer.frames || s->kind != HG_READ || random_number() % 4 == 0)
+        if (!t.answer.frames || b.slots[b.last].phase != HG_PHASE_WAITING || random_number() % 4 == 0)
             continue;
-        unsigned left = s->count - s->progress;
-        hg_parts parts = {(uint16_t)(128 * b.last + s->progress), HG_RSP, s->device, 0, 6};
-        hg_frame f = {hg_bus_pack(parts).id, (uint8_t)(left < 8 ? left : 8), {1, 2, 3, 4, 5, 6, 7, 8}};
+        hg_frame f = awaited(&b);
         if (frames < BRIDGES) {
-            replies[frames] = f;
-            frame_start[frames++] = b;
+            out->replies[frames] = f;
+            out->before_frame[frames++] = b;
         }
-        b = hg_bridge_frame(b, buffer_start, HG_BUFFER, f).bridge;
+        b = hg_bridge_frame(b, first_start, HG_BUFFER, second_start, HG_BUFFER, f).bridge;
     }
+}
+
+static void make_bridge_inputs(void)
+{
+    make_busy(&plain_transfers, false);
+    make_busy(&checked_writes, true);
 }
 
 /* A log of data blocks and, one in a hundred, marks; without a header. */
@@ -248,14 +274,20 @@ static void make_log_inputs(size_t bytes)
 static volatile uint64_t sink;
 
 static void restore_memory(void) { memcpy(memory, memory_start, sizeof memory); }
-static void restore_turn(void) { memcpy(bridges, turn_start, sizeof bridges); }
-static void restore_frame(void)
+static void restore_bridges(const hg_bridge *start)
 {
-    memcpy(bridges, frame_start, sizeof bridges);
-    memcpy(buffer, buffer_start, sizeof buffer);
+    memcpy(bridges, start, sizeof bridges);
+    memcpy(first, first_start, sizeof first);
+    memcpy(second, second_start, sizeof second);
 }
+static void restore_turn(void) { restore_bridges(plain_transfers.before_turn); }
+static void restore_frame(void) { restore_bridges(plain_transfers.before_frame); }
+static void restore_check_turn(void) { restore_bridges(checked_writes.before_turn); }
+static void restore_check_frame(void) { restore_bridges(checked_writes.before_frame); }
 static void restore_list(void) { memset(listed, 0, sizeof listed); }
 static void restore_nothing(void) {}
+
+static uint64_t buffers_digest(uint64_t h) { return mixed_bytes(mixed_bytes(h, first, sizeof first), second, sizeof second); }
 
 #define BODY static inline __attribute__((always_inline)) uint64_t
 #define DEFINE_BODIES(V) \
@@ -290,25 +322,28 @@ static void restore_nothing(void) {}
         uint64_t a = 0; \
         for (int i = 0; i < BRIDGES; i++) { \
             hg_yielded s; \
-            V##_turn(&bridges[i], buffer_start, HG_BUFFER, &s); \
+            V##_turn(&bridges[i], first, HG_BUFFER, second, HG_BUFFER, &s); \
             a += s.number + s.frame.id; \
             if (check) \
                 a = bridge_digest(answer_digest(a, s.number, s.frames, &s.frame), &bridges[i]); \
         } \
-        return a; \
+        return check ? buffers_digest(a) : a; \
     } \
-    BODY frame_body_##V(bool check) \
+    BODY check_turn_body_##V(bool check) { return turn_body_##V(check); } \
+    BODY frames_##V(const hg_frame *replies, bool check) \
     { \
         uint64_t a = 0; \
         for (int i = 0; i < BRIDGES; i++) { \
             hg_yielded s; \
-            V##_frame(&bridges[i], buffer, HG_BUFFER, &replies[i], &s); \
+            V##_frame(&bridges[i], first, HG_BUFFER, second, HG_BUFFER, &replies[i], &s); \
             a += s.number; \
             if (check) \
                 a = bridge_digest(answer_digest(a, s.number, s.frames, &s.frame), &bridges[i]); \
         } \
-        return check ? mixed_bytes(a, buffer, sizeof buffer) : a; \
+        return check ? buffers_digest(a) : a; \
     } \
+    BODY frame_body_##V(bool check) { return frames_##V(plain_transfers.replies, check); } \
+    BODY check_frame_body_##V(bool check) { return frames_##V(checked_writes.replies, check); } \
     BODY log_body_##V(int log, bool check) \
     { \
         uint64_t a = 0; \
@@ -357,6 +392,8 @@ DEFINE_TEST_BATCHES(command)
 DEFINE_TEST_BATCHES(request)
 DEFINE_TEST_BATCHES(turn)
 DEFINE_TEST_BATCHES(frame)
+DEFINE_TEST_BATCHES(check_turn)
+DEFINE_TEST_BATCHES(check_frame)
 DEFINE_TEST_BATCHES(log32)
 DEFINE_TEST_BATCHES(log512)
 DEFINE_TEST_BATCHES(header)
@@ -378,6 +415,8 @@ static test tests[] = {
     {"request", "serve a REQ", restore_memory, FRAMES, 8000, RUNS(request), CHECKS(request)},
     {"turn", "turn in place", restore_turn, BRIDGES, 8000, RUNS(turn), CHECKS(turn)},
     {"frame", "frame in place", restore_frame, BRIDGES, 8000, RUNS(frame), CHECKS(frame)},
+    {"check_turn", "turn, checked writes", restore_check_turn, BRIDGES, 8000, RUNS(check_turn), CHECKS(check_turn)},
+    {"check_frame", "frame, checked writes", restore_check_frame, BRIDGES, 8000, RUNS(check_frame), CHECKS(check_frame)},
     {"log32", "block of 32 bytes", restore_nothing, 0, 100, RUNS(log32), CHECKS(log32)},
     {"log512", "block of 512 bytes", restore_nothing, 0, 100, RUNS(log512), CHECKS(log512)},
     {"header", "header, 200 fields", restore_nothing, HEADERS, 3000, RUNS(header), CHECKS(header)},

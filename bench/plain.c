@@ -160,32 +160,37 @@ void PLAIN(serve)(const hg_directory *d, uint8_t *memory, size_t len, const hg_f
 
 /* ---- Bridge ---- */
 
+/* A read, or a checked write that reads back. */
+static bool asks(const hg_slot *s) { return s->kind % 2 == 0; }
+
 static bool sound_slot(const hg_slot *s, uint32_t issued)
 {
     static const hg_slot none;
     if (s->phase == HG_PHASE_FREE)
         return memcmp(s, &none, offsetof(hg_slot, left) + 1) == 0;
-    if (s->kind > 1 || s->ticket < 1 || s->ticket > issued || s->device > 15 || s->table > 31)
+    if (s->kind > 3 || s->ticket < 1 || s->ticket > issued || s->device > 15 || s->table > 31)
         return false;
     if (s->count < 1 || s->count > 128 || s->offset + s->count > 2048)
         return false;
     if (s->phase == HG_PHASE_DONE)
-        return s->progress == s->count && s->sends == 0 && s->left == 0;
+        return s->kind != HG_CHECK && s->progress == s->count && s->sends == 0 && s->left == 0;
     if (s->progress % 8 != 0 || s->progress >= s->count)
         return false;
     switch (s->phase) {
     case HG_PHASE_READY:
-        return s->sends <= (s->kind == HG_READ ? 2 : 0) && s->left == 0;
+        return s->sends <= (asks(s) ? 2 : 0) && s->left == 0;
     case HG_PHASE_WAITING:
-        return s->kind == HG_READ && s->sends >= 1 && s->sends <= 3 && s->left >= 1 && s->left <= 20;
+        return asks(s) && s->sends >= 1 && s->sends <= 3 && s->left >= 1 && s->left <= 20;
     case HG_PHASE_GAVE_UP:
-        return s->kind == HG_READ && s->sends == 3 && s->left == 0;
+        return asks(s) && s->sends == 3 && s->left == 0;
+    case HG_PHASE_DIFFERENT:
+        return s->kind == HG_READ_BACK && s->sends == 0 && s->left == 0;
     }
     return false;
 }
 
 /* 11 and 10, or 0. */
-static uint8_t bridge_number(const hg_bridge *b, size_t len)
+static uint8_t bridge_number(const hg_bridge *b, size_t first_len, size_t second_len)
 {
     if (b->own > 15 || b->last > 3)
         return 11;
@@ -196,7 +201,7 @@ static uint8_t bridge_number(const hg_bridge *b, size_t len)
         for (int j = i + 1; j < 4; j++)
             if (b->slots[i].ticket != 0 && b->slots[i].ticket == b->slots[j].ticket)
                 return 11;
-    return len == HG_BUFFER ? 0 : 10;
+    return first_len == HG_BUFFER && second_len == HG_BUFFER ? 0 : 10;
 }
 
 static unsigned next_len(const hg_slot *s)
@@ -232,20 +237,34 @@ static void no_yield(hg_yielded *out, uint8_t number)
     *out = (hg_yielded){number, 0, {0, 0, {0}}};
 }
 
-static void send(hg_bridge *b, unsigned k, const uint8_t *buffer, hg_yielded *out)
+/* A checked write past its last CMD reads back from its start. */
+static void advance_check(hg_slot *s)
+{
+    advance(s);
+    if (s->phase == HG_PHASE_DONE) {
+        s->kind = HG_READ_BACK;
+        s->phase = HG_PHASE_READY;
+        s->progress = 0;
+    }
+}
+
+static void send(hg_bridge *b, unsigned k, const uint8_t *first, const uint8_t *second, hg_yielded *out)
 {
     hg_slot *s = &b->slots[k];
-    unsigned count = next_len(s), kind = s->kind == HG_WRITE ? HG_CMD : HG_REQ;
+    unsigned count = next_len(s), kind = asks(s) ? HG_REQ : HG_CMD;
     out->number = 0;
     out->frames = 1;
     out->frame.id = id_of(s->offset + s->progress, kind, b->own, s->device, s->table);
     b->last = (uint8_t)k;
-    if (s->kind == HG_WRITE) {
-        const uint8_t *bytes = buffer + 128 * k + s->progress;
+    if (!asks(s)) {
+        const uint8_t *bytes = (s->kind == HG_WRITE ? first : second) + 128 * k + s->progress;
         out->frame.len = (uint8_t)count;
         for (unsigned i = 0; i < 8; i++)
             out->frame.bytes[i] = i < count ? bytes[i] : 0;
-        advance(s);
+        if (s->kind == HG_WRITE)
+            advance(s);
+        else
+            advance_check(s);
     } else {
         const uint8_t bytes[8] = {6, (uint8_t)(16 * k + s->progress / 8), (uint8_t)count, 0, 0, 0, 0, 0};
         out->frame.len = 3;
@@ -256,9 +275,9 @@ static void send(hg_bridge *b, unsigned k, const uint8_t *buffer, hg_yielded *ou
     }
 }
 
-void PLAIN(turn)(hg_bridge *b, const uint8_t *buffer, size_t len, hg_yielded *out)
+void PLAIN(turn)(hg_bridge *b, const uint8_t *first, size_t first_len, const uint8_t *second, size_t second_len, hg_yielded *out)
 {
-    uint8_t number = bridge_number(b, len);
+    uint8_t number = bridge_number(b, first_len, second_len);
     if (number != 0) {
         no_yield(out, number);
         return;
@@ -268,15 +287,15 @@ void PLAIN(turn)(hg_bridge *b, const uint8_t *buffer, size_t len, hg_yielded *ou
     for (unsigned i = 1; i <= 4; i++) {
         unsigned k = (b->last + i) % 4;
         if (b->slots[k].phase == HG_PHASE_READY) {
-            send(b, k, buffer, out);
+            send(b, k, first, second, out);
             return;
         }
     }
     no_yield(out, 0);
 }
 
-/* A reply's offset says whose it is: slot k's part of the buffer begins at 128 k. */
-static uint8_t take(hg_bridge *b, uint8_t *buffer, const hg_frame *f)
+/* A reply's offset says whose it is: slot k's part of a buffer begins at 128 k. */
+static uint8_t take(hg_bridge *b, uint8_t *first, const uint8_t *second, const hg_frame *f)
 {
     unsigned offset = offset_of(f->id), k = offset / 128;
     if (kind_of(f->id) != HG_RSP)
@@ -286,18 +305,24 @@ static uint8_t take(hg_bridge *b, uint8_t *buffer, const hg_frame *f)
     hg_slot *s = &b->slots[k];
     if (s->phase != HG_PHASE_WAITING || s->device != from_of(f->id) || s->progress != offset % 128 || next_len(s) != f->len)
         return 17;
-    memcpy(buffer + offset, f->bytes, f->len);
+    if (s->kind == HG_READ_BACK && memcmp(second + offset, f->bytes, f->len) != 0) {
+        s->phase = HG_PHASE_DIFFERENT;
+        s->sends = 0;
+        s->left = 0;
+        return 0;
+    }
+    memcpy(first + offset, f->bytes, f->len);
     advance(s);
     return 0;
 }
 
-void PLAIN(frame)(hg_bridge *b, uint8_t *buffer, size_t len, const hg_frame *f, hg_yielded *out)
+void PLAIN(frame)(hg_bridge *b, uint8_t *first, size_t first_len, const uint8_t *second, size_t second_len, const hg_frame *f, hg_yielded *out)
 {
-    uint8_t number = bridge_number(b, len);
+    uint8_t number = bridge_number(b, first_len, second_len);
     if (number == 0)
         number = head_number(b->own, f);
     if (number == 0)
-        number = take(b, buffer, f);
+        number = take(b, first, second, f);
     no_yield(out, number);
 }
 

@@ -90,57 +90,97 @@ static hg_frame reply(uint16_t place, const char *bytes, uint8_t len) {
     return framed(parts, bytes, len);
 }
 
-/* A write of ten bytes in slot 0, ticket 1, and a read of twelve in slot 1, ticket 2. */
-static hg_bridge openings(uint8_t *buffer) {
-    uint8_t bytes[10];
-    hg_changed fresh = CALL(hg_bridge_reset, .b = {.issued = 7, .own = 8, .last = 2}, .own = 9);
-    hg_opened first, second;
-    CALL(hg_bridge_reset, .b = fresh.bridge, .own = 16);
-    fill(bytes, sizeof bytes, 200);
-    first = CALL(hg_bridge_open_write, .b = fresh.bridge, .buffer = buffer, .len = HG_BUFFER, .device = 4, .table = 21, .offset = 300,
-                 .bytes = bytes, .count = sizeof bytes);
-    CALL(hg_bridge_open_write, .b = first.bridge, .buffer = buffer, .len = HG_BUFFER, .device = 4, .table = 21, .offset = 2047,
-         .bytes = bytes, .count = sizeof bytes);
-    second = CALL(hg_bridge_open_read, .b = first.bridge, .buffer = buffer, .len = HG_BUFFER, .device = 5, .table = 22, .offset = 100,
-                  .count = 12);
-    CALL(hg_bridge_open_read, .b = first.bridge, .buffer = buffer, .len = HG_BUFFER, .device = 16, .table = 22, .offset = 100,
-         .count = 12);
-    CALL(hg_bridge_open_read, .b = first.bridge, .buffer = buffer, .len = HG_BUFFER, .device = 5, .table = 22, .offset = 100,
-         .count = 129);
-    return second.bridge;
+/* Both buffers of a bridge, and how they are lent with these lengths. */
+typedef struct {
+    uint8_t first[HG_BUFFER], second[HG_BUFFER];
+} buffers;
+#define LENT(n, m) .first = lent->first, .first_len = n, .second = lent->second, .second_len = m
+#define BOTH LENT(HG_BUFFER, HG_BUFFER)
+#define FIRST_SHORT LENT(HG_BUFFER - 1, HG_BUFFER)
+#define SECOND_SHORT LENT(HG_BUFFER, HG_BUFFER - 1)
+
+static void fill_both(buffers *lent) {
+    fill(lent->first, HG_BUFFER, 1);
+    fill(lent->second, HG_BUFFER, 60);
 }
 
+/* A write of ten bytes in slot 0, ticket 1; a read of twelve in slot 1, ticket 2; a checked write of ten in slot 2, ticket 3. */
+static hg_bridge openings(buffers *lent) {
+    uint8_t bytes[10];
+    hg_changed fresh = CALL(hg_bridge_reset, .b = {.issued = 7, .own = 8, .last = 2}, .own = 9);
+    hg_bridge one, two, three;
+    CALL(hg_bridge_reset, .b = fresh.bridge, .own = 16);
+    fill(bytes, 10, 200);
+    one = CALL(hg_bridge_open_write, .b = fresh.bridge, BOTH, .device = 4, .table = 21, .offset = 300, .bytes = bytes, .count = 10).bridge;
+    CALL(hg_bridge_open_write, .b = one, BOTH, .device = 4, .table = 21, .offset = 2047, .bytes = bytes, .count = 10);
+    CALL(hg_bridge_open_write, .b = one, SECOND_SHORT, .device = 4, .table = 21, .offset = 300, .bytes = bytes, .count = 10);
+    two = CALL(hg_bridge_open_read, .b = one, BOTH, .device = 5, .table = 22, .offset = 100, .count = 12).bridge;
+    CALL(hg_bridge_open_read, .b = one, BOTH, .device = 16, .table = 22, .offset = 100, .count = 12);
+    CALL(hg_bridge_open_read, .b = one, BOTH, .device = 5, .table = 22, .offset = 100, .count = 129);
+    CALL(hg_bridge_open_read, .b = one, FIRST_SHORT, .device = 5, .table = 22, .offset = 100, .count = 12);
+    CALL(hg_bridge_open_read, .b = one, SECOND_SHORT, .device = 5, .table = 22, .offset = 100, .count = 12);
+    fill(bytes, 10, 100);
+    three = CALL(hg_bridge_open_check, .b = two, BOTH, .device = 5, .table = 23, .offset = 200, .bytes = bytes, .count = 10).bridge;
+    CALL(hg_bridge_open_check, .b = two, BOTH, .device = 5, .table = 23, .offset = 2047, .bytes = bytes, .count = 10);
+    CALL(hg_bridge_open_check, .b = two, FIRST_SHORT, .device = 5, .table = 23, .offset = 200, .bytes = bytes, .count = 10);
+    return three;
+}
+
+/* A reply with what the checked write sent, from byte `at` on. */
+static hg_frame equal(uint8_t at, uint8_t len) {
+    uint8_t bytes[10];
+    fill(bytes, 10, 100);
+    return reply(256 + at, (const char *)bytes + at, len);
+}
+
+/* The read's second reply is the last, the checked write's second differs. */
 static void bridge_by_value(void) {
-    uint8_t buffer[HG_BUFFER];
+    buffers both, *lent = &both;
     hg_bridge b;
-    fill(buffer, sizeof buffer, 1);
-    b = openings(buffer);
-    for (int turn = 1; turn <= 3; turn++) b = CALL(hg_bridge_turn, .b = b, .buffer = buffer, .len = sizeof buffer).bridge;
-    CALL(hg_bridge_turn, .b = b, .buffer = buffer, .len = sizeof buffer - 1);
-    b = CALL(hg_bridge_frame, .b = b, .buffer = buffer, .len = sizeof buffer, .frame = reply(128, "a reply.", 8)).bridge;
-    CALL(hg_bridge_frame, .b = b, .buffer = buffer, .len = sizeof buffer, .frame = reply(128, "a reply.", 8));
-    b = CALL(hg_bridge_turn, .b = b, .buffer = buffer, .len = sizeof buffer).bridge;
+    fill_both(lent);
+    b = openings(lent);
+    for (int turn = 1; turn <= 6; turn++) b = CALL(hg_bridge_turn, .b = b, BOTH).bridge;
+    CALL(hg_bridge_turn, .b = b, FIRST_SHORT);
+    CALL(hg_bridge_turn, .b = b, SECOND_SHORT);
+    b = CALL(hg_bridge_frame, .b = b, BOTH, .frame = reply(128, "a reply.", 8)).bridge;
+    CALL(hg_bridge_frame, .b = b, BOTH, .frame = reply(128, "a reply.", 8));
+    CALL(hg_bridge_frame, .b = b, SECOND_SHORT, .frame = equal(0, 8));
+    b = CALL(hg_bridge_frame, .b = b, BOTH, .frame = equal(0, 8)).bridge;
+    b = CALL(hg_bridge_turn, .b = b, BOTH).bridge;
     CALL(hg_bridge_status, .b = b, .ticket = 2);
-    CALL(hg_bridge_span, .b = b, .buffer = buffer, .len = sizeof buffer, .ticket = 2);
-    b = CALL(hg_bridge_frame, .b = b, .buffer = buffer, .len = sizeof buffer, .frame = reply(136, "more", 4)).bridge;
+    CALL(hg_bridge_span, .b = b, .first = lent->first, .first_len = HG_BUFFER, .ticket = 2);
+    b = CALL(hg_bridge_frame, .b = b, BOTH, .frame = reply(136, "more", 4)).bridge;
     CALL(hg_bridge_status, .b = b, .ticket = 2);
+    CALL(hg_bridge_status, .b = b, .ticket = 4);
+    CALL(hg_bridge_span, .b = b, .first = lent->first, .first_len = HG_BUFFER, .ticket = 2);
+    CALL(hg_bridge_span, .b = b, .first = lent->first, .first_len = HG_BUFFER, .ticket = 1);
+    b = CALL(hg_bridge_turn, .b = b, BOTH).bridge;
     CALL(hg_bridge_status, .b = b, .ticket = 3);
-    CALL(hg_bridge_span, .b = b, .buffer = buffer, .len = sizeof buffer, .ticket = 2);
-    CALL(hg_bridge_span, .b = b, .buffer = buffer, .len = sizeof buffer, .ticket = 1);
+    b = CALL(hg_bridge_frame, .b = b, BOTH, .frame = reply(264, "no", 2)).bridge;
+    CALL(hg_bridge_status, .b = b, .ticket = 3);
+    CALL(hg_bridge_span, .b = b, .first = lent->first, .first_len = HG_BUFFER, .ticket = 3);
     b = CALL(hg_bridge_close, .b = b, .ticket = 1).bridge;
     CALL(hg_bridge_close, .b = b, .ticket = 1);
 }
 
+/* The checked write's replies are equal. */
 static void bridge_in_place(void) {
-    uint8_t buffer[HG_BUFFER];
+    buffers both, *lent = &both;
     hg_bridge b;
-    fill(buffer, sizeof buffer, 1);
-    b = openings(buffer);
-    for (int turn = 1; turn <= 3; turn++) CALL(hg_bridge_turn_in_place, .b = &b, .buffer = buffer, .len = sizeof buffer);
-    CALL(hg_bridge_turn_in_place, .b = &b, .buffer = buffer, .len = sizeof buffer - 1);
-    CALL(hg_bridge_frame_in_place, .b = &b, .buffer = buffer, .len = sizeof buffer, .frame = reply(128, "a reply.", 8));
-    CALL(hg_bridge_frame_in_place, .b = &b, .buffer = buffer, .len = sizeof buffer, .frame = reply(128, "a reply.", 8));
-    CALL(hg_bridge_turn_in_place, .b = &b, .buffer = buffer, .len = sizeof buffer);
+    fill_both(lent);
+    b = openings(lent);
+    for (int turn = 1; turn <= 6; turn++) CALL(hg_bridge_turn_in_place, .b = &b, BOTH);
+    CALL(hg_bridge_turn_in_place, .b = &b, FIRST_SHORT);
+    CALL(hg_bridge_turn_in_place, .b = &b, SECOND_SHORT);
+    CALL(hg_bridge_frame_in_place, .b = &b, BOTH, .frame = reply(128, "a reply.", 8));
+    CALL(hg_bridge_frame_in_place, .b = &b, BOTH, .frame = reply(128, "a reply.", 8));
+    CALL(hg_bridge_frame_in_place, .b = &b, SECOND_SHORT, .frame = equal(0, 8));
+    CALL(hg_bridge_frame_in_place, .b = &b, BOTH, .frame = equal(0, 8));
+    CALL(hg_bridge_turn_in_place, .b = &b, BOTH);
+    CALL(hg_bridge_turn_in_place, .b = &b, BOTH);
+    CALL(hg_bridge_frame_in_place, .b = &b, BOTH, .frame = equal(8, 2));
+    CALL(hg_bridge_status, .b = b, .ticket = 3);
+    CALL(hg_bridge_span, .b = b, .first = lent->first, .first_len = HG_BUFFER, .ticket = 3);
     CALL(hg_bridge_close_in_place, .b = &b, .ticket = 1);
     CALL(hg_bridge_close_in_place, .b = &b, .ticket = 1);
 }

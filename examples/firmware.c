@@ -2,8 +2,10 @@
  * A dash's main loop over the bridge, on a simulated bus.
  *
  * The dash (number 0) reads 128 bytes of table 7 of a device (number 5) and writes 20 bytes into its table 3. The bus loses
- * one reply, delivers another late, and carries frames of a third device (number 9). At the end the bytes that the
+ * one reply, delivers another late, and carries frames of a third device (number 9). Then the bytes that the
  * bridge shows are compared with the device's tables; the program exits 1 where they differ.
+ * Last come three checked writes: the device takes what it is sent, is unplugged, and misses a CMD. A plain write would be done in all
+ * three, since that means sent, no more.
  *
  *     gcc -std=c11 -Iinclude examples/firmware.c target/staticlib/libhoneygimlet.a -o target/firmware
  */
@@ -71,10 +73,19 @@ static void device_start(void)
         read_table[i] = (uint8_t)(i * 7 + 3);
 }
 
+static bool unplugged;  /* nothing reaches the device */
+static unsigned missed; /* which CMD from now on the device misses, counted from 1; 0: none */
+
 /* Serves a frame. The third reply is lost, the sixth arrives 25 turns late. */
 static void device_frame(unsigned turn, hg_frame frame)
 {
     static unsigned replies;
+    if (unplugged)
+        return;
+    if (missed && hg_bus_unpack(frame.id).parts.kind == HG_CMD && --missed == 0) {
+        printf("turn %3u  device  misses 0x%08" PRIX32 "\n", turn, frame.id);
+        return;
+    }
     hg_served served = hg_bus_serve(directory, memory, sizeof memory, frame);
     if (!served.frames)
         return;
@@ -107,10 +118,11 @@ static void other_turn(unsigned turn)
         other_sends(turn, (hg_parts){.offset = 0, .kind = HG_RSP, .from = OTHER, .to = 1, .table = 6}, 8);
 }
 
-/* ---- The dash: one bridge and its buffer, in the loop's own storage ---- */
+/* ---- The dash: one bridge and its two buffers, in the loop's own storage ---- */
 
 static hg_bridge bridge;
-static uint8_t buffer[HG_BUFFER];
+static uint8_t first[HG_BUFFER], second[HG_BUFFER]; /* the second has what checked writes send */
+static unsigned turn;
 
 static uint32_t opened(const char *what, hg_opened answer)
 {
@@ -123,9 +135,9 @@ static uint32_t opened(const char *what, hg_opened answer)
     return answer.ticket;
 }
 
-static void dash_turn(unsigned turn)
+static void dash_turn(void)
 {
-    hg_yielded sent = hg_bridge_turn_in_place(&bridge, buffer, sizeof buffer);
+    hg_yielded sent = hg_bridge_turn_in_place(&bridge, first, sizeof first, second, sizeof second);
     if (sent.number != 0) {
         printf("turn %3u  dash    the bridge is unsound, number %u\n", turn, sent.number);
         exit(1);
@@ -140,32 +152,92 @@ static void dash_turn(unsigned turn)
     bus_send(turn + 1, DASH, sent.frame);
 }
 
-static void dash_frame(unsigned turn, hg_frame frame)
+static void dash_frame(hg_frame frame)
 {
-    hg_yielded got = hg_bridge_frame_in_place(&bridge, buffer, sizeof buffer, frame);
+    hg_yielded got = hg_bridge_frame_in_place(&bridge, first, sizeof first, second, sizeof second, frame);
     if (got.number == 0)
         printf("turn %3u  dash    takes  0x%08" PRIX32 "\n", turn, frame.id);
     else
         printf("turn %3u  dash    refuses 0x%08" PRIX32 " with number %u\n", turn, frame.id, got.number);
 }
 
-static void loop_turn(unsigned turn)
+static void loop_turn(void)
 {
     bus_event event;
-    dash_turn(turn);
+    turn++;
+    dash_turn();
     other_turn(turn);
     while (bus_take(turn, &event)) {
         if (event.sender != DEVICE)
             device_frame(turn, event.frame);
         if (event.sender != DASH)
-            dash_frame(turn, event.frame);
+            dash_frame(event.frame);
     }
+}
+
+/* A read and a write at the same time; false where the device's tables are not what they should be. */
+static bool read_and_write(void)
+{
+    uint8_t text[WRITE_COUNT];
+    memcpy(text, "twenty bytes, no end", sizeof text);
+    uint32_t read = opened("read", hg_bridge_open_read(bridge, first, sizeof first, second, sizeof second, DEVICE, READ_TABLE, READ_OFFSET, READ_COUNT));
+    uint32_t write = opened("write", hg_bridge_open_write(bridge, first, sizeof first, second, sizeof second, DEVICE, WRITE_TABLE, WRITE_OFFSET,
+                                                          text, sizeof text));
+
+    /* A transfer ends within 72 turns for each started eight bytes. */
+    bool written = false;
+    while (hg_bridge_status(bridge, read) == HG_NOT_FINISHED || hg_bridge_status(bridge, write) == HG_NOT_FINISHED) {
+        loop_turn();
+        if (!written && hg_bridge_status(bridge, write) == HG_DONE) {
+            written = true;
+            printf("turn %3u  dash    the write is sent\n", turn);
+        }
+    }
+
+    hg_span shown = hg_bridge_span(bridge, first, sizeof first, read);
+    if (shown.number != 0) {
+        printf("turn %3u  dash    the read ended with number %u\n", turn, shown.number);
+        return false;
+    }
+    bool same = shown.len == READ_COUNT && memcmp(first + shown.start, read_table + READ_OFFSET, READ_COUNT) == 0;
+    bool stored = memcmp(write_table + WRITE_OFFSET, text, sizeof text) == 0;
+    printf("turn %3u  dash    the read is done: %zu bytes, %s\n", turn, shown.len, same ? "the table's" : "NOT the table's");
+    printf("          device  has %s\n", stored ? "the bytes written" : "NOT the bytes written");
+
+    uint8_t closed = hg_bridge_close_in_place(&bridge, read) | hg_bridge_close_in_place(&bridge, write);
+    printf("          dash    closes both, number %u\n", closed);
+    return same && stored && closed == 0;
+}
+
+/* How a checked write ended, by its status. */
+static const char *ending(uint8_t number)
+{
+    switch (number) {
+    case HG_DONE: return "is done, read back equal";
+    case HG_GAVE_UP: return "gave up, nobody answers";
+    case HG_DIFFERENT: return "was read back different";
+    default: return "ended";
+    }
+}
+
+/* A checked write, alone; false where it ends otherwise, or says done of bytes that the device does not have. */
+static bool check(const char *text, uint8_t expected)
+{
+    uint8_t bytes[12], number;
+    memcpy(bytes, text, sizeof bytes);
+    uint32_t ticket = opened("checked write", hg_bridge_open_check(bridge, first, sizeof first, second, sizeof second, DEVICE, WRITE_TABLE,
+                                                                   WRITE_OFFSET, bytes, sizeof bytes));
+    /* It ends within 76 turns for each started eight bytes. */
+    while ((number = hg_bridge_status(bridge, ticket)) == HG_NOT_FINISHED)
+        loop_turn();
+    bool stored = memcmp(write_table + WRITE_OFFSET, bytes, sizeof bytes) == 0;
+    printf("turn %3u  dash    the checked write %s: number %u\n", turn, ending(number), number);
+    printf("          device  has %s\n", stored ? "the bytes" : "other bytes");
+    return number == expected && stored == (number == HG_DONE) && hg_bridge_close_in_place(&bridge, ticket) == 0;
 }
 
 int main(void)
 {
-    uint8_t text[WRITE_COUNT];
-    memcpy(text, "twenty bytes, no end", sizeof text);
     device_start();
     hg_changed fresh = hg_bridge_reset(bridge, DASH);
     if (fresh.number != 0) {
@@ -173,32 +245,14 @@ int main(void)
         return 1;
     }
     bridge = fresh.bridge;
-
-    uint32_t read = opened("read", hg_bridge_open_read(bridge, buffer, sizeof buffer, DEVICE, READ_TABLE, READ_OFFSET, READ_COUNT));
-    uint32_t write = opened("write", hg_bridge_open_write(bridge, buffer, sizeof buffer, DEVICE, WRITE_TABLE, WRITE_OFFSET, text, sizeof text));
-
-    /* A transfer ends within 72 turns for each started eight bytes. */
-    unsigned turn = 0;
-    bool written = false;
-    while (hg_bridge_status(bridge, read) == HG_NOT_FINISHED || hg_bridge_status(bridge, write) == HG_NOT_FINISHED) {
-        loop_turn(++turn);
-        if (!written && hg_bridge_status(bridge, write) == HG_DONE) {
-            written = true;
-            printf("turn %3u  dash    the write is sent\n", turn);
-        }
-    }
-
-    hg_span shown = hg_bridge_span(bridge, buffer, sizeof buffer, read);
-    if (shown.number != 0) {
-        printf("turn %3u  dash    the read ended with number %u\n", turn, shown.number);
+    if (!read_and_write() || !check("fuel map one", HG_DONE))
         return 1;
-    }
-    bool same = shown.len == READ_COUNT && memcmp(buffer + shown.start, read_table + READ_OFFSET, READ_COUNT) == 0;
-    bool stored = memcmp(write_table + WRITE_OFFSET, text, sizeof text) == 0;
-    printf("turn %3u  dash    the read is done: %zu bytes, %s\n", turn, shown.len, same ? "the table's" : "NOT the table's");
-    printf("          device  has %s\n", stored ? "the bytes written" : "NOT the bytes written");
-
-    uint8_t closed = hg_bridge_close_in_place(&bridge, read) | hg_bridge_close_in_place(&bridge, write);
-    printf("          dash    closes both, number %u\n", closed);
-    return same && stored && closed == 0 ? 0 : 1;
+    puts("          device  is unplugged");
+    unplugged = true;
+    if (!check("fuel map two", HG_GAVE_UP))
+        return 1;
+    puts("          device  is plugged in again");
+    unplugged = false;
+    missed = 2;
+    return check("fuel map six", HG_DIFFERENT) ? 0 : 1;
 }

@@ -14,7 +14,7 @@
  * that a call takes at most, beside its arguments, its answer and what memcpy takes (the first row that fits):
  *
  *   hg_bus_*                                  nothing                               180
- *   hg_bridge_*                               nothing                               664
+ *   hg_bridge_*                               nothing                               669
  *   hg_mlg_read_block                         record length                          88
  *   hg_mlg_write_data                         record length                          16
  *   hg_mlg_write_mark, hg_mlg_*_value         nothing                                88
@@ -61,7 +61,8 @@ enum {
     HG_UNKNOWN_TICKET = 14,  /* ticket unknown */
     HG_NOT_FINISHED = 15,    /* not finished */
     HG_GAVE_UP = 16,         /* gave up */
-    HG_NO_MATCH = 17,        /* reply matches no waiting read */
+    HG_NO_MATCH = 17,        /* reply matches no waiting read, nor a checked write that reads back */
+    HG_DIFFERENT = 18,       /* read back different */
     HG_CUT_SHORT = 20,       /* file or block cut short */
     HG_WRONG_NAME = 21,      /* wrong name */
     HG_VERSION = 22,         /* version not served */
@@ -173,9 +174,16 @@ hg_served hg_bus_serve(hg_directory directory, uint8_t *memory, size_t len, hg_f
 
 /* ---- Bridge ---- */
 
-/* Phases of a slot, and kinds of transfers. */
-enum { HG_PHASE_FREE = 0, HG_PHASE_READY = 1, HG_PHASE_WAITING = 2, HG_PHASE_DONE = 3, HG_PHASE_GAVE_UP = 4 };
-enum { HG_READ = 0, HG_WRITE = 1 };
+/* Phases of a slot, and kinds of transfers: a checked write is of kind HG_CHECK while it sends, then of kind HG_READ_BACK. */
+enum {
+    HG_PHASE_FREE = 0,
+    HG_PHASE_READY = 1,
+    HG_PHASE_WAITING = 2,
+    HG_PHASE_DONE = 3,
+    HG_PHASE_GAVE_UP = 4,
+    HG_PHASE_DIFFERENT = 5
+};
+enum { HG_READ = 0, HG_WRITE = 1, HG_READ_BACK = 2, HG_CHECK = 3 };
 
 /* A slot: free (all 0), or held by a transfer. Only the calls write it; a state that is not sound is refused with 11. */
 typedef struct {
@@ -186,15 +194,26 @@ typedef struct {
     uint8_t device;
     uint8_t table;
     uint8_t count;    /* bytes of the transfer, 1..128 */
-    uint8_t progress; /* bytes of it that are done */
+    uint8_t progress; /* bytes of it that are done; of a checked write, sent or then read back */
     uint8_t sends;    /* sends of the current request */
-    uint8_t left;     /* turns until a waiting read is ready again or has given up */
+    uint8_t left;     /* turns until a waiting slot is ready again or has given up */
 } hg_slot;
 HG_SIZE(hg_slot, 16);
 
 /*
  * A bridge. Declare it `= {0}` and reset it; any content gets a lawful answer, but C leaves a struct that was never set undefined.
- * Its buffer has HG_BUFFER bytes, 128 for each slot; nobody else writes it, and its bytes before the first reset do not matter.
+ * It has two buffers of HG_BUFFER bytes each, 128 for each slot, which do not overlap; every opening, turn and frame takes both. The first
+ * has what reads and checked writes bring back and what writes send; the second what checked writes send, to compare it with what comes
+ * back: only hg_bridge_open_check writes it. Nobody else writes either: lend the same two to every call, as the call before left them. Their bytes
+ * before the first reset do not matter. A bridge without checked writes takes a second buffer all the same.
+ *
+ * A write is done once it is sent: a box that is unplugged does not change that. A checked write sends the same CMDs, then reads
+ * the same bytes back with REQs as a read does, eight at a time, and compares. It ends as done (HG_DONE) when every byte came back
+ * equal; as given up (HG_GAVE_UP) when one of its requests had no reply three times; as different (HG_DIFFERENT) at the first reply
+ * that brings another byte. Till then it is HG_NOT_FINISHED. Given up or different, the box may have taken all, some or none of it.
+ * A transfer ends within 72 turns answered 0 for each started eight bytes, a checked write within 76.
+ * A reply to a transfer that was closed or reset, arriving late, counts for the one that now holds its slot and awaits the same device,
+ * place and length: close only what has ended, or let late replies pass first.
  */
 typedef struct {
     hg_slot slots[4];
@@ -204,7 +223,7 @@ typedef struct {
 } hg_bridge;
 HG_SIZE(hg_bridge, 72);
 
-/* Bytes of the buffer, and the most bytes of a transfer. */
+/* Bytes of a buffer, and the most bytes of a transfer. */
 enum { HG_BUFFER = 512, HG_MOST = 128 };
 
 typedef struct {
@@ -249,49 +268,62 @@ hg_changed hg_bridge_reset(hg_bridge b, uint8_t own);
 
 /*
  * Opens a read of `count` bytes at an offset of a device's table. Takes the lowest free slot and the next ticket.
- * Numbers: 11, 10, 7 (device over 15, table over 31), 9 (count not 1..128), 8 (offset + count over 2,048), 12, 13.
- * The buffer is not changed.
+ * Numbers: 11, 10 (either buffer), 7 (device over 15, table over 31), 9 (count not 1..128), 8 (offset + count over 2,048), 12, 13.
+ * Neither buffer is changed.
  */
-hg_opened hg_bridge_open_read(hg_bridge b, const uint8_t *buffer, size_t len, uint8_t device, uint8_t table, uint16_t offset, size_t count);
+hg_opened hg_bridge_open_read(hg_bridge b, const uint8_t *first, size_t first_len, const uint8_t *second, size_t second_len, uint8_t device, uint8_t table, uint16_t offset, size_t count);
 
 /*
- * Opens a write of the given bytes, which are copied into the slot's part of the buffer; nothing else of it changes.
+ * Opens a write of the given bytes, which are copied into the slot's part of the first buffer; nothing else of the two changes.
  * Numbers: as hg_bridge_open_read.
  */
-hg_opened hg_bridge_open_write(hg_bridge b, uint8_t *buffer, size_t len, uint8_t device, uint8_t table, uint16_t offset, const uint8_t *bytes, size_t count);
+hg_opened hg_bridge_open_write(hg_bridge b, uint8_t *first, size_t first_len, const uint8_t *second, size_t second_len, uint8_t device, uint8_t table, uint16_t offset, const uint8_t *bytes, size_t count);
 
 /*
- * A turn: every waiting read gets one turn older (20 turns after a send it is ready again, or after its third send has
+ * Opens a checked write of the given bytes, which are copied into the slot's part of the second buffer; nothing else of the two changes.
+ * Numbers: as hg_bridge_open_read.
+ */
+hg_opened hg_bridge_open_check(hg_bridge b, const uint8_t *first, size_t first_len, uint8_t *second, size_t second_len, uint8_t device, uint8_t table, uint16_t offset, const uint8_t *bytes, size_t count);
+
+/*
+ * A turn: every waiting slot gets one turn older (20 turns after a send it is ready again, or after its third send has
  * given up); then the first ready slot after the one last served sends its next frame. `frames` is 0 where none is ready.
- * Numbers: 11, 10. The buffer is not changed.
+ * Numbers: 11, 10 (either buffer). Neither buffer is changed.
  */
-hg_stepped hg_bridge_turn(hg_bridge b, const uint8_t *buffer, size_t len);
+hg_stepped hg_bridge_turn(hg_bridge b, const uint8_t *first, size_t first_len, const uint8_t *second, size_t second_len);
 
 /*
- * An incoming frame. Its bytes are stored in the buffer for the waiting read that awaits it; `frames` is always 0.
- * Numbers: 11, 10, 1, 2, 3, 4, 5 (not RSP), 17. Changes the bytes that the frame brings, and nothing else of the buffer.
+ * An incoming frame, for the waiting slot that awaits it; `frames` is always 0. Its bytes are stored in the first buffer, unless they
+ * are read back and differ from the second buffer's at that place: then nothing is stored, and the number is 0 all the same.
+ * Numbers: 11, 10 (either buffer), 1, 2, 3, 4, 5 (not RSP), 17. Changes the bytes that it stores, and nothing else of the two.
  */
-hg_stepped hg_bridge_frame(hg_bridge b, uint8_t *buffer, size_t len, hg_frame frame);
+hg_stepped hg_bridge_frame(hg_bridge b, uint8_t *first, size_t first_len, const uint8_t *second, size_t second_len, hg_frame frame);
 
-/* How a transfer stands: 0 done, 15 not finished, 16 gave up. Numbers: 11, then 14. A done write was sent, no more. */
+/*
+ * How a transfer stands: 0 done, 15 not finished, 16 gave up, 18 read back different. Numbers: 11, then 14.
+ * A done write was sent, no more; a done checked write was read back equal.
+ */
 uint8_t hg_bridge_status(hg_bridge b, uint32_t ticket);
 
 /*
- * Where a done read's bytes lie in the buffer; a done write has length 0. Start and length are 0 where the number is not 0.
- * Numbers: 11, 10, then hg_bridge_status's. Nothing is changed.
+ * Where a done read's bytes lie in the first buffer; a done write, checked or not, has length 0. Start and length are 0 where the number
+ * is not 0. Numbers: 11, 10, then hg_bridge_status's. Nothing is changed.
  */
-hg_span hg_bridge_span(hg_bridge b, const uint8_t *buffer, size_t len, uint32_t ticket);
+hg_span hg_bridge_span(hg_bridge b, const uint8_t *first, size_t first_len, uint32_t ticket);
 
 /* Frees the slot of a ticket, in any phase. Numbers: 11, 14. */
 hg_changed hg_bridge_close(hg_bridge b, uint32_t ticket);
 
 /* The same turn, incoming frame and closing, which change the bridge where it stands; a refusal leaves it as it was. */
 
-/* hg_bridge_turn in place. Numbers: 11, 10. The buffer is not changed. */
-hg_yielded hg_bridge_turn_in_place(hg_bridge *b, const uint8_t *buffer, size_t len);
+/* hg_bridge_turn in place. Numbers: 11, 10 (either buffer). Neither buffer is changed. */
+hg_yielded hg_bridge_turn_in_place(hg_bridge *b, const uint8_t *first, size_t first_len, const uint8_t *second, size_t second_len);
 
-/* hg_bridge_frame in place. Numbers: 11, 10, 1, 2, 3, 4, 5 (not RSP), 17. Changes the bytes that the frame brings, and nothing else of the buffer. */
-hg_yielded hg_bridge_frame_in_place(hg_bridge *b, uint8_t *buffer, size_t len, hg_frame frame);
+/*
+ * hg_bridge_frame in place. Numbers: 11, 10 (either buffer), 1, 2, 3, 4, 5 (not RSP), 17. Changes the bytes that it stores, and nothing
+ * else of the two buffers.
+ */
+hg_yielded hg_bridge_frame_in_place(hg_bridge *b, uint8_t *first, size_t first_len, const uint8_t *second, size_t second_len, hg_frame frame);
 
 /* hg_bridge_close in place. Numbers: 11, 14. */
 uint8_t hg_bridge_close_in_place(hg_bridge *b, uint32_t ticket);

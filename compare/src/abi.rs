@@ -95,9 +95,13 @@ pub const READY: u8 = 1;
 pub const WAITING: u8 = 2;
 pub const DONE: u8 = 3;
 pub const GAVE_UP: u8 = 4;
+pub const DIFFERENT: u8 = 5;
 
 pub const READ: u8 = 0;
 pub const WRITE: u8 = 1;
+/// A checked write is of kind CHECK while it sends, then of kind READ_BACK.
+pub const READ_BACK: u8 = 2;
+pub const CHECK: u8 = 3;
 
 #[repr(C)]
 #[derive(Clone, Copy, Debug, Default, PartialEq, Eq)]

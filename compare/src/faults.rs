@@ -5,7 +5,7 @@ use crate::judge::Judge;
 use crate::kinds::KINDS;
 use crate::model::{bridge, identifier, mlg, value};
 use crate::rng::Rng;
-use crate::side::{Model, Side};
+use crate::side::{Buffers, BuffersMut, Model, Side};
 
 /// The faults, and the list of all of them.
 macro_rules! faults {
@@ -54,6 +54,49 @@ faults! {
     UnsoundSendsTaken,
     EqualTicketsTaken,
     ProgressOddTaken,
+    // checked writes and the second buffer
+    SecondUnjudgedByOpenRead,
+    SecondUnjudgedByOpenWrite,
+    SecondUnjudgedByOpenCheck,
+    SecondUnjudgedByTurn,
+    SecondUnjudgedByFrame,
+    SecondBufferAfterRange,
+    TurnInPlaceExchangesBuffers,
+    FrameInPlaceExchangesBuffers,
+    CheckCopiedIntoFirst,
+    CheckCopiedIntoBoth,
+    WriteCopiedIntoBoth,
+    CmdFromFirstBuffer,
+    DoneOnceSent,
+    ReadsBackAfterFirstCmd,
+    ReadsBackFromTheEnd,
+    LastCmdAndRequestInOneTurn,
+    ComparedWithFirst,
+    FirstByteCompared,
+    EightBytesCompared,
+    DifferingReplyStored,
+    EqualReplyNotStored,
+    DifferenceGoesOnWaiting,
+    DifferingReplyIs17,
+    SendsKeptAtDifference,
+    TurnsLeftKeptAtDifference,
+    ProgressResetAtDifference,
+    DifferentIs16,
+    GivenUpCheckIsDone,
+    BytesOfDoneCheck,
+    SendingCheckDone,
+    SendingCheckWaits,
+    SendingCheckGaveUp,
+    SendingCheckDifferent,
+    SendingCheckWithSends,
+    DifferenceOfRead,
+    DifferenceOfWrite,
+    DifferenceWithSends,
+    DifferenceWithTurnsLeft,
+    DifferenceAtTheCount,
+    DifferenceWithOddProgress,
+    Kind4Taken,
+    Phase6Taken,
     // MLG
     BeginAtEndRefused,
     InfoAtBeginTaken,
@@ -106,6 +149,48 @@ impl Faulty {
     fn has(&self, fault: Fault) -> bool {
         self.0 == fault
     }
+
+    /// The lent buffers, with a second of the right length in place of a wrong one where the fault is not to judge that.
+    fn unjudged<'a>(&self, fault: Fault, lent: BuffersMut<'a>, spare: &'a mut [u8]) -> BuffersMut<'a> {
+        if self.has(fault) && lent.second.len() != spare.len() {
+            return BuffersMut { second: spare, ..lent };
+        }
+        lent
+    }
+
+    /// The answer to a reply to slot `index` that brought other bytes than it sent; `answer` is the model's.
+    fn at_difference(&self, b: Bridge, index: usize, first: &mut [u8], frame: &Frame, mut answer: Stepped) -> Stepped {
+        let (given, slot) = (b.slots[index], answer.bridge.slots[index]);
+        let (place, len) = (bridge::place(&given, index), frame.len as usize);
+        if self.has(DifferingReplyStored) {
+            first[place..place + len].copy_from_slice(&frame.bytes[..len]);
+        }
+        if self.has(DifferingReplyIs17) {
+            return Stepped { bridge: b, answer: Yielded { number: 17, ..Yielded::default() } };
+        }
+        answer.bridge.slots[index] = match self.0 {
+            DifferenceGoesOnWaiting => given,
+            SendsKeptAtDifference => Slot { sends: given.sends, ..slot },
+            TurnsLeftKeptAtDifference => Slot { left: given.left, ..slot },
+            ProgressResetAtDifference => Slot { progress: 0, ..slot },
+            _ => slot,
+        };
+        answer
+    }
+
+    /// The second buffer with which the model judges a reply as this side would with the one that was lent.
+    fn compared(&self, slot: &Slot, place: usize, lent: Buffers, frame: &Frame) -> Vec<u8> {
+        let len = bridge::chunk(slot);
+        let (sent, rest) = (&lent.second[place..place + len], lent.second.iter().skip(place + len));
+        match self.0 {
+            ComparedWithFirst => lent.first.to_vec(),
+            FirstByteCompared if frame.bytes[0] == sent[0] => with_second(lent.second, place, &frame.bytes[..len]),
+            EightBytesCompared if frame.bytes[len..].iter().zip(rest).any(|(one, other)| one != other) => {
+                with_second(lent.second, place, &[!frame.bytes[0]])
+            }
+            _ => lent.second.to_vec(),
+        }
+    }
 }
 
 /// The slot that a frame's offset points into.
@@ -117,6 +202,44 @@ fn awaited(b: &Bridge, frame: &Frame) -> Option<(usize, Parts)> {
         slot.phase == WAITING && bridge::place(slot, *index) == parts.offset as usize
     };
     Some((slots.into_iter().find(at)?, parts))
+}
+
+/// The same buffers, lent once more.
+fn again<'a>(lent: &'a mut BuffersMut) -> BuffersMut<'a> {
+    BuffersMut { first: lent.first, second: lent.second }
+}
+
+/// The second buffer with other bytes at a place.
+fn with_second(second: &[u8], place: usize, other: &[u8]) -> Vec<u8> {
+    let mut second = second.to_vec();
+    second[place..place + other.len()].copy_from_slice(other);
+    second
+}
+
+/// A sound slot in place of one that a looser judgement of a state takes.
+fn looser(fault: Fault, slot: &Slot) -> Slot {
+    let Slot { kind, phase, progress, count, sends, left, .. } = *slot;
+    let taken = match fault {
+        SendingCheckDone => kind == CHECK && phase == DONE && progress == count,
+        SendingCheckWaits => kind == CHECK && phase == WAITING,
+        SendingCheckGaveUp => kind == CHECK && phase == GAVE_UP,
+        SendingCheckDifferent => kind == CHECK && phase == DIFFERENT,
+        SendingCheckWithSends => kind == CHECK && phase == READY && sends < 3,
+        DifferenceOfRead => kind == READ && phase == DIFFERENT,
+        DifferenceOfWrite => kind == WRITE && phase == DIFFERENT,
+        DifferenceWithSends => kind == READ_BACK && phase == DIFFERENT && left == 0 && sends > 0,
+        DifferenceWithTurnsLeft => kind == READ_BACK && phase == DIFFERENT && sends == 0 && left > 0,
+        DifferenceAtTheCount => kind == READ_BACK && phase == DIFFERENT && progress == count,
+        DifferenceWithOddProgress => kind == READ_BACK && phase == DIFFERENT && progress < count && progress % 8 != 0,
+        Kind4Taken => kind == 4,
+        Phase6Taken => phase == 6,
+        _ => false,
+    };
+    if taken {
+        Slot { kind: READ, phase: READY, progress: 0, sends: 0, left: 0, ..*slot }
+    } else {
+        *slot
+    }
 }
 
 impl Side for Faulty {
@@ -184,11 +307,20 @@ impl Side for Faulty {
         answer
     }
 
-    fn open_read(&self, b: Bridge, buffer: &[u8], device: u8, table: u8, offset: u16, count: usize) -> Opened {
-        if self.has(BufferBeforeState) && buffer.len() != 512 {
+    fn open_read(&self, b: Bridge, mut lent: Buffers, device: u8, table: u8, offset: u16, count: usize) -> Opened {
+        if self.has(BufferBeforeState) && lent.first.len() != 512 {
             return Opened { bridge: b, ticket: 0, number: 10 };
         }
-        let mut answer = Model.open_read(b, buffer, device, table, offset, count);
+        if self.has(SecondUnjudgedByOpenRead) {
+            lent.second = &[0; 512];
+        }
+        let mut answer = Model.open_read(b, lent, device, table, offset, count);
+        if self.has(SecondBufferAfterRange) && answer.number == 10 && lent.first.len() == 512 {
+            answer = Model.open_read(b, Buffers { second: lent.first, ..lent }, device, table, offset, count);
+            if ![7, 9, 8].contains(&answer.number) {
+                answer = Opened { bridge: b, ticket: 0, number: 10 };
+            }
+        }
         if self.has(OpensWithTicket0AtEnd) && answer.number == 13 {
             answer.number = 0;
         }
@@ -200,16 +332,54 @@ impl Side for Faulty {
         answer
     }
 
-    fn open_write(&self, b: Bridge, buffer: &mut [u8], device: u8, table: u8, offset: u16, bytes: &[u8]) -> Opened {
-        Model.open_write(b, buffer, device, table, offset, bytes)
+    fn open_write(&self, b: Bridge, lent: BuffersMut, device: u8, table: u8, offset: u16, bytes: &[u8]) -> Opened {
+        let mut spare = [0; 512];
+        let mut lent = self.unjudged(SecondUnjudgedByOpenWrite, lent, &mut spare);
+        let answer = Model.open_write(b, again(&mut lent), device, table, offset, bytes);
+        if self.has(WriteCopiedIntoBoth) && answer.number == 0 {
+            Model.open_check(b, lent, device, table, offset, bytes);
+        }
+        answer
     }
 
-    fn turn(&self, mut b: Bridge, buffer: &[u8]) -> Stepped {
+    fn open_check(&self, b: Bridge, lent: BuffersMut, device: u8, table: u8, offset: u16, bytes: &[u8]) -> Opened {
+        let mut spare = [0; 512];
+        let mut lent = self.unjudged(SecondUnjudgedByOpenCheck, lent, &mut spare);
+        let second = lent.second.to_vec();
+        let answer = Model.open_check(b, again(&mut lent), device, table, offset, bytes);
+        if (self.has(CheckCopiedIntoFirst) || self.has(CheckCopiedIntoBoth)) && answer.number == 0 {
+            Model.open_write(b, again(&mut lent), device, table, offset, bytes);
+        }
+        if self.has(CheckCopiedIntoFirst) {
+            lent.second.copy_from_slice(&second);
+        }
+        answer
+    }
+
+    fn turn(&self, mut b: Bridge, mut lent: Buffers) -> Stepped {
         let given = b;
         if self.has(ServesSlot0First) && b.last < 4 {
             b.last = 3;
         }
-        let mut answer = Model.turn(b, buffer);
+        if self.has(SecondUnjudgedByTurn) && lent.second.len() != 512 {
+            lent.second = &[0; 512];
+        }
+        if self.has(CmdFromFirstBuffer) && lent.second.len() == 512 {
+            lent.second = lent.first;
+        }
+        let mut answer = Model.turn(b, lent);
+        if answer.answer.frames == 1 {
+            let last = answer.bridge.last as usize;
+            let (before, slot) = (b.slots[last], answer.bridge.slots[last]);
+            let all_sent = before.kind == CHECK && slot.kind == READ_BACK;
+            answer.bridge.slots[last] = match self.0 {
+                DoneOnceSent if all_sent => Slot { kind: CHECK, phase: DONE, progress: slot.count, ..slot },
+                ReadsBackAfterFirstCmd if before.kind == CHECK => Slot { kind: READ_BACK, progress: 0, ..slot },
+                ReadsBackFromTheEnd if all_sent => Slot { progress: before.progress, ..slot },
+                LastCmdAndRequestInOneTurn if all_sent => Slot { phase: WAITING, sends: 1, left: 20, ..slot },
+                _ => slot,
+            };
+        }
         if self.has(ServesSlot0First) && answer.answer.frames == 0 {
             answer.bridge.last = given.last;
         }
@@ -224,31 +394,56 @@ impl Side for Faulty {
         answer
     }
 
-    fn frame(&self, b: Bridge, buffer: &mut [u8], mut frame: Frame) -> Stepped {
+    fn frame(&self, b: Bridge, lent: BuffersMut, mut frame: Frame) -> Stepped {
+        let mut second = lent.second.to_vec();
         if let (true, Some((index, parts))) = (bridge::sound(&b), awaited(&b, &frame)) {
+            let slot = &b.slots[index];
             if self.has(TakesReplyOfAnyDevice) {
-                frame.id = identifier::pack(Parts { from: b.slots[index].device, ..parts }).unwrap();
+                frame.id = identifier::pack(Parts { from: slot.device, ..parts }).unwrap();
             }
             if self.has(TakesReplyOfAnyLength) && frame.len <= 8 {
-                frame.len = bridge::chunk(&b.slots[index]) as u8;
+                frame.len = bridge::chunk(slot) as u8;
+            }
+            if second.len() == 512 {
+                second = self.compared(slot, bridge::place(slot, index), lent.get(), &frame);
             }
         }
-        let mut answer = Model.frame(b, buffer, frame);
-        if answer.answer.number == 0 {
-            let (index, _) = awaited(&b, &frame).unwrap();
-            if self.has(SendsKeptAfterReply) && answer.bridge.slots[index].phase == READY {
-                answer.bridge.slots[index].sends = b.slots[index].sends;
-            }
-            if self.has(FrameOverrunsPart) && frame.len < 8 {
-                let end = bridge::place(&b.slots[index], index) + frame.len as usize;
-                buffer[end % 512] = frame.bytes[7];
-            }
+        if self.has(SecondUnjudgedByFrame) {
+            second.resize(512, 0);
+        }
+        let before = lent.first.to_vec();
+        let mut answer = Model.frame(b, BuffersMut { first: lent.first, second: &mut second }, frame);
+        if answer.answer.number != 0 {
+            return answer;
+        }
+        let (index, _) = awaited(&b, &frame).unwrap();
+        let (given, slot) = (b.slots[index], answer.bridge.slots[index]);
+        let (place, len) = (bridge::place(&given, index), frame.len as usize);
+        if self.has(SendsKeptAfterReply) && slot.phase == READY {
+            answer.bridge.slots[index].sends = given.sends;
+        }
+        if self.has(FrameOverrunsPart) && len < 8 {
+            lent.first[(place + len) % 512] = frame.bytes[7];
+        }
+        if self.has(EqualReplyNotStored) && slot.kind == READ_BACK {
+            lent.first.copy_from_slice(&before);
+        }
+        if slot.phase == DIFFERENT {
+            return self.at_difference(b, index, lent.first, &frame, answer);
         }
         answer
     }
 
     fn status(&self, b: Bridge, ticket: u32) -> u8 {
-        let number = Model.status(b, ticket);
+        let slots = b.slots.map(|slot| looser(self.0, &slot));
+        let number = Model.status(Bridge { slots, ..b }, ticket);
+        if self.has(DifferentIs16) && number == 18 {
+            return 16;
+        }
+        let checked = b.slots.iter().any(|slot| slot.ticket == ticket && slot.kind == READ_BACK);
+        if self.has(GivenUpCheckIsDone) && number == 16 && checked {
+            return 0;
+        }
         if self.has(Ticket0Known) && ticket == 0 && number == 14 {
             return 15;
         }
@@ -265,10 +460,16 @@ impl Side for Faulty {
         number
     }
 
-    fn span(&self, b: Bridge, buffer: &[u8], ticket: u32) -> Span {
-        let mut span = Model.span(b, buffer, ticket);
-        if self.has(BytesOfDoneWrite) && span.number == 0 && span.len == 0 {
+    fn span(&self, b: Bridge, first: &[u8], ticket: u32) -> Span {
+        let mut span = Model.span(b, first, ticket);
+        let held = (0..4).find(|index| b.slots[*index].phase != FREE && b.slots[*index].ticket == ticket);
+        let kind = held.map(|index| b.slots[index].kind);
+        if self.has(BytesOfDoneWrite) && span.number == 0 && kind == Some(WRITE) {
             span.len = 8;
+        }
+        if self.has(BytesOfDoneCheck) && span.number == 0 && kind == Some(READ_BACK) {
+            let index = held.unwrap();
+            return Span { number: 0, start: index * bridge::PART, len: b.slots[index].count as usize };
         }
         span
     }
@@ -290,17 +491,23 @@ impl Side for Faulty {
         changed
     }
 
-    fn turn_in_place(&self, b: &mut Bridge, buffer: &[u8]) -> Yielded {
+    fn turn_in_place(&self, b: &mut Bridge, mut lent: Buffers) -> Yielded {
         let before = *b;
-        let answer = Model.turn_in_place(b, buffer);
+        if self.has(TurnInPlaceExchangesBuffers) {
+            lent = Buffers { first: lent.second, second: lent.first };
+        }
+        let answer = Model.turn_in_place(b, lent);
         if self.has(TurnInPlaceForgets) && answer.frames == 0 {
             *b = before;
         }
         answer
     }
 
-    fn frame_in_place(&self, b: &mut Bridge, buffer: &mut [u8], frame: Frame) -> Yielded {
-        Model.frame_in_place(b, buffer, frame)
+    fn frame_in_place(&self, b: &mut Bridge, lent: BuffersMut, frame: Frame) -> Yielded {
+        if self.has(FrameInPlaceExchangesBuffers) {
+            return Model.frame_in_place(b, BuffersMut { first: lent.second, second: lent.first }, frame);
+        }
+        Model.frame_in_place(b, lent, frame)
     }
 
     fn close_in_place(&self, b: &mut Bridge, ticket: u32) -> u8 {

@@ -4,7 +4,7 @@
 #![cfg(library)]
 
 use crate::abi::*;
-use crate::side::Side;
+use crate::side::{Buffers, BuffersMut, Side};
 use std::io::Write as _;
 use std::process::{Command, Stdio};
 
@@ -16,16 +16,17 @@ extern "C" {
     fn hg_bus_request_bytes(request: Request) -> RequestBytes;
     fn hg_bus_serve(directory: Directory, memory: *mut u8, len: usize, frame: Frame) -> Served;
 
-    fn hg_bridge_open_read(b: Bridge, buffer: *const u8, len: usize, device: u8, table: u8, offset: u16, count: usize) -> Opened;
-    fn hg_bridge_open_write(b: Bridge, buffer: *mut u8, len: usize, device: u8, table: u8, offset: u16, bytes: *const u8, count: usize) -> Opened;
-    fn hg_bridge_turn(b: Bridge, buffer: *const u8, len: usize) -> Stepped;
-    fn hg_bridge_frame(b: Bridge, buffer: *mut u8, len: usize, frame: Frame) -> Stepped;
+    fn hg_bridge_open_read(b: Bridge, first: *const u8, first_len: usize, second: *const u8, second_len: usize, device: u8, table: u8, offset: u16, count: usize) -> Opened;
+    fn hg_bridge_open_write(b: Bridge, first: *mut u8, first_len: usize, second: *const u8, second_len: usize, device: u8, table: u8, offset: u16, bytes: *const u8, count: usize) -> Opened;
+    fn hg_bridge_open_check(b: Bridge, first: *const u8, first_len: usize, second: *mut u8, second_len: usize, device: u8, table: u8, offset: u16, bytes: *const u8, count: usize) -> Opened;
+    fn hg_bridge_turn(b: Bridge, first: *const u8, first_len: usize, second: *const u8, second_len: usize) -> Stepped;
+    fn hg_bridge_frame(b: Bridge, first: *mut u8, first_len: usize, second: *const u8, second_len: usize, frame: Frame) -> Stepped;
     fn hg_bridge_status(b: Bridge, ticket: u32) -> u8;
-    fn hg_bridge_span(b: Bridge, buffer: *const u8, len: usize, ticket: u32) -> Span;
+    fn hg_bridge_span(b: Bridge, first: *const u8, first_len: usize, ticket: u32) -> Span;
     fn hg_bridge_close(b: Bridge, ticket: u32) -> Changed;
     fn hg_bridge_reset(b: Bridge, own: u8) -> Changed;
-    fn hg_bridge_turn_in_place(b: *mut Bridge, buffer: *const u8, len: usize) -> Yielded;
-    fn hg_bridge_frame_in_place(b: *mut Bridge, buffer: *mut u8, len: usize, frame: Frame) -> Yielded;
+    fn hg_bridge_turn_in_place(b: *mut Bridge, first: *const u8, first_len: usize, second: *const u8, second_len: usize) -> Yielded;
+    fn hg_bridge_frame_in_place(b: *mut Bridge, first: *mut u8, first_len: usize, second: *const u8, second_len: usize, frame: Frame) -> Yielded;
     fn hg_bridge_close_in_place(b: *mut Bridge, ticket: u32) -> u8;
 
     fn hg_mlg_read_header(file: *const u8, len: usize) -> MlgHeader;
@@ -82,29 +83,42 @@ impl Side for Library {
         unsafe { hg_bus_serve(directory, memory.as_mut_ptr(), memory.len(), frame) }
     }
 
-    fn open_read(&self, b: Bridge, buffer: &[u8], device: u8, table: u8, offset: u16, count: usize) -> Opened {
-        unsafe { hg_bridge_open_read(b, buffer.as_ptr(), buffer.len(), device, table, offset, count) }
+    fn open_read(&self, b: Bridge, lent: Buffers, device: u8, table: u8, offset: u16, count: usize) -> Opened {
+        let Buffers { first, second } = lent;
+        let (one, other) = (first.as_ptr(), second.as_ptr());
+        unsafe { hg_bridge_open_read(b, one, first.len(), other, second.len(), device, table, offset, count) }
     }
 
-    fn open_write(&self, b: Bridge, buffer: &mut [u8], device: u8, table: u8, offset: u16, bytes: &[u8]) -> Opened {
-        let (start, len) = (buffer.as_mut_ptr(), buffer.len());
-        unsafe { hg_bridge_open_write(b, start, len, device, table, offset, bytes.as_ptr(), bytes.len()) }
+    fn open_write(&self, b: Bridge, lent: BuffersMut, device: u8, table: u8, offset: u16, bytes: &[u8]) -> Opened {
+        let BuffersMut { first, second } = lent;
+        let (one, one_len, other, other_len) = (first.as_mut_ptr(), first.len(), second.as_ptr(), second.len());
+        let (given, count) = (bytes.as_ptr(), bytes.len());
+        unsafe { hg_bridge_open_write(b, one, one_len, other, other_len, device, table, offset, given, count) }
     }
 
-    fn turn(&self, b: Bridge, buffer: &[u8]) -> Stepped {
-        unsafe { hg_bridge_turn(b, buffer.as_ptr(), buffer.len()) }
+    fn open_check(&self, b: Bridge, lent: BuffersMut, device: u8, table: u8, offset: u16, bytes: &[u8]) -> Opened {
+        let BuffersMut { first, second } = lent;
+        let (one, one_len, other, other_len) = (first.as_ptr(), first.len(), second.as_mut_ptr(), second.len());
+        let (given, count) = (bytes.as_ptr(), bytes.len());
+        unsafe { hg_bridge_open_check(b, one, one_len, other, other_len, device, table, offset, given, count) }
     }
 
-    fn frame(&self, b: Bridge, buffer: &mut [u8], frame: Frame) -> Stepped {
-        unsafe { hg_bridge_frame(b, buffer.as_mut_ptr(), buffer.len(), frame) }
+    fn turn(&self, b: Bridge, lent: Buffers) -> Stepped {
+        let Buffers { first, second } = lent;
+        unsafe { hg_bridge_turn(b, first.as_ptr(), first.len(), second.as_ptr(), second.len()) }
+    }
+
+    fn frame(&self, b: Bridge, lent: BuffersMut, frame: Frame) -> Stepped {
+        let BuffersMut { first, second } = lent;
+        unsafe { hg_bridge_frame(b, first.as_mut_ptr(), first.len(), second.as_ptr(), second.len(), frame) }
     }
 
     fn status(&self, b: Bridge, ticket: u32) -> u8 {
         unsafe { hg_bridge_status(b, ticket) }
     }
 
-    fn span(&self, b: Bridge, buffer: &[u8], ticket: u32) -> Span {
-        unsafe { hg_bridge_span(b, buffer.as_ptr(), buffer.len(), ticket) }
+    fn span(&self, b: Bridge, first: &[u8], ticket: u32) -> Span {
+        unsafe { hg_bridge_span(b, first.as_ptr(), first.len(), ticket) }
     }
 
     fn close(&self, b: Bridge, ticket: u32) -> Changed {
@@ -115,12 +129,14 @@ impl Side for Library {
         unsafe { hg_bridge_reset(b, own) }
     }
 
-    fn turn_in_place(&self, b: &mut Bridge, buffer: &[u8]) -> Yielded {
-        unsafe { hg_bridge_turn_in_place(b, buffer.as_ptr(), buffer.len()) }
+    fn turn_in_place(&self, b: &mut Bridge, lent: Buffers) -> Yielded {
+        let Buffers { first, second } = lent;
+        unsafe { hg_bridge_turn_in_place(b, first.as_ptr(), first.len(), second.as_ptr(), second.len()) }
     }
 
-    fn frame_in_place(&self, b: &mut Bridge, buffer: &mut [u8], frame: Frame) -> Yielded {
-        unsafe { hg_bridge_frame_in_place(b, buffer.as_mut_ptr(), buffer.len(), frame) }
+    fn frame_in_place(&self, b: &mut Bridge, lent: BuffersMut, frame: Frame) -> Yielded {
+        let BuffersMut { first, second } = lent;
+        unsafe { hg_bridge_frame_in_place(b, first.as_mut_ptr(), first.len(), second.as_ptr(), second.len(), frame) }
     }
 
     fn close_in_place(&self, b: &mut Bridge, ticket: u32) -> u8 {

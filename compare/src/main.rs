@@ -74,10 +74,10 @@ fn main() {
 
     let wrong = reckonings::failures(side.as_ref());
     if !wrong.is_empty() {
-        println!("reckonings of paper 01 that differ:\n{}", wrong.join("\n"));
+        println!("reckonings of papers 01 and 02 that differ:\n{}", wrong.join("\n"));
         exit(1);
     }
-    println!("reckonings of paper 01: {} right", reckonings::all(side.as_ref()).len());
+    println!("reckonings of papers 01 and 02: {} right", reckonings::all(side.as_ref()).len());
 
     for index in chosen {
         run_kind(&KINDS[index], index as u64, side.as_ref(), seed, extent);

@@ -1,9 +1,9 @@
-//! The reckonings of 01, run on a side. Each is a name, what came out and what 01 says.
+//! The reckonings of papers 01 and 02, run on a side. Each is a name, what came out and what they say.
 
 use crate::abi::*;
 use crate::model::bridge::fresh;
 use crate::model::{CMD, REQ};
-use crate::side::Side;
+use crate::side::{Buffers, BuffersMut, Side};
 use std::fmt::Debug;
 
 pub struct Reckoning {
@@ -26,6 +26,7 @@ pub fn all(side: &dyn Side) -> Vec<Reckoning> {
     ranges(side, &mut list);
     bridge_read(side, &mut list);
     silent_device(side, &mut list);
+    checked_write(side, &mut list);
     values(side, &mut list);
     listing(side, &mut list);
     list.0
@@ -117,40 +118,42 @@ fn ranges(side: &dyn Side, list: &mut List) {
 }
 
 fn bridge_read(side: &dyn Side, list: &mut List) {
-    let mut buffer = [0; 512];
-    let opened = side.open_read(fresh(0), &buffer, 5, 7, 6, 10);
+    let (mut first, mut second) = ([0; 512], [0; 512]);
+    let opened = side.open_read(fresh(0), Buffers { first: &first, second: &second }, 5, 7, 6, 10);
     list.add("opening a read of 10 bytes", (opened.number, opened.ticket), (0, 1));
-    let first = side.turn(opened.bridge, &buffer);
-    list.add("its first request", first.answer.frame, frame(0x1882B8, &[0x06, 0x00, 0x08]));
+    let asked = side.turn(opened.bridge, Buffers { first: &first, second: &second });
+    list.add("its first request", asked.answer.frame, frame(0x1882B8, &[0x06, 0x00, 0x08]));
     let reply = frame(0x12830, &[1, 2, 3, 4, 5, 6, 7, 8]);
-    let taken = side.frame(first.bridge, &mut buffer, reply);
+    let taken = side.frame(asked.bridge, BuffersMut { first: &mut first, second: &mut second }, reply);
     list.add("its reply", taken.answer.number, 0);
-    let second = side.turn(taken.bridge, &buffer);
-    list.add("its second request", second.answer.frame, frame(0x3882B8, &[0x06, 0x01, 0x02]));
+    let again = side.turn(taken.bridge, Buffers { first: &first, second: &second });
+    list.add("its second request", again.answer.frame, frame(0x3882B8, &[0x06, 0x01, 0x02]));
 
     for (wrong, id) in [("device", 0x13030), ("table", 0x12838), ("offset", 0x212830 | 1 << 18)] {
-        let before = buffer;
-        let taken = side.frame(first.bridge, &mut buffer, Frame { id, ..reply });
-        list.add(&format!("a reply of the wrong {wrong}"), (taken.answer.number, buffer), (17, before));
+        let before = first;
+        let lent = BuffersMut { first: &mut first, second: &mut second };
+        let taken = side.frame(asked.bridge, lent, Frame { id, ..reply });
+        list.add(&format!("a reply of the wrong {wrong}"), (taken.answer.number, first), (17, before));
     }
-    let short = side.frame(first.bridge, &mut buffer, Frame { len: 7, ..reply });
+    let lent = BuffersMut { first: &mut first, second: &mut second };
+    let short = side.frame(asked.bridge, lent, Frame { len: 7, ..reply });
     list.add("a reply of the wrong length", short.answer.number, 17);
 
     let last = frame(side.pack(Parts { offset: 8, kind: 2, from: 5, to: 0, table: 6 }).id, &[9, 10]);
-    let done = side.frame(second.bridge, &mut buffer, last);
+    let done = side.frame(again.bridge, BuffersMut { first: &mut first, second: &mut second }, last);
     list.add("status after both replies", side.status(done.bridge, 1), 0);
-    let span = side.span(done.bridge, &buffer, 1);
+    let span = side.span(done.bridge, &first, 1);
     list.add("its part of the buffer", span, Span { number: 0, start: 0, len: 10 });
-    list.add("its bytes", buffer[..10].to_vec(), (1..=10).collect());
+    list.add("its bytes", first[..10].to_vec(), (1..=10).collect());
+    list.add("the second buffer", second, [0; 512]);
 }
 
-fn silent_device(side: &dyn Side, list: &mut List) {
-    let buffer = [0; 512];
-    let mut bridge = side.open_read(fresh(0), &buffer, 5, 7, 6, 128).bridge;
+/// A box that never answers: the turns that send a frame, and those after which a status is 16.
+fn silence(side: &dyn Side, mut bridge: Bridge, lent: Buffers) -> (Vec<u32>, Vec<u32>) {
     let (mut sends, mut gave_up) = (Vec::new(), Vec::new());
     for turn in 1..=70 {
         let before = side.status(bridge, 1);
-        let stepped = side.turn(bridge, &buffer);
+        let stepped = side.turn(bridge, lent);
         bridge = stepped.bridge;
         if stepped.answer.frames == 1 {
             sends.push(turn);
@@ -159,14 +162,62 @@ fn silent_device(side: &dyn Side, list: &mut List) {
             gave_up.push(turn);
         }
     }
+    (sends, gave_up)
+}
+
+fn silent_device(side: &dyn Side, list: &mut List) {
+    let (mut first, mut second) = ([0; 512], [0; 512]);
+    let lent = Buffers { first: &first, second: &second };
+    let opened = side.open_read(fresh(0), lent, 5, 7, 6, 128);
+    let (sends, gave_up) = silence(side, opened.bridge, lent);
     list.add("silent device, turns that send", sends, vec![1, 21, 41]);
     list.add("silent device, turn that gives up", gave_up, vec![61]);
     for (count, number) in [(128, 0), (129, 9), (0, 9)] {
-        let read = side.open_read(fresh(0), &buffer, 5, 7, 6, count).number;
+        let read = side.open_read(fresh(0), Buffers { first: &first, second: &second }, 5, 7, 6, count).number;
         list.add(&format!("reading {count} bytes"), read, number);
-        let write = side.open_write(fresh(0), &mut buffer.clone(), 5, 7, 6, &vec![1; count]).number;
+        let lent = BuffersMut { first: &mut first, second: &mut second };
+        let write = side.open_write(fresh(0), lent, 5, 7, 6, &vec![1; count]).number;
         list.add(&format!("writing {count} bytes"), write, number);
+        let lent = BuffersMut { first: &mut first, second: &mut second };
+        let check = side.open_check(fresh(0), lent, 5, 7, 6, &vec![1; count]).number;
+        list.add(&format!("writing {count} bytes, checked"), check, number);
     }
+}
+
+/// 02, C-17: a checked write of 10 bytes whose box is unplugged, which has the bytes, and which lacks the last.
+fn checked_write(side: &dyn Side, list: &mut List) {
+    let (mut first, mut second) = ([0xFF; 512], [0xFF; 512]);
+    let bytes: Vec<u8> = (1..=10).collect();
+    let lent = BuffersMut { first: &mut first, second: &mut second };
+    let opened = side.open_check(fresh(0), lent, 5, 7, 6, &bytes);
+    list.add("opening a checked write", (opened.number, opened.ticket), (0, 1));
+    list.add("its bytes in the second buffer", second[..11].to_vec(), vec![1, 2, 3, 4, 5, 6, 7, 8, 9, 10, 0xFF]);
+    list.add("none in the first", first, [0xFF; 512]);
+    let (sends, gave_up) = silence(side, opened.bridge, Buffers { first: &first, second: &second });
+    list.add("unplugged box, turns that send", sends, vec![1, 2, 3, 23, 43]);
+    list.add("unplugged box, turn that gives up", gave_up, vec![63]);
+
+    for (last, number) in [(10, 0), (11, 18)] {
+        let (mut bridge, mut sent) = (opened.bridge, Vec::new());
+        for reply in [None, None, Some((0, &bytes[..8])), Some((8, &[9, last][..]))] {
+            let stepped = side.turn(bridge, Buffers { first: &first, second: &second });
+            bridge = stepped.bridge;
+            sent.push(stepped.answer.frame);
+            if let Some((offset, bytes)) = reply {
+                let parts = Parts { offset, kind: 2, from: 5, to: 0, table: 6 };
+                let lent = BuffersMut { first: &mut first, second: &mut second };
+                let taken = side.frame(bridge, lent, frame(side.pack(parts).id, bytes));
+                list.add("a reply to a checked write", taken.answer.number, 0);
+                bridge = taken.bridge;
+            }
+        }
+        let commands = [frame(0x1802B8, &bytes[..8]), frame(0x3802B8, &bytes[8..])];
+        let requests = [frame(0x1882B8, &[0x06, 0x00, 0x08]), frame(0x3882B8, &[0x06, 0x01, 0x02])];
+        list.add("its frames", sent, [commands, requests].concat());
+        list.add("its status", side.status(bridge, 1), number);
+        list.add("its part of the buffer", side.span(bridge, &first, 1), Span { number, start: 0, len: 0 });
+    }
+    list.add("what was read back", first[..11].to_vec(), vec![1, 2, 3, 4, 5, 6, 7, 8, 9, 10, 0xFF]);
 }
 
 /// A scalar field with all else 0.

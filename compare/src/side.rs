@@ -1,7 +1,20 @@
 //! The calls of the C ABI as a trait, and the model's side of it.
 
 use crate::abi::*;
+pub use crate::model::bridge::Buffers;
 use crate::model::{bridge, frd, holder, identifier, listing, mlg, request, value, Number};
+
+/// The two lent buffers, to be changed.
+pub struct BuffersMut<'a> {
+    pub first: &'a mut [u8],
+    pub second: &'a mut [u8],
+}
+
+impl BuffersMut<'_> {
+    pub fn get(&self) -> Buffers<'_> {
+        Buffers { first: self.first, second: self.second }
+    }
+}
 
 /// One of the two sides that are compared.
 #[allow(clippy::too_many_arguments)]
@@ -12,16 +25,18 @@ pub trait Side {
     fn request_bytes(&self, request: Request) -> RequestBytes;
     fn serve(&self, directory: Directory, memory: &mut [u8], frame: Frame) -> Served;
 
-    fn open_read(&self, b: Bridge, buffer: &[u8], device: u8, table: u8, offset: u16, count: usize) -> Opened;
-    fn open_write(&self, b: Bridge, buffer: &mut [u8], device: u8, table: u8, offset: u16, bytes: &[u8]) -> Opened;
-    fn turn(&self, b: Bridge, buffer: &[u8]) -> Stepped;
-    fn frame(&self, b: Bridge, buffer: &mut [u8], frame: Frame) -> Stepped;
+    // a call that changes one of the two buffers gets both to write, so that a side that changes the other can be tried
+    fn open_read(&self, b: Bridge, lent: Buffers, device: u8, table: u8, offset: u16, count: usize) -> Opened;
+    fn open_write(&self, b: Bridge, lent: BuffersMut, device: u8, table: u8, offset: u16, bytes: &[u8]) -> Opened;
+    fn open_check(&self, b: Bridge, lent: BuffersMut, device: u8, table: u8, offset: u16, bytes: &[u8]) -> Opened;
+    fn turn(&self, b: Bridge, lent: Buffers) -> Stepped;
+    fn frame(&self, b: Bridge, lent: BuffersMut, frame: Frame) -> Stepped;
     fn status(&self, b: Bridge, ticket: u32) -> u8;
-    fn span(&self, b: Bridge, buffer: &[u8], ticket: u32) -> Span;
+    fn span(&self, b: Bridge, first: &[u8], ticket: u32) -> Span;
     fn close(&self, b: Bridge, ticket: u32) -> Changed;
     fn reset(&self, b: Bridge, own: u8) -> Changed;
-    fn turn_in_place(&self, b: &mut Bridge, buffer: &[u8]) -> Yielded;
-    fn frame_in_place(&self, b: &mut Bridge, buffer: &mut [u8], frame: Frame) -> Yielded;
+    fn turn_in_place(&self, b: &mut Bridge, lent: Buffers) -> Yielded;
+    fn frame_in_place(&self, b: &mut Bridge, lent: BuffersMut, frame: Frame) -> Yielded;
     fn close_in_place(&self, b: &mut Bridge, ticket: u32) -> u8;
 
     fn mlg_read_header(&self, file: &[u8]) -> MlgHeader;
@@ -65,6 +80,23 @@ fn yielded(answer: Result<Option<Frame>, Number>) -> Yielded {
         Ok(None) => Yielded::default(),
         Err(number) => Yielded { number, ..Yielded::default() },
     }
+}
+
+/// A refused opening hands back the bridge that it was given.
+fn opened(given: Bridge, answer: Result<(Bridge, u32), Number>) -> Opened {
+    match answer {
+        Ok((bridge, ticket)) => Opened { bridge, ticket, number: 0 },
+        Err(number) => Opened { bridge: given, ticket: 0, number },
+    }
+}
+
+/// An opening that copies its bytes into a buffer.
+fn copied(given: Bridge, answer: Result<(Bridge, Vec<u8>, u32), Number>, buffer: &mut [u8]) -> Opened {
+    let answer = answer.map(|(bridge, filled, ticket)| {
+        buffer.copy_from_slice(&filled);
+        (bridge, ticket)
+    });
+    opened(given, answer)
 }
 
 /// A part of a buffer or of a file, as start and length.
@@ -122,34 +154,31 @@ impl Side for Model {
         }))
     }
 
-    fn open_read(&self, b: Bridge, buffer: &[u8], device: u8, table: u8, offset: u16, count: usize) -> Opened {
-        match bridge::open_read(&b, buffer, device, table, offset, count) {
-            Ok((bridge, ticket)) => Opened { bridge, ticket, number: 0 },
-            Err(number) => Opened { bridge: b, ticket: 0, number },
-        }
+    fn open_read(&self, b: Bridge, lent: Buffers, device: u8, table: u8, offset: u16, count: usize) -> Opened {
+        opened(b, bridge::open_read(&b, lent, device, table, offset, count))
     }
 
-    fn open_write(&self, b: Bridge, buffer: &mut [u8], device: u8, table: u8, offset: u16, bytes: &[u8]) -> Opened {
-        match bridge::open_write(&b, buffer, device, table, offset, bytes) {
-            Ok((bridge, after, ticket)) => {
-                buffer.copy_from_slice(&after);
-                Opened { bridge, ticket, number: 0 }
-            }
-            Err(number) => Opened { bridge: b, ticket: 0, number },
-        }
+    fn open_write(&self, b: Bridge, lent: BuffersMut, device: u8, table: u8, offset: u16, bytes: &[u8]) -> Opened {
+        let answer = bridge::open_write(&b, lent.get(), device, table, offset, bytes);
+        copied(b, answer, lent.first)
     }
 
-    fn turn(&self, b: Bridge, buffer: &[u8]) -> Stepped {
-        match bridge::turn(&b, buffer) {
+    fn open_check(&self, b: Bridge, lent: BuffersMut, device: u8, table: u8, offset: u16, bytes: &[u8]) -> Opened {
+        let answer = bridge::open_check(&b, lent.get(), device, table, offset, bytes);
+        copied(b, answer, lent.second)
+    }
+
+    fn turn(&self, b: Bridge, lent: Buffers) -> Stepped {
+        match bridge::turn(&b, lent) {
             Ok((bridge, frame)) => Stepped { bridge, answer: yielded(Ok(frame)) },
             Err(number) => Stepped { bridge: b, answer: yielded(Err(number)) },
         }
     }
 
-    fn frame(&self, b: Bridge, buffer: &mut [u8], frame: Frame) -> Stepped {
-        match bridge::frame(&b, buffer, &frame) {
-            Ok((bridge, after)) => {
-                buffer.copy_from_slice(&after);
+    fn frame(&self, b: Bridge, lent: BuffersMut, frame: Frame) -> Stepped {
+        match bridge::frame(&b, lent.get(), &frame) {
+            Ok((bridge, first)) => {
+                lent.first.copy_from_slice(&first);
                 Stepped { bridge, answer: yielded(Ok(None)) }
             }
             Err(number) => Stepped { bridge: b, answer: yielded(Err(number)) },
@@ -160,8 +189,8 @@ impl Side for Model {
         bridge::status(&b, ticket).err().unwrap_or(0)
     }
 
-    fn span(&self, b: Bridge, buffer: &[u8], ticket: u32) -> Span {
-        span_of(bridge::bytes(&b, buffer, ticket))
+    fn span(&self, b: Bridge, first: &[u8], ticket: u32) -> Span {
+        span_of(bridge::bytes(&b, first, ticket))
     }
 
     fn close(&self, b: Bridge, ticket: u32) -> Changed {
@@ -179,14 +208,14 @@ impl Side for Model {
     }
 
     /// Thin calls, made after the calls by value.
-    fn turn_in_place(&self, b: &mut Bridge, buffer: &[u8]) -> Yielded {
-        let stepped = self.turn(*b, buffer);
+    fn turn_in_place(&self, b: &mut Bridge, lent: Buffers) -> Yielded {
+        let stepped = self.turn(*b, lent);
         *b = stepped.bridge;
         stepped.answer
     }
 
-    fn frame_in_place(&self, b: &mut Bridge, buffer: &mut [u8], frame: Frame) -> Yielded {
-        let stepped = self.frame(*b, buffer, frame);
+    fn frame_in_place(&self, b: &mut Bridge, lent: BuffersMut, frame: Frame) -> Yielded {
+        let stepped = self.frame(*b, lent, frame);
         *b = stepped.bridge;
         stepped.answer
     }

@@ -2,8 +2,8 @@
 //! the customer's demands.
 
 use crate::abi::*;
-use crate::model::bridge::{self, fresh};
-use crate::model::{be32, frd, holder, identifier, listing, mlg, request, value, zero_ended};
+use crate::model::bridge::{self, fresh, Buffers};
+use crate::model::{be32, frd, holder, identifier, listing, mlg, request, value, zero_ended, Number, REQ};
 use crate::rng::Rng;
 
 #[test]
@@ -47,103 +47,225 @@ fn protocol_query() {
     assert_eq!(answer(4, [0x80, 6, 0, 1, 9, 9, 9, 9]), Ok((vec![], Some(short))));
 }
 
+/// A device's reply to a request, with bytes.
+fn reply_to(frame: &Frame, bytes: &[u8]) -> Frame {
+    let to = identifier::unpack(frame.id).unwrap();
+    let [a, b, c, ..] = frame.bytes;
+    let asked = request::read(a, b, c).unwrap();
+    let parts = Parts { offset: asked.offset, kind: 2, from: to.to, to: to.from, table: asked.table };
+    holder::frame(parts, &bytes[..asked.count as usize])
+}
+
+/// A bridge and its two buffers.
+struct Dash {
+    state: Bridge,
+    first: Vec<u8>,
+    second: Vec<u8>,
+}
+
+impl Dash {
+    fn new(own: u8, rng: &mut Rng) -> Dash {
+        Dash { state: fresh(own), first: rng.bytes(512), second: rng.bytes(512) }
+    }
+
+    fn lent(&self) -> Buffers<'_> {
+        Buffers { first: &self.first, second: &self.second }
+    }
+
+    /// Opens a transfer with device 5, of a kind and as many bytes as are given; its ticket.
+    fn open(&mut self, kind: u8, table: u8, offset: u16, bytes: &[u8]) -> Result<u32, Number> {
+        let (state, ticket);
+        match kind {
+            READ => (state, ticket) = bridge::open_read(&self.state, self.lent(), 5, table, offset, bytes.len())?,
+            WRITE => {
+                (state, self.first, ticket) = bridge::open_write(&self.state, self.lent(), 5, table, offset, bytes)?
+            }
+            _ => (state, self.second, ticket) = bridge::open_check(&self.state, self.lent(), 5, table, offset, bytes)?,
+        }
+        self.state = state;
+        Ok(ticket)
+    }
+
+    fn turn(&mut self) -> Option<Frame> {
+        let (state, frame) = bridge::turn(&self.state, self.lent()).unwrap();
+        self.state = state;
+        frame
+    }
+
+    fn turns(&mut self, count: usize) {
+        for _ in 0..count {
+            self.turn();
+        }
+    }
+
+    fn frame(&mut self, frame: &Frame) {
+        (self.state, self.first) = bridge::frame(&self.state, self.lent(), frame).unwrap();
+    }
+
+    fn close(&mut self, ticket: u32) {
+        self.state = bridge::close(&self.state, ticket).unwrap();
+    }
+
+    fn status(&self, ticket: u32) -> Number {
+        bridge::status(&self.state, ticket).err().unwrap_or(0)
+    }
+}
+
+/// A turn, and a reply to what it asks in `replies` of a hundred; `equal` of a hundred bring what the second buffer has.
+fn turn_with_replies(dash: &mut Dash, rng: &mut Rng, replies: usize, equal: usize) {
+    let asked = dash.turn().filter(|frame| identifier::unpack(frame.id).unwrap().kind == REQ);
+    let Some(frame) = asked.filter(|_| rng.percent(replies)) else {
+        return;
+    };
+    let index = dash.state.last as usize;
+    let place = bridge::place(&dash.state.slots[index], index);
+    let mut bytes = rng.bytes(8);
+    if rng.percent(equal) {
+        bytes = dash.second[place..place + 8].to_vec();
+    }
+    dash.frame(&reply_to(&frame, &bytes));
+}
+
 /// Every state that lists of calls reach from a fresh bridge is sound, and every transfer
-/// ends within 72 accepted turns for each started eight bytes.
+/// ends within 72 accepted turns for each started eight bytes, a checked write within 76.
 #[test]
-fn transfers_end_within_72_turns() {
+fn transfers_end_within_their_turns() {
     let mut rng = Rng::new(1, 101, 0);
     for _ in 0..300 {
-        let (mut state, mut buffer) = (fresh(3), rng.bytes(512));
+        let mut dash = Dash::new(3, &mut rng);
         let mut open: Vec<(u32, usize, usize)> = Vec::new(); // ticket, bound, turns
-        let replies = rng.pick(&[0, 10, 50]);
+        let (replies, equal) = (rng.pick(&[0, 10, 50]), rng.pick(&[50, 95]));
         for _ in 0..3000 {
             match rng.below(100) {
                 0..=9 => {
-                    let (kind, count) = (rng.below(2), rng.within(1, 128));
-                    let opened = if kind == 0 {
-                        bridge::open_read(&state, &buffer, 5, 7, 0, count)
-                    } else {
-                        let bytes = rng.bytes(count);
-                        bridge::open_write(&state, &buffer, 5, 7, 0, &bytes).map(|(after, filled, ticket)| {
-                            buffer = filled;
-                            (after, ticket)
-                        })
-                    };
-                    if let Ok((after, ticket)) = opened {
-                        state = after;
-                        open.push((ticket, 72 * count.div_ceil(8), 0));
+                    let (kind, count) = (rng.pick(&[READ, WRITE, CHECK]), rng.within(1, 128));
+                    if let Ok(ticket) = dash.open(kind, 7, 0, &rng.bytes(count)) {
+                        let turns = if kind == CHECK { 76 } else { 72 };
+                        open.push((ticket, turns * count.div_ceil(8), 0));
                     }
                 }
-                10 if !open.is_empty() => {
-                    let (ticket, ..) = open.swap_remove(rng.below(open.len()));
-                    state = bridge::close(&state, ticket).unwrap();
-                }
+                10 if !open.is_empty() => dash.close(open.swap_remove(rng.below(open.len())).0),
                 _ => {
-                    let (after, frame) = bridge::turn(&state, &buffer).unwrap();
-                    state = after;
-                    if let (Some(frame), true) = (frame, rng.percent(replies)) {
-                        let parts = identifier::unpack(frame.id).unwrap();
-                        if parts.kind == 1 {
-                            let [a, b, c, ..] = frame.bytes;
-                            let asked = request::read(a, b, c).unwrap();
-                            let id = Parts { offset: asked.offset, kind: 2, from: 5, to: 3, table: asked.table };
-                            let reply = holder::frame(id, &rng.bytes(asked.count as usize));
-                            (state, buffer) = bridge::frame(&state, &buffer, &reply).unwrap();
-                        }
-                    }
+                    turn_with_replies(&mut dash, &mut rng, replies, equal);
                     for (ticket, bound, turns) in open.iter_mut() {
                         *turns += 1;
-                        if bridge::status(&state, *ticket) == Err(15) {
-                            assert!(*turns < *bound, "ticket {ticket} after {turns} turns");
-                        }
+                        assert!(dash.status(*ticket) != 15 || *turns < *bound, "ticket {ticket} after {turns} turns");
                     }
                 }
             }
-            assert!(bridge::sound(&state));
+            assert!(bridge::sound(&dash.state));
         }
     }
 }
 
+/// Transfers of one byte that nobody answers, each of whose sends waits for three writes: they end later than they would alone,
+/// and a checked write after more than a read's 72 turns.
+#[test]
+fn transfers_that_wait_for_others() {
+    for (kind, before, turns) in [(READ, 8, 69), (CHECK, 16, 73)] {
+        let mut dash = Dash { state: fresh(3), first: vec![0; 512], second: vec![0; 512] };
+        let mut writes = [(); 3].map(|_| dash.open(WRITE, 7, 0, &vec![1; before]).unwrap());
+        let ticket = dash.open(kind, 7, 0, &[2]).unwrap();
+        let first_sends = before / 8 * 4;
+        dash.turns(first_sends);
+        for _ in 0..2 {
+            dash.turns(19);
+            writes.iter().for_each(|write| dash.close(*write));
+            writes = [(); 3].map(|_| dash.open(WRITE, 7, 0, &[1; 8]).unwrap());
+            dash.turns(4);
+        }
+        dash.turns(19);
+        assert_eq!(first_sends + 2 * (19 + 4) + 19, turns);
+        assert_eq!(dash.status(ticket), 15);
+        dash.turns(1);
+        assert_eq!(dash.status(ticket), 16);
+    }
+}
+
+/// Turns beside a holder until the transfer with ticket 1 has ended, how many; the holder misses the frame of one turn.
+fn turns_with_holder(dash: &mut Dash, directory: &Directory, memory: &mut Vec<u8>, missed: Option<usize>) -> usize {
+    let mut turns = 0;
+    while dash.status(1) == 15 {
+        let frame = dash.turn().unwrap();
+        if missed != Some(turns) {
+            let (filled, reply) = holder::serve(directory, memory, &frame).unwrap();
+            *memory = filled;
+            reply.iter().for_each(|reply| dash.frame(reply));
+        }
+        turns += 1;
+    }
+    turns
+}
+
 /// A read through the bridge from a holder shows the table's bytes; a write sets exactly
-/// the addressed bytes.
+/// the addressed bytes, and a checked write says so; it is different where the holder missed a CMD.
 #[test]
 fn bridge_and_holder_together() {
     let mut rng = Rng::new(1, 102, 0);
-    for _ in 0..500 {
-        let mut directory = Directory { own: 5, ..Directory::default() };
-        directory.sizes = [200; 32];
-        directory.rights = [2; 32];
+    let directory = Directory { own: 5, sizes: [200; 32], rights: [2; 32], ..Directory::default() };
+    for _ in 0..1000 {
         let mut memory = rng.bytes(32 * 200);
         let (table, count) = (rng.below(32), rng.within(1, 128));
         let offset = rng.below(201 - count);
         let place = 200 * table + offset;
-        let (state, mut buffer) = (fresh(0), rng.bytes(512));
-        let write = rng.percent(50);
-        let bytes = rng.bytes(count);
+        let (kind, bytes) = (rng.pick(&[READ, WRITE, CHECK]), rng.bytes(count));
+        let started = count.div_ceil(8);
+        let missed = (kind == CHECK && rng.percent(50)).then(|| rng.below(started));
         let mut wanted = memory.clone();
-        let mut state = if write {
+        if kind != READ {
             wanted[place..place + count].copy_from_slice(&bytes);
-            let opened = bridge::open_write(&state, &buffer, 5, table as u8, offset as u16, &bytes).unwrap();
-            buffer = opened.1;
-            opened.0
-        } else {
-            bridge::open_read(&state, &buffer, 5, table as u8, offset as u16, count).unwrap().0
-        };
-        for _ in 0..count.div_ceil(8) {
-            let (after, frame) = bridge::turn(&state, &buffer).unwrap();
-            state = after;
-            let (filled, reply) = holder::serve(&directory, &memory, &frame.unwrap()).unwrap();
-            memory = filled;
-            if let Some(reply) = reply {
-                (state, buffer) = bridge::frame(&state, &buffer, &reply).unwrap();
-            }
         }
-        assert!(bridge::status(&state, 1).is_ok());
+        if let Some(turn) = missed {
+            let part = place + 8 * turn..place + count.min(8 * turn + 8);
+            wanted[part.clone()].copy_from_slice(&memory[part]);
+        }
+        let different = kind == CHECK && wanted[place..place + count] != bytes;
+        let mut dash = Dash::new(0, &mut rng);
+        assert_eq!(dash.open(kind, table as u8, offset as u16, &bytes), Ok(1));
+        let turns = turns_with_holder(&mut dash, &directory, &mut memory, missed);
+        let read_back = if different { missed.unwrap() + 1 } else { started };
+        assert_eq!(turns, started + if kind == CHECK { read_back } else { 0 });
         assert_eq!(memory, wanted);
-        let (start, length) = bridge::bytes(&state, &buffer, 1).unwrap();
-        let shown = &buffer[start..start + length];
-        assert_eq!(shown, if write { &[][..] } else { &memory[place..place + count] });
+        assert_eq!(dash.status(1), if different { 18 } else { 0 });
+        let shown = bridge::bytes(&dash.state, &dash.first, 1);
+        let shown = shown.map(|(start, length)| dash.first[start..start + length].to_vec());
+        let table = if kind == READ { memory[place..place + count].to_vec() } else { vec![] };
+        assert_eq!(shown, if different { Err(18) } else { Ok(table) });
     }
+}
+
+/// 02, C-17: sound as an unfinished write while sending, then as a read; different, with progress a multiple of 8 below the
+/// count and no sends.
+#[test]
+fn soundness_of_checked_writes() {
+    let slot = Slot { ticket: 1, phase: READY, kind: CHECK, count: 20, progress: 8, ..Slot::default() };
+    let alone = |slot: Slot| {
+        let mut bridge = Bridge { issued: 1, ..fresh(0) };
+        bridge.slots[2] = slot;
+        bridge::sound(&bridge)
+    };
+    assert!(alone(slot));
+    assert!(!alone(Slot { sends: 1, ..slot }));
+    assert!(!alone(Slot { phase: WAITING, sends: 1, left: 1, ..slot }));
+    assert!(!alone(Slot { phase: GAVE_UP, sends: 3, ..slot }));
+    assert!(!alone(Slot { phase: DONE, progress: 20, ..slot }));
+    assert!(!alone(Slot { phase: DIFFERENT, ..slot }));
+    let back = Slot { kind: READ_BACK, ..slot };
+    assert!(alone(back));
+    assert!(alone(Slot { sends: 2, ..back }));
+    assert!(alone(Slot { phase: WAITING, sends: 1, left: 1, ..back }));
+    assert!(alone(Slot { phase: GAVE_UP, sends: 3, ..back }));
+    assert!(alone(Slot { phase: DONE, progress: 20, ..back }));
+    let different = Slot { phase: DIFFERENT, ..back };
+    assert!(alone(different));
+    assert!(!alone(Slot { sends: 1, ..different }));
+    assert!(!alone(Slot { left: 1, ..different }));
+    assert!(!alone(Slot { progress: 20, ..different }));
+    assert!(!alone(Slot { progress: 9, ..different }));
+    assert!(!alone(Slot { kind: READ, ..different }));
+    assert!(!alone(Slot { kind: WRITE, ..different }));
+    assert!(!alone(Slot { kind: 4, ..slot }));
+    assert!(!alone(Slot { phase: 6, ..back }));
 }
 
 /// The header's judgements one by one, in 01's order.

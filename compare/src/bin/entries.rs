@@ -15,7 +15,7 @@ mod side;
 
 use abi::*;
 use model::{bridge, frd, listing, mlg, CMD, REQ, RSP, XTND};
-use side::{Model, Side};
+use side::{Buffers, BuffersMut, Model, Side};
 use std::mem::{align_of, offset_of, size_of};
 
 /// A value as the C program prints it.
@@ -95,16 +95,17 @@ structs! {
 
 /// The constants of the header: 01's numbers, types, places and lengths, and the model's.
 #[rustfmt::skip]
-const CONSTANTS: [(&str, usize); 81] = [
+const CONSTANTS: [(&str, usize); 85] = [
     ("DONE", 0), ("ID_TOO_LARGE", 1), ("SPARE_BITS", 2), ("FRAME_TOO_LONG", 3), ("OTHER_DEVICE", 4), ("TYPE", 5), ("REQUEST_BITS", 6),
     ("NO_RIGHT", 7), ("RANGE", 8), ("COUNT", 9), ("MEMORY_LENGTH", 10), ("UNSOUND", 11), ("NO_SLOT", 12), ("NO_TICKET", 13),
-    ("UNKNOWN_TICKET", 14), ("NOT_FINISHED", 15), ("GAVE_UP", 16), ("NO_MATCH", 17), ("CUT_SHORT", 20), ("WRONG_NAME", 21),
-    ("VERSION", 22), ("DISAGREE", 23), ("FIELD_TYPE", 24), ("BLOCK_TYPE", 25), ("SUM", 26), ("OUTPUT_TOO_SMALL", 27), ("TEXT", 28),
+    ("UNKNOWN_TICKET", 14), ("NOT_FINISHED", 15), ("GAVE_UP", 16), ("NO_MATCH", 17), ("DIFFERENT", 18), ("CUT_SHORT", 20),
+    ("WRONG_NAME", 21), ("VERSION", 22), ("DISAGREE", 23), ("FIELD_TYPE", 24), ("BLOCK_TYPE", 25), ("SUM", 26), ("OUTPUT_TOO_SMALL", 27), ("TEXT", 28),
     ("NO_SHOWN_VALUE", 30),
 
     ("CMD", CMD as usize), ("REQ", REQ as usize), ("RSP", RSP as usize), ("XTND", XTND as usize),
     ("PHASE_FREE", FREE as usize), ("PHASE_READY", READY as usize), ("PHASE_WAITING", WAITING as usize), ("PHASE_DONE", DONE as usize),
-    ("PHASE_GAVE_UP", GAVE_UP as usize), ("READ", READ as usize), ("WRITE", WRITE as usize),
+    ("PHASE_GAVE_UP", GAVE_UP as usize), ("PHASE_DIFFERENT", DIFFERENT as usize),
+    ("READ", READ as usize), ("WRITE", WRITE as usize), ("READ_BACK", READ_BACK as usize), ("CHECK", CHECK as usize),
     ("BUFFER", bridge::BUFFER), ("MOST", bridge::PART),
 
     ("MLG_HEADER", mlg::HEADER), ("MLG_FIELD", mlg::FIELD),
@@ -179,70 +180,127 @@ fn reply(place: u16, bytes: &[u8]) -> Frame {
     model::holder::frame(Parts { offset: place, kind: RSP, from: 5, to: 9, table: 6 }, bytes)
 }
 
-/// A write of ten bytes in slot 0, ticket 1, and a read of twelve in slot 1, ticket 2.
-fn openings(buffer: &mut [u8]) -> Bridge {
+/// Both buffers of a bridge.
+struct Both {
+    first: [u8; bridge::BUFFER],
+    second: [u8; bridge::BUFFER],
+}
+
+impl Both {
+    fn new() -> Both {
+        Both { first: pattern(1), second: pattern(60) }
+    }
+
+    /// The buffers with these lengths.
+    fn lent(&self, first: usize, second: usize) -> Buffers<'_> {
+        Buffers { first: &self.first[..first], second: &self.second[..second] }
+    }
+
+    fn lent_mut(&mut self, first: usize, second: usize) -> BuffersMut<'_> {
+        BuffersMut { first: &mut self.first[..first], second: &mut self.second[..second] }
+    }
+}
+
+/// A write of ten bytes in slot 0, ticket 1; a read of twelve in slot 1, ticket 2; a checked write of ten in slot 2, ticket 3.
+fn openings(both: &mut Both) -> Bridge {
     let dirty = Bridge { issued: 7, own: 8, last: 2, ..Bridge::default() };
     let fresh = call("hg_bridge_reset", Model.reset(dirty, 9)).bridge;
     call("hg_bridge_reset", Model.reset(fresh, 16));
-    let mut write = |b, offset| {
-        let opened = call("hg_bridge_open_write", Model.open_write(b, buffer, 4, 21, offset, &pattern::<10>(200)));
-        changed("hg_bridge_open_write", "buffer", buffer);
+    let mut write = |b, second_len, offset| {
+        let (lent, bytes) = (both.lent_mut(512, second_len), pattern::<10>(200));
+        let opened = call("hg_bridge_open_write", Model.open_write(b, lent, 4, 21, offset, &bytes));
+        changed("hg_bridge_open_write", "first", &both.first);
         opened.bridge
     };
-    let first = write(fresh, 300);
-    write(first, 2047);
-    let second = call("hg_bridge_open_read", Model.open_read(first, buffer, 5, 22, 100, 12)).bridge;
-    call("hg_bridge_open_read", Model.open_read(first, buffer, 16, 22, 100, 12));
-    call("hg_bridge_open_read", Model.open_read(first, buffer, 5, 22, 100, 129));
-    second
+    let one = write(fresh, 512, 300);
+    write(one, 512, 2047);
+    write(one, 511, 300);
+    let read = |first_len, second_len, device, count| {
+        let lent = both.lent(first_len, second_len);
+        call("hg_bridge_open_read", Model.open_read(one, lent, device, 22, 100, count)).bridge
+    };
+    let two = read(512, 512, 5, 12);
+    read(512, 512, 16, 12);
+    read(512, 512, 5, 129);
+    read(511, 512, 5, 12);
+    read(512, 511, 5, 12);
+    let mut check = |first_len, offset| {
+        let (lent, bytes) = (both.lent_mut(first_len, 512), pattern::<10>(100));
+        let opened = call("hg_bridge_open_check", Model.open_check(two, lent, 5, 23, offset, &bytes));
+        changed("hg_bridge_open_check", "second", &both.second);
+        opened.bridge
+    };
+    let three = check(512, 200);
+    check(512, 2047);
+    check(511, 200);
+    three
 }
 
+/// The read's second reply is the last, the checked write's second differs.
 fn bridge_by_value() {
-    let mut buffer: [u8; bridge::BUFFER] = pattern(1);
-    let mut b = openings(&mut buffer);
-    let turn = |b, buffer: &[u8]| call("hg_bridge_turn", Model.turn(b, buffer)).bridge;
-    let frame = |b, buffer: &mut [u8], frame| {
-        let stepped = call("hg_bridge_frame", Model.frame(b, buffer, frame));
-        changed("hg_bridge_frame", "buffer", buffer);
+    let mut both = Both::new();
+    let mut b = openings(&mut both);
+    let turn = |b, both: &Both, first_len, second_len| {
+        call("hg_bridge_turn", Model.turn(b, both.lent(first_len, second_len))).bridge
+    };
+    let frame = |b, both: &mut Both, second_len, frame| {
+        let stepped = call("hg_bridge_frame", Model.frame(b, both.lent_mut(512, second_len), frame));
+        changed("hg_bridge_frame", "first", &both.first);
         stepped.bridge
     };
-    for _ in 1..=3 {
-        b = turn(b, &buffer);
+    for _ in 1..=6 {
+        b = turn(b, &both, 512, 512);
     }
-    turn(b, &buffer[..511]);
-    b = frame(b, &mut buffer, reply(128, b"a reply."));
-    frame(b, &mut buffer, reply(128, b"a reply."));
-    b = turn(b, &buffer);
+    turn(b, &both, 511, 512);
+    turn(b, &both, 512, 511);
+    b = frame(b, &mut both, 512, reply(128, b"a reply."));
+    frame(b, &mut both, 512, reply(128, b"a reply."));
+    frame(b, &mut both, 511, reply(256, &pattern::<8>(100)));
+    b = frame(b, &mut both, 512, reply(256, &pattern::<8>(100)));
+    b = turn(b, &both, 512, 512);
     call("hg_bridge_status", Model.status(b, 2));
-    call("hg_bridge_span", Model.span(b, &buffer, 2));
-    b = frame(b, &mut buffer, reply(136, b"more"));
+    call("hg_bridge_span", Model.span(b, &both.first, 2));
+    b = frame(b, &mut both, 512, reply(136, b"more"));
     call("hg_bridge_status", Model.status(b, 2));
+    call("hg_bridge_status", Model.status(b, 4));
+    call("hg_bridge_span", Model.span(b, &both.first, 2));
+    call("hg_bridge_span", Model.span(b, &both.first, 1));
+    b = turn(b, &both, 512, 512);
     call("hg_bridge_status", Model.status(b, 3));
-    call("hg_bridge_span", Model.span(b, &buffer, 2));
-    call("hg_bridge_span", Model.span(b, &buffer, 1));
+    b = frame(b, &mut both, 512, reply(264, b"no"));
+    call("hg_bridge_status", Model.status(b, 3));
+    call("hg_bridge_span", Model.span(b, &both.first, 3));
     b = call("hg_bridge_close", Model.close(b, 1)).bridge;
     call("hg_bridge_close", Model.close(b, 1));
 }
 
+/// The checked write's replies are equal.
 fn bridge_in_place() {
-    let mut buffer: [u8; bridge::BUFFER] = pattern(1);
-    let mut b = openings(&mut buffer);
-    let turn = |b: &mut Bridge, buffer: &[u8]| {
-        call("hg_bridge_turn_in_place", Model.turn_in_place(b, buffer));
+    let mut both = Both::new();
+    let mut b = openings(&mut both);
+    let turn = |b: &mut Bridge, both: &Both, first_len, second_len| {
+        call("hg_bridge_turn_in_place", Model.turn_in_place(b, both.lent(first_len, second_len)));
         call("hg_bridge_turn_in_place b", *b);
     };
-    let frame = |b: &mut Bridge, buffer: &mut [u8], frame| {
-        call("hg_bridge_frame_in_place", Model.frame_in_place(b, buffer, frame));
+    let frame = |b: &mut Bridge, both: &mut Both, second_len, frame| {
+        call("hg_bridge_frame_in_place", Model.frame_in_place(b, both.lent_mut(512, second_len), frame));
         call("hg_bridge_frame_in_place b", *b);
-        changed("hg_bridge_frame_in_place", "buffer", buffer);
+        changed("hg_bridge_frame_in_place", "first", &both.first);
     };
-    for _ in 1..=3 {
-        turn(&mut b, &buffer);
+    for _ in 1..=6 {
+        turn(&mut b, &both, 512, 512);
     }
-    turn(&mut b, &buffer[..511]);
-    frame(&mut b, &mut buffer, reply(128, b"a reply."));
-    frame(&mut b, &mut buffer, reply(128, b"a reply."));
-    turn(&mut b, &buffer);
+    turn(&mut b, &both, 511, 512);
+    turn(&mut b, &both, 512, 511);
+    frame(&mut b, &mut both, 512, reply(128, b"a reply."));
+    frame(&mut b, &mut both, 512, reply(128, b"a reply."));
+    frame(&mut b, &mut both, 511, reply(256, &pattern::<8>(100)));
+    frame(&mut b, &mut both, 512, reply(256, &pattern::<8>(100)));
+    turn(&mut b, &both, 512, 512);
+    turn(&mut b, &both, 512, 512);
+    frame(&mut b, &mut both, 512, reply(264, &pattern::<10>(100)[8..]));
+    call("hg_bridge_status", Model.status(b, 3));
+    call("hg_bridge_span", Model.span(b, &both.first, 3));
     for _ in 1..=2 {
         call("hg_bridge_close_in_place", Model.close_in_place(&mut b, 1));
         call("hg_bridge_close_in_place b", b);

@@ -1,19 +1,19 @@
-//! Lists of up to 400 bridge calls: all calls, wrong buffers, unsound states, tickets near
-//! their end, replies right, late, foreign and damaged. State, buffer and answer are
-//! compared after every call; turn, frame and close also in place.
+//! Lists of up to 400 bridge calls: all calls, all kinds of transfers, wrong buffers, unsound states, tickets near
+//! their end, replies right, late, doubled, foreign, damaged, and equal or other than what a checked write sent. State,
+//! both buffers and answer are compared after every call; turn, frame and close also in place.
 
 use super::Outcome;
 use crate::abi::*;
-use crate::judge::{Judge, Lent};
+use crate::judge::{Difference, Judge, Lent};
 use crate::model::bridge::{chunk, fresh, place};
 use crate::model::{identifier, request, CMD, REQ, RSP};
 use crate::rng::Rng;
-use crate::side::{Model, Side};
+use crate::side::{Buffers, BuffersMut, Model, Side};
 
 #[derive(Clone, Debug)]
 enum Call {
     OpenRead { device: u8, table: u8, offset: u16, count: usize },
-    OpenWrite { device: u8, table: u8, offset: u16, bytes: Vec<u8> },
+    OpenWrite { checked: bool, device: u8, table: u8, offset: u16, bytes: Vec<u8> },
     Turn,
     Frame(Frame),
     Status(u32),
@@ -22,12 +22,30 @@ enum Call {
     Reset(u8),
 }
 
+/// The two buffers lent to a call.
+#[derive(Clone, Debug, PartialEq)]
+struct Both {
+    first: Lent,
+    second: Lent,
+}
+
+impl Both {
+    fn get(&self) -> Buffers<'_> {
+        Buffers { first: self.first.get(), second: self.second.get() }
+    }
+
+    fn get_mut(&mut self) -> BuffersMut<'_> {
+        BuffersMut { first: self.first.get_mut(), second: self.second.get_mut() }
+    }
+}
+
 /// One call; with another state or buffer than the list's own, the list's stay as they are.
 #[derive(Clone, Debug)]
 struct Step {
     call: Call,
     state: Option<Bridge>,
-    buffer: Option<Lent>,
+    first: Option<Lent>,
+    second: Option<Lent>,
 }
 
 /// How likely things are in a list.
@@ -39,136 +57,182 @@ struct Manner {
     spoiled: usize,
     /// Of a hundred frames, how many are made wrong in some way.
     wrong_frames: usize,
+    /// Of a hundred replies to a checked write, how many are made to bring other bytes than it sent.
+    other_bytes: usize,
 }
 
 /// What the generator remembers of a list.
 #[derive(Default)]
 struct Past {
     requests: Vec<Frame>,
+    replies: Vec<Frame>,
     tickets: Vec<u32>,
 }
 
-pub fn run(rng: &mut Rng, judge: &mut Judge) -> Outcome {
-    let first_state = if rng.percent(50) { fresh(rng.below(16) as u8) } else { random_sound(rng) };
-    let first_buffer = Lent::new(&rng.bytes(512));
-    let manner = Manner {
+fn random_manner(rng: &mut Rng) -> Manner {
+    Manner {
         turns: rng.pick(&[20, 45, 70, 90]),
         replies: rng.pick(&[0, 3, 15, 40]),
         openings: rng.pick(&[2, 8, 20]),
         closings: rng.pick(&[0, 2, 6]),
         spoiled: rng.pick(&[0, 3, 15]),
         wrong_frames: rng.pick(&[2, 20, 60]),
-    };
+        other_bytes: rng.pick(&[2, 10, 50]),
+    }
+}
+
+pub fn run(rng: &mut Rng, judge: &mut Judge) -> Outcome {
+    let first_state = if rng.percent(50) { fresh(rng.below(16) as u8) } else { random_sound(rng) };
+    let first_lent = Both { first: Lent::new(&rng.bytes(512)), second: Lent::new(&rng.bytes(512)) };
+    let manner = random_manner(rng);
     let mut state = first_state;
-    let mut buffer = first_buffer.clone();
+    let mut lent = first_lent.clone();
     let mut past = Past::default();
     let mut steps = Vec::new();
     let longest = rng.pick(&[1, 10, 80, 400]);
     for _ in 0..rng.within(1, longest) {
-        let call = random_call(rng, &manner, &state, &past);
+        let call = random_call(rng, &manner, &state, lent.get(), &past);
         let spoil = rng.percent(manner.spoiled);
         let step = Step {
             call,
             state: (spoil && rng.percent(60)).then(|| damaged(rng, &state)),
-            buffer: (spoil && rng.percent(50)).then(|| wrong_buffer(rng)),
+            first: (spoil && rng.percent(35)).then(|| wrong_buffer(rng)),
+            second: (spoil && rng.percent(35)).then(|| wrong_buffer(rng)),
         };
         steps.push(step.clone());
         let input = || {
             let calls: Vec<String> = steps.iter().map(|step| format!("{step:?}")).collect();
             format!(
-                "first state {first_state:?}\nfirst buffer {first_buffer:?}\ncalls, the last one differs:\n{}\n\
+                "first state {first_state:?}\nfirst buffers {first_lent:?}\ncalls, the last one differs:\n{}\n\
                  state before the last call {state:?}",
                 calls.join("\n")
             )
         };
-        let own = step.state.is_none() && step.buffer.is_none();
+        let own = step.state.is_none() && step.first.is_none() && step.second.is_none();
         let given = step.state.unwrap_or(state);
-        let lent = step.buffer.unwrap_or_else(|| buffer.clone());
-        let (after, filled) = compare(judge, &step.call, given, lent, &mut past, &input)?;
+        let now = Both {
+            first: step.first.unwrap_or_else(|| lent.first.clone()),
+            second: step.second.unwrap_or_else(|| lent.second.clone()),
+        };
+        let (after, filled) = compare(judge, &step.call, given, now, &mut past, &input)?;
         if own {
-            (state, buffer) = (after, filled);
+            (state, lent) = (after, filled);
         }
     }
     Ok(())
 }
 
-/// Runs one call on both sides; hands back the state and buffer afterwards.
+/// One call to be made on both sides, and what each lends it.
+struct Made<'a> {
+    state: Bridge,
+    model: Both,
+    library: Both,
+    input: &'a dyn Fn() -> String,
+}
+
+/// Runs one call on both sides; hands back the state and buffers afterwards.
 fn compare(
-    judge: &mut Judge, call: &Call, state: Bridge, lent: Lent, past: &mut Past, input: &dyn Fn() -> String,
-) -> Result<(Bridge, Lent), crate::judge::Difference> {
+    judge: &mut Judge, call: &Call, state: Bridge, lent: Both, past: &mut Past, input: &dyn Fn() -> String,
+) -> Result<(Bridge, Both), Difference> {
     let side = judge.library;
-    let mut model = lent.clone();
-    let mut library = lent.clone();
+    let mut made = Made { state, model: lent.clone(), library: lent, input };
     let after = match call {
         Call::OpenRead { device, table, offset, count } => {
-            let one = Model.open_read(state, model.get(), *device, *table, *offset, *count);
-            let other = side.open_read(state, library.get(), *device, *table, *offset, *count);
-            let opened = judge.answer("open_read", one, other, input)?;
-            past.tickets.push(opened.ticket);
-            opened.bridge
+            let one = Model.open_read(state, made.model.get(), *device, *table, *offset, *count);
+            let other = side.open_read(state, made.library.get(), *device, *table, *offset, *count);
+            opened(judge.answer("open_read", one, other, input)?, past)
         }
-        Call::OpenWrite { device, table, offset, bytes } => {
-            let written = Lent::new(bytes);
-            let one = Model.open_write(state, model.get_mut(), *device, *table, *offset, bytes);
-            let other = side.open_write(state, library.get_mut(), *device, *table, *offset, written.get());
-            judge.same("bytes lent to open_write", &Lent::new(bytes), &written, input)?;
-            let opened = judge.answer("open_write", one, other, input)?;
-            past.tickets.push(opened.ticket);
-            opened.bridge
+        Call::OpenWrite { checked, device, table, offset, bytes } => {
+            opened(made.open_write(judge, *checked, *device, *table, *offset, bytes)?, past)
         }
-        Call::Turn => {
-            let one = Model.turn(state, model.get());
-            let other = side.turn(state, library.get());
-            let stepped = judge.answer("turn", one, other, input)?;
-            let (mut here, mut there) = (state, state);
-            let one = Model.turn_in_place(&mut here, model.get());
-            let other = side.turn_in_place(&mut there, library.get());
-            judge.answer("turn_in_place", one, other, input)?;
-            judge.same("state after turn_in_place", &here, &there, input)?;
-            if stepped.answer.frames == 1 && stepped.answer.frame.len == 3 {
-                past.requests.push(stepped.answer.frame);
-            }
-            stepped.bridge
-        }
+        Call::Turn => made.turn(judge, past)?,
         Call::Frame(frame) => {
-            let one = Model.frame(state, model.get_mut(), *frame);
-            let other = side.frame(state, library.get_mut(), *frame);
-            let stepped = judge.answer("frame", one, other, input)?;
-            let (mut here, mut there) = (state, state);
-            let (mut lent_here, mut lent_there) = (lent.clone(), lent.clone());
-            let one = Model.frame_in_place(&mut here, lent_here.get_mut(), *frame);
-            let other = side.frame_in_place(&mut there, lent_there.get_mut(), *frame);
-            judge.answer("frame_in_place", one, other, input)?;
-            judge.same("state after frame_in_place", &here, &there, input)?;
-            judge.same("buffer after frame_in_place", &lent_here, &lent_there, input)?;
-            stepped.bridge
+            past.replies.push(*frame);
+            made.frame(judge, *frame)?
         }
         Call::Status(ticket) => {
             judge.answer("status", Model.status(state, *ticket), side.status(state, *ticket), input)?;
             state
         }
         Call::Bytes(ticket) => {
-            let one = Model.span(state, model.get(), *ticket);
-            let other = side.span(state, library.get(), *ticket);
+            let one = Model.span(state, made.model.get().first, *ticket);
+            let other = side.span(state, made.library.get().first, *ticket);
             judge.answer("bytes", one, other, input)?;
             state
         }
-        Call::Close(ticket) => {
-            let changed = judge.answer("close", Model.close(state, *ticket), side.close(state, *ticket), input)?;
-            let (mut here, mut there) = (state, state);
-            let one = Model.close_in_place(&mut here, *ticket);
-            let other = side.close_in_place(&mut there, *ticket);
-            judge.answer("close_in_place", one, other, input)?;
-            judge.same("state after close_in_place", &here, &there, input)?;
-            changed.bridge
-        }
+        Call::Close(ticket) => made.close(judge, *ticket)?,
         Call::Reset(own) => judge.answer("reset", Model.reset(state, *own), side.reset(state, *own), input)?.bridge,
     };
-    judge.same("buffer afterwards", &model, &library, input)?;
-    Ok((after, model))
+    judge.same("buffers afterwards", &made.model, &made.library, input)?;
+    Ok((after, made.model))
 }
 
-fn random_call(rng: &mut Rng, manner: &Manner, state: &Bridge, past: &Past) -> Call {
+/// The bridge after an opening, whose ticket is remembered.
+fn opened(answer: Opened, past: &mut Past) -> Bridge {
+    past.tickets.push(answer.ticket);
+    answer.bridge
+}
+
+impl Made<'_> {
+    /// The opening of a write, or of a checked one.
+    fn open_write(
+        &mut self, judge: &mut Judge, checked: bool, device: u8, table: u8, offset: u16, bytes: &[u8],
+    ) -> Result<Opened, Difference> {
+        let state = self.state;
+        let open = |side: &dyn Side, lent: BuffersMut, bytes: &[u8]| match checked {
+            false => side.open_write(state, lent, device, table, offset, bytes),
+            true => side.open_check(state, lent, device, table, offset, bytes),
+        };
+        let name = if checked { "open_check" } else { "open_write" };
+        let written = Lent::new(bytes);
+        let one = open(&Model, self.model.get_mut(), bytes);
+        let other = open(judge.library, self.library.get_mut(), written.get());
+        judge.same(&format!("bytes lent to {name}"), &Lent::new(bytes), &written, self.input)?;
+        judge.answer(name, one, other, self.input)
+    }
+
+    fn turn(&mut self, judge: &mut Judge, past: &mut Past) -> Result<Bridge, Difference> {
+        let one = Model.turn(self.state, self.model.get());
+        let other = judge.library.turn(self.state, self.library.get());
+        let stepped = judge.answer("turn", one, other, self.input)?;
+        let (mut here, mut there) = (self.state, self.state);
+        let one = Model.turn_in_place(&mut here, self.model.get());
+        let other = judge.library.turn_in_place(&mut there, self.library.get());
+        judge.answer("turn_in_place", one, other, self.input)?;
+        judge.same("state after turn_in_place", &here, &there, self.input)?;
+        if stepped.answer.frames == 1 && stepped.answer.frame.len == 3 {
+            past.requests.push(stepped.answer.frame);
+        }
+        Ok(stepped.bridge)
+    }
+
+    fn frame(&mut self, judge: &mut Judge, frame: Frame) -> Result<Bridge, Difference> {
+        let (mut here, mut there) = (self.state, self.state);
+        let (mut lent_here, mut lent_there) = (self.model.clone(), self.library.clone());
+        let one = Model.frame(self.state, self.model.get_mut(), frame);
+        let other = judge.library.frame(self.state, self.library.get_mut(), frame);
+        let stepped = judge.answer("frame", one, other, self.input)?;
+        let one = Model.frame_in_place(&mut here, lent_here.get_mut(), frame);
+        let other = judge.library.frame_in_place(&mut there, lent_there.get_mut(), frame);
+        judge.answer("frame_in_place", one, other, self.input)?;
+        judge.same("state after frame_in_place", &here, &there, self.input)?;
+        judge.same("buffers after frame_in_place", &lent_here, &lent_there, self.input)?;
+        Ok(stepped.bridge)
+    }
+
+    fn close(&self, judge: &mut Judge, ticket: u32) -> Result<Bridge, Difference> {
+        let (one, other) = (Model.close(self.state, ticket), judge.library.close(self.state, ticket));
+        let changed = judge.answer("close", one, other, self.input)?;
+        let (mut here, mut there) = (self.state, self.state);
+        let one = Model.close_in_place(&mut here, ticket);
+        let other = judge.library.close_in_place(&mut there, ticket);
+        judge.answer("close_in_place", one, other, self.input)?;
+        judge.same("state after close_in_place", &here, &there, self.input)?;
+        Ok(changed.bridge)
+    }
+}
+
+fn random_call(rng: &mut Rng, manner: &Manner, state: &Bridge, lent: Buffers, past: &Past) -> Call {
     let weights = [manner.turns, manner.replies, manner.openings, manner.closings, 4, 4];
     let mut at = rng.below(weights.iter().sum());
     let mut choice = 0;
@@ -178,9 +242,10 @@ fn random_call(rng: &mut Rng, manner: &Manner, state: &Bridge, past: &Past) -> C
     }
     match choice {
         0 => Call::Turn,
-        // without a waiting read, mostly a turn, so that one may come to wait
+        // without a waiting slot, mostly a turn, so that one may come to wait
         1 if rng.percent(70) && state.slots.iter().all(|slot| slot.phase != WAITING) => Call::Turn,
-        1 => Call::Frame(random_reply(rng, manner, state, past)),
+        1 if rng.percent(manner.wrong_frames / 4) && !past.replies.is_empty() => Call::Frame(rng.pick(&past.replies)),
+        1 => Call::Frame(random_reply(rng, manner, state, lent, past)),
         2 => random_opening(rng),
         3 if rng.one_in(12) => Call::Reset(rng.pick(&[0, 1, 7, 15, 15, 16, 255])),
         3 => Call::Close(random_ticket(rng, state, past)),
@@ -210,11 +275,12 @@ fn random_opening(rng: &mut Rng) -> Call {
             _ => offset = rng.pick(&[2047, 2048, 2049 - count.min(2049), 65_535, 65_408]) as u16,
         }
     }
-    if rng.percent(50) {
-        let huge = rng.pick(&[256 + count, 1 << 32, (1 << 32) + count, usize::MAX, usize::MAX - 100]);
-        Call::OpenRead { device, table, offset, count: if rng.one_in(40) { huge } else { count } }
-    } else {
-        Call::OpenWrite { device, table, offset, bytes: rng.bytes(count) }
+    match rng.below(5) {
+        0 | 1 => {
+            let huge = rng.pick(&[256 + count, 1 << 32, (1 << 32) + count, usize::MAX, usize::MAX - 100]);
+            Call::OpenRead { device, table, offset, count: if rng.one_in(40) { huge } else { count } }
+        }
+        choice => Call::OpenWrite { checked: choice > 2, device, table, offset, bytes: rng.bytes(count) },
     }
 }
 
@@ -236,8 +302,8 @@ fn random_ticket(rng: &mut Rng, state: &Bridge, past: &Past) -> u32 {
     }
 }
 
-/// A frame for the bridge: the awaited reply of a waiting read, or something near it.
-fn random_reply(rng: &mut Rng, manner: &Manner, state: &Bridge, past: &Past) -> Frame {
+/// A frame for the bridge: the awaited reply of a waiting slot, or something near it.
+fn random_reply(rng: &mut Rng, manner: &Manner, state: &Bridge, lent: Buffers, past: &Past) -> Frame {
     let waiting: Vec<usize> = (0..4).filter(|index| state.slots[*index].phase == WAITING).collect();
     let index = if waiting.is_empty() { rng.below(4) } else { rng.pick(&waiting) };
     let slot = state.slots[index];
@@ -267,7 +333,7 @@ fn random_reply(rng: &mut Rng, manner: &Manner, state: &Bridge, past: &Past) -> 
         }
     }
     let mut frame = Frame { id: identifier::pack(parts).unwrap_or(0), len, bytes: [0; 8] };
-    frame.bytes.copy_from_slice(&rng.bytes(8));
+    frame.bytes.copy_from_slice(&brought(rng, manner, lent, parts.offset as usize, len as usize));
     match rng.below(60) {
         0 => frame.id |= rng.within(1, 3) as u32,
         1 => frame.id |= 1 << rng.within(29, 31),
@@ -276,6 +342,25 @@ fn random_reply(rng: &mut Rng, manner: &Manner, state: &Bridge, past: &Past) -> 
         _ => {}
     }
     frame
+}
+
+/// The bytes of a reply: mostly the second buffer's at its place, so that a checked write goes on; those past its length count for nothing.
+fn brought(rng: &mut Rng, manner: &Manner, lent: Buffers, place: usize, len: usize) -> Vec<u8> {
+    let at = |buffer: &[u8]| -> Vec<u8> { (0..8).map(|i| buffer.get(place + i).copied().unwrap_or(0)).collect() };
+    let mut bytes = at(lent.second);
+    if rng.percent(manner.other_bytes) {
+        match rng.below(4) {
+            0 => bytes = at(lent.first),
+            1 => bytes = rng.bytes(8),
+            2 => bytes[rng.below(len.clamp(1, 8))] ^= 1 << rng.below(8),
+            _ => bytes[0] ^= 1 << rng.below(8),
+        }
+    }
+    if rng.percent(50) && len < 8 {
+        bytes.truncate(len);
+        bytes.extend(rng.bytes(8 - len));
+    }
+    bytes
 }
 
 fn wrong_buffer(rng: &mut Rng) -> Lent {
@@ -313,7 +398,7 @@ fn random_slot(rng: &mut Rng, ticket: u32) -> Slot {
         ticket,
         offset: rng.below(2049 - count) as u16,
         phase: READY,
-        kind: rng.pick(&[READ, READ, WRITE]),
+        kind: rng.pick(&[READ, WRITE, READ_BACK, READ_BACK, CHECK]),
         device: rng.below(16) as u8,
         table: rng.below(32) as u8,
         count: count as u8,
@@ -321,10 +406,15 @@ fn random_slot(rng: &mut Rng, ticket: u32) -> Slot {
         sends: 0,
         left: 0,
     };
-    let phases = if slot.kind == READ { vec![READY, WAITING, WAITING, DONE, GAVE_UP] } else { vec![READY, DONE] };
-    slot.phase = rng.pick(&phases);
+    let phases: &[u8] = match slot.kind {
+        READ => &[READY, WAITING, WAITING, DONE, GAVE_UP],
+        READ_BACK => &[READY, WAITING, WAITING, WAITING, DONE, GAVE_UP, DIFFERENT],
+        WRITE => &[READY, DONE],
+        _ => &[READY],
+    };
+    slot.phase = rng.pick(phases);
     match slot.phase {
-        READY if slot.kind == READ => slot.sends = rng.below(3) as u8,
+        READY if [READ, READ_BACK].contains(&slot.kind) => slot.sends = rng.below(3) as u8,
         WAITING => {
             slot.sends = rng.within(1, 3) as u8;
             slot.left = rng.within(1, 20) as u8;
@@ -336,8 +426,54 @@ fn random_slot(rng: &mut Rng, ticket: u32) -> Slot {
     slot
 }
 
+/// A held slot that is not sound: a checked write that is more than sending, a difference where there is none, or a kind
+/// or phase that is none.
+fn unsound_check(rng: &mut Rng, ticket: u32) -> Slot {
+    let slot = loop {
+        let slot = random_slot(rng, ticket);
+        if slot.phase == READY {
+            break Slot { sends: 0, ..slot };
+        }
+    };
+    let sending = Slot { kind: CHECK, ..slot };
+    let different = Slot { kind: READ_BACK, phase: DIFFERENT, ..slot };
+    match rng.below(12) {
+        0 => Slot { phase: DONE, progress: slot.count, ..sending },
+        1 => Slot { phase: WAITING, sends: 1, left: rng.within(1, 20) as u8, ..sending },
+        2 => Slot { phase: GAVE_UP, sends: 3, ..sending },
+        3 => Slot { phase: DIFFERENT, ..sending },
+        4 => Slot { sends: rng.within(1, 2) as u8, ..sending },
+        5 => Slot { kind: rng.pick(&[READ, WRITE]), ..different },
+        6 => Slot { sends: rng.within(1, 3) as u8, ..different },
+        7 => Slot { left: rng.within(1, 20) as u8, ..different },
+        8 => Slot { progress: slot.count, ..different },
+        9 => Slot { progress: slot.progress + rng.within(1, 7) as u8, ..different },
+        10 => Slot { kind: rng.within(4, 255) as u8, ..slot },
+        _ => Slot { phase: rng.within(6, 255) as u8, kind: rng.below(4) as u8, ..slot },
+    }
+}
+
+/// The state with a slot that is not sound for what it says of a checked write.
+fn with_unsound_check(rng: &mut Rng, state: &Bridge) -> Bridge {
+    let held: Vec<usize> = (0..4).filter(|index| state.slots[*index].phase != FREE).collect();
+    let mut state = *state;
+    let (index, ticket) = match held.is_empty() {
+        true => (rng.below(4), 1),
+        false => {
+            let index = rng.pick(&held);
+            (index, state.slots[index].ticket)
+        }
+    };
+    state.issued = state.issued.max(1);
+    state.slots[index] = unsound_check(rng, ticket);
+    state
+}
+
 /// The state with one thing changed: mostly unsound, sometimes still sound.
 fn damaged(rng: &mut Rng, state: &Bridge) -> Bridge {
+    if rng.percent(40) {
+        return with_unsound_check(rng, state);
+    }
     let mut state = *state;
     let index = rng.below(4);
     let other = state.slots[(index + rng.within(1, 3)) % 4].ticket;
@@ -353,8 +489,8 @@ fn damaged(rng: &mut Rng, state: &Bridge) -> Bridge {
     }
     let slot = &mut state.slots[index];
     match choice {
-        3 => slot.phase = rng.pick(&[0, 1, 2, 3, 4, 5, 255]),
-        4 => slot.kind = rng.pick(&[0, 1, 2, 255]),
+        3 => slot.phase = rng.pick(&[0, 1, 2, 3, 4, 5, 6, 255]),
+        4 => slot.kind = rng.pick(&[0, 1, 2, 3, 4, 255]),
         5 => slot.ticket = rng.pick(&[0, other, issued, issued.wrapping_add(1), long]),
         6 => slot.offset = rng.pick(&[2048, 2049 - slot.count.min(200) as u16, 2048 - slot.count as u16, word]),
         7 => slot.device = rng.pick(&[15, 16, 255, byte]),

@@ -1,11 +1,19 @@
-//! 01 "Bridge": the state, its soundness and the seven calls.
+//! 01 "Bridge": the state, its soundness and the seven calls; 02, C-17: the third kind of transfer.
 
 use super::holder::{addressed, frame as frame_of};
 use super::{request, Number, CMD, REQ, RSP};
-use crate::abi::{Bridge, Frame, Parts, Request, Slot, DONE, FREE, GAVE_UP, READ, READY, WAITING, WRITE};
+use crate::abi::{Bridge, Frame, Parts, Request, Slot, CHECK, READ, READ_BACK, WRITE};
+use crate::abi::{DIFFERENT, DONE, FREE, GAVE_UP, READY, WAITING};
 
 pub const BUFFER: usize = 512;
 pub const PART: usize = 128;
+
+/// The two lent buffers. The second has what checked writes send, to compare with what they read back.
+#[derive(Clone, Copy)]
+pub struct Buffers<'a> {
+    pub first: &'a [u8],
+    pub second: &'a [u8],
+}
 
 /// The fresh bridge: the search starts at slot 0, so slot 3 counts as last served.
 pub fn fresh(own: u8) -> Bridge {
@@ -26,7 +34,7 @@ fn sound_slot(slot: &Slot, issued: u32) -> bool {
     }
     let lawful = 1 <= slot.ticket
         && slot.ticket <= issued
-        && slot.kind <= WRITE
+        && slot.kind <= CHECK
         && opening(slot.device, slot.table, slot.offset, slot.count as usize).is_ok();
     let progress = if slot.phase == DONE {
         slot.progress == slot.count
@@ -35,11 +43,12 @@ fn sound_slot(slot: &Slot, issued: u32) -> bool {
     };
     let (sends, left) = (slot.sends, slot.left);
     let phase = match (slot.phase, slot.kind) {
-        (READY, READ) => sends <= 2 && left == 0,
-        (WAITING, READ) => 1 <= sends && sends <= 3 && 1 <= left && left <= 20,
-        (GAVE_UP, READ) => sends == 3 && left == 0,
-        (DONE, READ) | (READY, WRITE) | (DONE, WRITE) => sends == 0 && left == 0,
-        _ => false, // a write never waits or gives up; no other phases
+        (READY, READ | READ_BACK) => sends <= 2 && left == 0,
+        (WAITING, READ | READ_BACK) => 1 <= sends && sends <= 3 && 1 <= left && left <= 20,
+        (GAVE_UP, READ | READ_BACK) => sends == 3 && left == 0,
+        (DONE, READ | READ_BACK | WRITE) | (READY, WRITE | CHECK) => sends == 0 && left == 0,
+        (DIFFERENT, READ_BACK) => sends == 0 && left == 0,
+        _ => false, // a write never waits or gives up, a sending checked write isn't finished; no other phases
     };
     lawful && progress && phase
 }
@@ -67,9 +76,9 @@ fn judge(bridge: &Bridge) -> Result<(), Number> {
     }
 }
 
-fn judge_with(bridge: &Bridge, buffer: &[u8]) -> Result<(), Number> {
+fn judge_with(bridge: &Bridge, lent: &[&[u8]]) -> Result<(), Number> {
     judge(bridge)?;
-    if buffer.len() == BUFFER {
+    if lent.iter().all(|buffer| buffer.len() == BUFFER) {
         Ok(())
     } else {
         Err(10)
@@ -78,9 +87,9 @@ fn judge_with(bridge: &Bridge, buffer: &[u8]) -> Result<(), Number> {
 
 /// Order: 11, 10, 7, 9, 8, 12, 13. Hands back the bridge and the slot taken.
 fn open(
-    bridge: &Bridge, buffer: &[u8], kind: u8, device: u8, table: u8, offset: u16, count: usize,
+    bridge: &Bridge, lent: Buffers, kind: u8, device: u8, table: u8, offset: u16, count: usize,
 ) -> Result<(Bridge, usize), Number> {
-    judge_with(bridge, buffer)?;
+    judge_with(bridge, &[lent.first, lent.second])?;
     opening(device, table, offset, count)?;
     let lowest_free = bridge.slots.iter().position(|slot| slot.phase == FREE).ok_or(12)?;
     let ticket = bridge.issued.checked_add(1).ok_or(13)?;
@@ -92,20 +101,33 @@ fn open(
 }
 
 pub fn open_read(
-    bridge: &Bridge, buffer: &[u8], device: u8, table: u8, offset: u16, count: usize,
+    bridge: &Bridge, lent: Buffers, device: u8, table: u8, offset: u16, count: usize,
 ) -> Result<(Bridge, u32), Number> {
-    let (after, _) = open(bridge, buffer, READ, device, table, offset, count)?;
+    let (after, _) = open(bridge, lent, READ, device, table, offset, count)?;
     Ok((after, after.issued))
 }
 
-/// A write's bytes are copied into its slot, and their number is the count.
+/// A write's bytes are copied into its slot, and their number is the count. Hands back the first buffer.
 pub fn open_write(
-    bridge: &Bridge, buffer: &[u8], device: u8, table: u8, offset: u16, bytes: &[u8],
+    bridge: &Bridge, lent: Buffers, device: u8, table: u8, offset: u16, bytes: &[u8],
 ) -> Result<(Bridge, Vec<u8>, u32), Number> {
-    let (after, slot) = open(bridge, buffer, WRITE, device, table, offset, bytes.len())?;
+    let (after, slot) = open(bridge, lent, WRITE, device, table, offset, bytes.len())?;
+    Ok((after, filled(lent.first, slot * PART, bytes), after.issued))
+}
+
+/// Opening a checked write copies its bytes only into the second buffer, which is handed back.
+pub fn open_check(
+    bridge: &Bridge, lent: Buffers, device: u8, table: u8, offset: u16, bytes: &[u8],
+) -> Result<(Bridge, Vec<u8>, u32), Number> {
+    let (after, slot) = open(bridge, lent, CHECK, device, table, offset, bytes.len())?;
+    Ok((after, filled(lent.second, slot * PART, bytes), after.issued))
+}
+
+/// A buffer with bytes at a place.
+fn filled(buffer: &[u8], place: usize, bytes: &[u8]) -> Vec<u8> {
     let mut filled = buffer.to_vec();
-    filled[slot * PART..slot * PART + bytes.len()].copy_from_slice(bytes);
-    Ok((after, filled, after.issued))
+    filled[place..place + bytes.len()].copy_from_slice(bytes);
+    filled
 }
 
 /// Eight bytes a frame, the last shorter.
@@ -135,8 +157,8 @@ fn aged(slot: Slot) -> Slot {
 
 /// A turn (refusals 11, 10): ages, then sends for one ready slot; the search starts at
 /// the slot after the one last served.
-pub fn turn(bridge: &Bridge, buffer: &[u8]) -> Result<(Bridge, Option<Frame>), Number> {
-    judge_with(bridge, buffer)?;
+pub fn turn(bridge: &Bridge, lent: Buffers) -> Result<(Bridge, Option<Frame>), Number> {
+    judge_with(bridge, &[lent.first, lent.second])?;
     let mut after = *bridge;
     for slot in after.slots.iter_mut() {
         *slot = aged(*slot);
@@ -148,26 +170,29 @@ pub fn turn(bridge: &Bridge, buffer: &[u8]) -> Result<(Bridge, Option<Frame>), N
     };
     after.last = index as u8;
     let slot = after.slots[index];
-    let frame = sent(bridge.own, &slot, index, buffer);
-    after.slots[index] = if slot.kind == READ {
-        Slot { phase: WAITING, sends: slot.sends + 1, left: 20, ..slot }
-    } else {
-        advanced(&slot)
+    let frame = sent(bridge.own, &slot, index, lent);
+    after.slots[index] = match slot.kind {
+        WRITE => advanced(&slot),
+        CHECK => sent_to_check(&slot),
+        _ => Slot { phase: WAITING, sends: slot.sends + 1, left: 20, ..slot },
     };
     Ok((after, Some(frame)))
 }
 
 /// A read sends REQ with reply table 6 and reply offset its place in the buffer; a write
-/// sends CMD.
-fn sent(own: u8, slot: &Slot, index: usize, buffer: &[u8]) -> Frame {
+/// sends CMD. A checked write sends the write, then reads the same range back.
+fn sent(own: u8, slot: &Slot, index: usize, lent: Buffers) -> Frame {
     let offset = slot.offset + slot.progress as u16;
     let place = place(slot, index);
     let parts = |kind| Parts { offset, kind, from: own, to: slot.device, table: slot.table };
-    if slot.kind == READ {
-        let asked = Request { table: 6, count: chunk(slot) as u8, offset: place as u16 };
-        frame_of(parts(REQ), &request::bytes_of(asked).unwrap())
-    } else {
-        frame_of(parts(CMD), &buffer[place..place + chunk(slot)])
+    let part = place..place + chunk(slot);
+    match slot.kind {
+        WRITE => frame_of(parts(CMD), &lent.first[part]),
+        CHECK => frame_of(parts(CMD), &lent.second[part]),
+        _ => {
+            let asked = Request { table: 6, count: chunk(slot) as u8, offset: place as u16 };
+            frame_of(parts(REQ), &request::bytes_of(asked).unwrap())
+        }
     }
 }
 
@@ -178,9 +203,19 @@ fn advanced(slot: &Slot) -> Slot {
     Slot { phase, progress, sends: 0, left: 0, ..*slot }
 }
 
-/// An incoming frame: 11, 10, 1, 2, 3, 4, 5 (only RSP served), 17.
-pub fn frame(bridge: &Bridge, buffer: &[u8], frame: &Frame) -> Result<(Bridge, Vec<u8>), Number> {
-    judge_with(bridge, buffer)?;
+/// A checked write after a CMD: once the last is sent, it is ready to read back from its start.
+fn sent_to_check(slot: &Slot) -> Slot {
+    let after = advanced(slot);
+    if after.phase == DONE {
+        Slot { kind: READ_BACK, phase: READY, progress: 0, ..after }
+    } else {
+        after
+    }
+}
+
+/// An incoming frame: 11, 10, 1, 2, 3, 4, 5 (only RSP served), 17. Hands back the first buffer.
+pub fn frame(bridge: &Bridge, lent: Buffers, frame: &Frame) -> Result<(Bridge, Vec<u8>), Number> {
+    judge_with(bridge, &[lent.first, lent.second])?;
     let parts = addressed(bridge.own, frame)?;
     if parts.kind != RSP {
         return Err(5);
@@ -195,12 +230,15 @@ pub fn frame(bridge: &Bridge, buffer: &[u8], frame: &Frame) -> Result<(Bridge, V
     };
     let index = (0..4).find(matches).ok_or(17)?;
     let slot = bridge.slots[index];
-    let place = place(&slot, index);
-    let mut filled = buffer.to_vec();
-    filled[place..place + chunk(&slot)].copy_from_slice(&frame.bytes[..chunk(&slot)]);
+    let (place, brought) = (place(&slot, index), &frame.bytes[..chunk(&slot)]);
     let mut after = *bridge;
+    if slot.kind == READ_BACK && lent.second[place..place + brought.len()] != *brought {
+        // the first reply that disagrees ends it; the frame is answered 0 and not stored
+        after.slots[index] = Slot { phase: DIFFERENT, sends: 0, left: 0, ..slot };
+        return Ok((after, lent.first.to_vec()));
+    }
     after.slots[index] = advanced(&slot);
-    Ok((after, filled))
+    Ok((after, filled(lent.first, place, brought)))
 }
 
 /// The slot that holds a ticket.
@@ -208,21 +246,22 @@ fn holder_of(bridge: &Bridge, ticket: u32) -> Result<usize, Number> {
     bridge.slots.iter().position(|slot| slot.phase != FREE && slot.ticket == ticket).ok_or(14)
 }
 
-/// Status answers 11, then 0, 14, 15 or 16. `Ok` carries the slot.
+/// Status answers 11, then 0, 14, 15, 16 or 18. `Ok` carries the slot.
 pub fn status(bridge: &Bridge, ticket: u32) -> Result<usize, Number> {
     judge(bridge)?;
     let index = holder_of(bridge, ticket)?;
     match bridge.slots[index].phase {
         DONE => Ok(index),
         GAVE_UP => Err(16),
+        DIFFERENT => Err(18),
         _ => Err(15),
     }
 }
 
 /// The bytes call (11, 10, then status's number): start and count in the buffer for a
-/// done read, an empty part otherwise.
-pub fn bytes(bridge: &Bridge, buffer: &[u8], ticket: u32) -> Result<(usize, usize), Number> {
-    judge_with(bridge, buffer)?;
+/// done read, an empty part otherwise; a checked write shows no bytes.
+pub fn bytes(bridge: &Bridge, first: &[u8], ticket: u32) -> Result<(usize, usize), Number> {
+    judge_with(bridge, &[first])?;
     let index = status(bridge, ticket)?;
     let slot = bridge.slots[index];
     Ok(if slot.kind == READ { (index * PART, slot.count as usize) } else { (0, 0) })

@@ -22,6 +22,7 @@ use bridge::Stepped;
 use bridge::ending::close;
 use bridge::ending::reset;
 use bridge::incoming::frame;
+use bridge::opening::open_check;
 use bridge::opening::open_read;
 use bridge::opening::open_write;
 use bridge::tickets::span;
@@ -56,25 +57,38 @@ pub(crate) fn fresh() -> World {
     World {
         directory,
         bridge,
+        second: [0; 512],
         turns: 0,
     }
 }
 
 fn with_bridge(w: World, bridge: Bridge, turns: u64, answer: Answer) -> Ran {
     let directory = w.directory;
+    let second = w.second;
     kept(
         World {
             directory,
             bridge,
+            second,
             turns,
         },
         answer,
     )
 }
 
-// open_read DEVICE TABLE OFFSET COUNT, open_write DEVICE TABLE OFFSET | BYTES: the number and the ticket.
+// open_read DEVICE TABLE OFFSET COUNT, open_write and open_check DEVICE TABLE OFFSET | BYTES: the number and the ticket.
 fn opened(w: World, o: Opened) -> Ran {
     with_bridge(w, o.bridge, w.turns, pair(o.number, o.ticket as u64))
+}
+
+fn open_checked(w: World, memory: &[u8], a: Words, bytes: &[u8]) -> Ran {
+    let b = a.n8;
+    let h = a.n16;
+    let mut w = w;
+    let mut second = w.second;
+    let o = open_check(w.bridge, memory, &mut second, b[3], b[4], h[5], bytes);
+    w.second = second;
+    opened(w, o)
 }
 
 // reset OWN, close TICKET: the number.
@@ -90,7 +104,8 @@ fn taken(w: World, s: Stepped) -> Ran {
 
 // turn: the number, which turn it is, and the frame that it sends.
 fn turn(w: World, memory: &[u8]) -> Ran {
-    let s = bridge::turning::turn(w.bridge, memory);
+    let second = w.second;
+    let s = bridge::turning::turn(w.bridge, memory, &second);
     let x = s.answer;
     let f = x.frame;
     let turns = w.turns % 1000000 + 1;
@@ -140,6 +155,8 @@ const OPEN_READ: u64 = 0x6f70656e5f726561;
 
 const OPEN_WRITE: u64 = 0x6f70656e5f777269;
 
+const OPEN_CHECK: u64 = 0x6f70656e5f636865;
+
 const TURN: u64 = 0x7475726e;
 
 const TURNS: u64 = 0x7475726e73;
@@ -152,14 +169,19 @@ const BYTES: u64 = 0x6279746573;
 
 const CLOSE: u64 = 0x636c6f7365;
 
+const SECOND: u64 = 0x7365636f6e64;
+
 // What leaves the bridge as it is.
 fn look(w: World, memory: &[u8], a: Words) -> Answer {
     let n = a.n;
     let x = a.n32;
+    let second = w.second;
     match n[2] {
         // status TICKET: the number.
         STATUS => number(status(w.bridge, x[3])),
         BYTES => bytes(w.bridge, memory, x[3]),
+        // second PLACE LENGTH: bytes of the second buffer.
+        SECOND => with_bytes(number(0), part(&second, n[3], n[4])),
         _ => unknown(),
     }
 }
@@ -182,18 +204,23 @@ fn buffer_call(w: World, memory: &mut [u8], a: Words, bytes: &[u8]) -> Ran {
     let b = a.n8;
     let h = a.n16;
     let x = a.n32;
+    let second = w.second;
     match n[2] {
         OPEN_READ => opened(
             w,
-            open_read(w.bridge, memory, b[3], b[4], h[5], n[6] as usize),
+            open_read(w.bridge, memory, &second, b[3], b[4], h[5], n[6] as usize),
         ),
-        OPEN_WRITE => opened(w, open_write(w.bridge, memory, b[3], b[4], h[5], bytes)),
-        FRAME => taken(w, frame(w.bridge, memory, frame_of(x[3], bytes))),
+        OPEN_WRITE => opened(
+            w,
+            open_write(w.bridge, memory, &second, b[3], b[4], h[5], bytes),
+        ),
+        OPEN_CHECK => open_checked(w, memory, a, bytes),
+        FRAME => taken(w, frame(w.bridge, memory, &second, frame_of(x[3], bytes))),
         _ => step(w, memory, a),
     }
 }
 
-// The buffer is the first 512 bytes.
+// The first buffer is the first 512 bytes.
 pub(crate) fn call(w: World, memory: &mut [u8], a: Words, bytes: &[u8]) -> Ran {
     buffer_call(w, room(memory, 0, 512), a, bytes)
 }

@@ -139,10 +139,12 @@ fn with_table(d: Directory, k: u64, size: u16, right: u8) -> Directory {
 
 fn with_directory(w: World, directory: Directory) -> Ran {
     let bridge = w.bridge;
+    let second = w.second;
     kept(
         World {
             directory,
             bridge,
+            second,
             turns: w.turns,
         },
         nothing(),

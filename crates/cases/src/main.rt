@@ -22,10 +22,11 @@ use lines::put_bytes;
 use lines::words_of;
 ghost use Rattle.reckonings.specs.Reckonings.{Reckonings};
 
-// What the calls change beside the memory that they are lent: a device's directory, a bridge, how many turns it has had.
+// What the calls change beside the memory that they are lent: a device's directory, a bridge, its second buffer, how many turns it has had.
 struct World {
     directory: Directory,
     bridge: Bridge,
+    second: [u8; 512],
     turns: u64,
 }
 

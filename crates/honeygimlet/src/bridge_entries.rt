@@ -7,8 +7,8 @@ use bridge::Stepped;
 ghost use mathlib.Core.Path.{_≡_};
 ghost use Prim.Native.Nat.{_+_, _≤_};
 ghost use lib.ListN.{length};
-ghost use Rattle.bridge_rules.specs.Answers.{openedOf, steppedOf};
-ghost use Rattle.bridge_rules.specs.Opening.{read, write, openOf};
+ghost use Rattle.bridge_rules.specs.Answers.{both, openedOf, steppedOf};
+ghost use Rattle.bridge_rules.specs.Opening.{read, write, check, openOf};
 ghost use Rattle.bridge_rules.specs.Turn.{turnOf};
 ghost use Rattle.bridge_rules.specs.Incoming.{frameOf};
 ghost use Rattle.bridge_rules.specs.Ending.{statusOf, spanOf, closeOf, resetOf};
@@ -16,44 +16,70 @@ ghost use Rattle.bridge_rules.specs.Ending.{statusOf, spanOf, closeOf, resetOf}
 #[no_mangle]
 pub extern "C" fn hg_bridge_open_read(
     b: Bridge,
-    buffer: &[u8],
+    first: &[u8],
+    second: &[u8],
     device: u8,
     table: u8,
     offset: u16,
     count: usize,
 ) -> Opened
-    ensures { λ r. ⌜ r ≡ openedOf (openOf b (now (buffer .entry)) (read device table offset count)) ⌝ }
+    ensures { λ r. ⌜ r ≡ openedOf (openOf b (both (now (first .entry)) (now (second .entry))) (read device table offset count)) ⌝ }
 {
-    bridge::opening::open_read(b, buffer, device, table, offset, count)
+    bridge::opening::open_read(b, first, second, device, table, offset, count)
 }
 
 #[no_mangle]
 pub extern "C" fn hg_bridge_open_write(
     b: Bridge,
-    buffer: &mut [u8],
+    first: &mut [u8],
+    second: &[u8],
     device: u8,
     table: u8,
     offset: u16,
     bytes: &[u8],
 ) -> Opened
-    ensures { λ r. ⌜ (r ≡ openedOf (openOf b (now (buffer .entry)) (write device table offset (now (bytes .entry)))))
-        × (now (buffer .exit) ≡ openOf b (now (buffer .entry)) (write device table offset (now (bytes .entry))) .buffer) ⌝ }
+    ensures { λ r. ⌜ (r ≡ openedOf (openOf b (both (now (first .entry)) (now (second .entry))) (write device table offset (now (bytes .entry)))))
+        × (now (first .exit)
+        ≡ openOf b (both (now (first .entry)) (now (second .entry))) (write device table offset (now (bytes .entry))) .buffers .first) ⌝ }
 {
-    bridge::opening::open_write(b, buffer, device, table, offset, bytes)
+    bridge::opening::open_write(b, first, second, device, table, offset, bytes)
 }
 
 #[no_mangle]
-pub extern "C" fn hg_bridge_turn(b: Bridge, buffer: &[u8]) -> Stepped
-    ensures { λ r. ⌜ r ≡ steppedOf (turnOf b (now (buffer .entry))) ⌝ }
+pub extern "C" fn hg_bridge_open_check(
+    b: Bridge,
+    first: &[u8],
+    second: &mut [u8],
+    device: u8,
+    table: u8,
+    offset: u16,
+    bytes: &[u8],
+) -> Opened
+    ensures { λ r. ⌜ (r ≡ openedOf (openOf b (both (now (first .entry)) (now (second .entry))) (check device table offset (now (bytes .entry)))))
+        × (now (second .exit)
+        ≡ openOf b (both (now (first .entry)) (now (second .entry))) (check device table offset (now (bytes .entry))) .buffers .second) ⌝ }
 {
-    bridge::turning::turn(b, buffer)
+    bridge::opening::open_check(b, first, second, device, table, offset, bytes)
 }
 
 #[no_mangle]
-pub extern "C" fn hg_bridge_frame(b: Bridge, buffer: &mut [u8], frame: bus::Frame) -> Stepped
-    ensures { λ r. ⌜ (r ≡ steppedOf (frameOf b (now (buffer .entry)) frame)) × (now (buffer .exit) ≡ frameOf b (now (buffer .entry)) frame .buffer) ⌝ }
+pub extern "C" fn hg_bridge_turn(b: Bridge, first: &[u8], second: &[u8]) -> Stepped
+    ensures { λ r. ⌜ r ≡ steppedOf (turnOf b (both (now (first .entry)) (now (second .entry)))) ⌝ }
 {
-    bridge::incoming::frame(b, buffer, frame)
+    bridge::turning::turn(b, first, second)
+}
+
+#[no_mangle]
+pub extern "C" fn hg_bridge_frame(
+    b: Bridge,
+    first: &mut [u8],
+    second: &[u8],
+    frame: bus::Frame,
+) -> Stepped
+    ensures { λ r. ⌜ (r ≡ steppedOf (frameOf b (both (now (first .entry)) (now (second .entry))) frame))
+        × (now (first .exit) ≡ frameOf b (both (now (first .entry)) (now (second .entry))) frame .buffers .first) ⌝ }
+{
+    bridge::incoming::frame(b, first, second, frame)
 }
 
 #[no_mangle]
@@ -64,10 +90,10 @@ pub extern "C" fn hg_bridge_status(b: Bridge, ticket: u32) -> u8
 }
 
 #[no_mangle]
-pub extern "C" fn hg_bridge_span(b: Bridge, buffer: &[u8], ticket: u32) -> Span
-    ensures { λ r. ⌜ (r ≡ spanOf b (length (now (buffer .entry))) ticket) × (r .start + r .len ≤ length (now (buffer .entry))) ⌝ }
+pub extern "C" fn hg_bridge_span(b: Bridge, first: &[u8], ticket: u32) -> Span
+    ensures { λ r. ⌜ (r ≡ spanOf b (length (now (first .entry))) ticket) × (r .start + r .len ≤ length (now (first .entry))) ⌝ }
 {
-    bridge::tickets::span(b, buffer, ticket)
+    bridge::tickets::span(b, first, ticket)
 }
 
 #[no_mangle]

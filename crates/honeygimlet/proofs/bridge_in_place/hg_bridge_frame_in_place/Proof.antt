@@ -1,5 +1,5 @@
--- `honeygimlet::bridge_in_place::hg_bridge_frame_in_place` meets its contract: a walk of its MIR, by hand, as that of `hg_bridge_turn_in_place`; the slice's
--- borrow goes on too, and the frame.
+-- `honeygimlet::bridge_in_place::hg_bridge_frame_in_place` meets its contract: a walk of its MIR, by hand, as that of `hg_bridge_turn_in_place`; the first
+-- slice's borrow goes on too, and the frame.
 -- Assumes nothing.
 use mathlib.Core.Path.{refl}
 use Prim.Native.Nat.{ℕ}
@@ -23,7 +23,7 @@ use sound.WpLaws.{FmC, fmOf}
 use denote.Laws.{Is, Typed}
 use denote.Builtin.{u8}
 use denote.Ref.{RefT, ptr-vals, mut-tells}
-use denote.Slice.{Room, slice-vals, mut-slice-tells}
+use denote.Slice.{Room, ShrSlice, slice-vals, mut-slice-tells, shr-slice-tells, shr-slice-lawful}
 use denote.Steps.{heard}
 use denote.Struct.Laws as LL
 use denote.Triple.Statement.{Contract, Triple}
@@ -52,41 +52,54 @@ module _ {M : Type 1} (𝓤 : URA M) (H : Heap 𝓤) (A : Atoms 𝓤) (W : Given
   abbrev Passed : Contract 𝓤
   Passed = tripleOf 𝓤 H A callee.signature (callee.spec 𝓤 H A mem run)
 
-  module _ (C : Calls 𝓤 H) (Λ : Loops 𝓤 H) (fm : FmC 𝓤 H (W .laws) C) (known : Triple 𝓤 (C #callee) Passed) (κs : Lfts 2) (qs : Shares 2) (b : RefT Bridge)
-      (s : RefT (List ℕ)) (f : Frame) where
+  module _ (C : Calls 𝓤 H) (Λ : Loops 𝓤 H) (fm : FmC 𝓤 H (W .laws) C) (known : Triple 𝓤 (C #callee) Passed) (κs : Lfts 3) (qs : Shares 3) (b : RefT Bridge)
+      (s t : RefT (List ℕ)) (f : Frame) where
     abbrev to : Passed .Ghost
-    to = ((κs, qs, tt, (b, (s, (f, tt))), (ptr-vals b, (slice-vals s, (LL.vals F.the-type F′.the-laws f, tt)))), tt)
+    to = ((κs, qs, tt, (b, (s, (t, (f, tt)))), (ptr-vals b, (slice-vals s, (slice-vals t, (LL.vals F.the-type F′.the-laws f, tt))))), tt)
 
-    walk : Room u8 (length (s .now)) → Is F.the-row f (LL.vals F.the-type F′.the-laws f)
+    walk : Room u8 (length (s .now)) → Is (ShrSlice (named 2) (κs .1 .1 .0) u8) t (slice-vals t) → Is F.the-row f (LL.vals F.the-type F′.the-laws f)
         → ent 𝓤 (Passed .pre to) (WpFn 𝓤 H C Λ code.function (Passed .args to) (Passed .post to))
-    walk room f-is =
+    walk room t-is f-is =
         qed W (raw (Passed .pre to) ∷ []) ∵ enter ! C Λ code.function (Passed .args to) _ $
-        alloc1 ! (λ l₀. alloc1 ! (λ l₁. alloc1 ! (λ l₂. alloc1 ! (λ l₃. alloc1 ! (λ l₄. alloc1 ! (λ l₅. alloc1 ! (λ l₆. alloc0 ! $ params1 ! $
-        pass1 ! (init ! 10 refl (tt, tt)) $ pass1 ! (init ! 8 refl (tt, (tt, (record { fits = room .0 }, tt)))) $
+        alloc1 ! (λ l₀. alloc1 ! (λ l₁. alloc1 ! (λ l₂. alloc1 ! (λ l₃. alloc1 ! (λ l₄. alloc1 ! (λ l₅. alloc1 ! (λ l₆. alloc1 ! (λ l₇. alloc0 ! $
+        params1 ! $ pass1 ! (init ! 12 refl (tt, tt)) $ pass1 ! (init ! 10 refl (tt, (tt, (record { fits = room .0 }, tt)))) $
+        pass1 ! (init ! 8 refl (shr-slice-lawful 𝓤 H A W (named 2) (κs .1 .1 .0) u8 .typed t (slice-vals t) t-is .0)) $
         pass1 ! (init ! 6 refl (LL.lawful F.the-type F′.the-laws 𝓤 H A W .typed f _ f-is .0)) $ pass0 ! $
-        -- [_6; …; _5; …; _4; …; _3; …; _2; …; _1; …; room for _0; …; what is passed]
-        assigns ! (addr ! (from ! (hop ! (look ! 10 refl) (stop !)))) (from ! (stop !)) (init ! 4 refl (tt, tt)) $
-        assigns ! (addr ! (from ! (fld ! refl (hop ! (look-in ! 8 (sub ! 0 refl (whole !))) (stop !))))) (from ! (stop !)) (init ! 2 refl (tt, tt)) $
+        -- [_7; …; _6; …; _5; …; _4; …; _3; …; _2; …; _1; …; room for _0; …; what is passed]
+        assigns ! (addr ! (from ! (hop ! (look ! 12 refl) (stop !)))) (from ! (stop !)) (init ! 4 refl (tt, tt)) $
+        assigns ! (addr ! (from ! (fld ! refl (hop ! (look-in ! 10 (sub ! 0 refl (whole !))) (stop !))))) (from ! (stop !)) (init ! 2 refl (tt, tt)) $
         assigns ! (agg ! (and-then ! (load ! (from ! (stop !)) (look ! 2 refl))
-        (and-then ! (load ! (from ! (fld ! refl (stop !))) (look-in ! 8 (sub ! 1 refl (whole !)))) (no-more !)))) (from ! (stop !))
-        (init ! 0 refl (tt, (tt, (record { fits = room .0 }, tt)))) $ move ! (14 ∷ []) $
+        (and-then ! (load ! (from ! (fld ! refl (stop !))) (look-in ! 10 (sub ! 1 refl (whole !)))) (no-more !)))) (from ! (stop !))
+        (init ! 0 refl (tt, (tt, (record { fits = room .0 }, tt)))) $ move ! (16 ∷ []) $
         calls-at ! fm Passed known to (and-then ! (load ! (from ! (stop !)) (look ! 5 refl))
-        (and-then ! (load ! (from ! (stop !)) (look ! 1 refl)) (and-then ! (load ! (from ! (stop !)) (look ! 7 refl)) (no-more !)))) (λ v.
+        (and-then ! (load ! (from ! (stop !)) (look ! 1 refl)) (and-then ! (load ! (from ! (stop !)) (look ! 9 refl))
+        (and-then ! (load ! (from ! (stop !)) (look ! 7 refl)) (no-more !))))) (λ v.
         use1 W (later (raw (Passed .post to v) ⊛ raw (fact 𝓤 (Typed (S.the-row .mir) (v ∷ [])))))
         (handed-back 𝓤 H A callee.signature (callee.spec 𝓤 H A mem run) W to v (LL.lawful S.the-type S′.the-laws 𝓤 H A W)) $ await ! tt $ split ! $
         move ! (1 ∷ []) $ heard ! (Typed (S.the-row .mir) (v ∷ [])) (λ typed.
-        -- [what is handed back; _6; …; _5; …; _4; …; _3; …; _2; …; _1; …; room for _0; …]
-        land ! (from ! (stop !)) (init ! 13 refl (typed .0)) $ returns ! (look ! 13 refl) $ forget ! 1 refl $ forget ! 3 refl $ forget ! 5 refl $
-        forget ! 7 refl $ forget ! 9 refl $ forget ! 11 refl $ forget ! 13 refl $
-        move ! (13 ∷ 14 ∷ []) $ free1 ! $ move ! (11 ∷ 12 ∷ []) $ free1 ! $ move ! (9 ∷ 10 ∷ []) $ free1 ! $ move ! (7 ∷ 8 ∷ []) $ free1 ! $
-        move ! (5 ∷ 6 ∷ []) $ free1 ! $ move ! (3 ∷ 4 ∷ []) $ free1 ! $ move ! (1 ∷ 2 ∷ []) $ free1 ! $ free0 ! $ done !)))))))))
+        -- [what is handed back; _7; …; _6; …; _5; …; _4; …; _3; …; _2; …; _1; …; room for _0; …]
+        land ! (from ! (stop !)) (init ! 15 refl (typed .0)) $ returns ! (look ! 15 refl) $ forget ! 1 refl $ forget ! 3 refl $ forget ! 5 refl $
+        forget ! 7 refl $ forget ! 9 refl $ forget ! 11 refl $ forget ! 13 refl $ forget ! 15 refl $
+        move ! (15 ∷ 16 ∷ []) $ free1 ! $ move ! (13 ∷ 14 ∷ []) $ free1 ! $ move ! (11 ∷ 12 ∷ []) $ free1 ! $ move ! (9 ∷ 10 ∷ []) $ free1 ! $
+        move ! (7 ∷ 8 ∷ []) $ free1 ! $ move ! (5 ∷ 6 ∷ []) $ free1 ! $ move ! (3 ∷ 4 ∷ []) $ free1 ! $ move ! (1 ∷ 2 ∷ []) $ free1 ! $ free0 ! $
+        done !))))))))))
 
   meets : (𝓣 : Tables 𝓤 H) → Triple 𝓤 (𝓣 .C #callee) Passed → Meets 𝓤 H A entry.signature (WpFn 𝓤 H (𝓣 .C) (𝓣 .Λ) code.function) (entry.spec 𝓤 H A mem run)
   meets 𝓣 known =
       spelt-out 𝓤 H A callee.signature (callee.spec 𝓤 H A mem run) (WpFn 𝓤 H (𝓣 .C) (𝓣 .Λ) code.function)
-      (λ κs. (ptr-vals, (slice-vals, (LL.vals F.the-type F′.the-laws, tt))))
-      (λ κs. (mut-tells (named 0) (κs .0) T.the-row, (mut-slice-tells (named 1) (κs .1 .0) u8, (LL.tells F.the-type F′.the-laws, tt))))
-      (λ κs qs bounds a g are. walk (𝓣 .C) (𝓣 .Λ) (fmOf 𝓤 H (W .laws) 𝓣) known κs qs (a .0) (a .1 .0) (a .1 .1 .0) (are .1 .0 .0 .1) (are .1 .1 .0))
+      (λ κs. (ptr-vals, (slice-vals, (slice-vals, (LL.vals F.the-type F′.the-laws, tt)))))
+      (λ κs. (
+        mut-tells (named 0) (κs .0) T.the-row,
+        (
+          mut-slice-tells (named 1) (κs .1 .0) u8,
+          (
+            shr-slice-tells (named 2) (κs .1 .1 .0) u8,
+            (LL.tells F.the-type F′.the-laws, tt),
+          ),
+        ),
+      ))
+      (λ κs qs bounds a g are. walk (𝓣 .C) (𝓣 .Λ) (fmOf 𝓤 H (W .laws) 𝓣) known κs qs (a .0) (a .1 .0) (a .1 .1 .0) (a .1 .1 .1 .0) (are .1 .0 .0 .1)
+      (are .1 .1 .0) (are .1 .1 .1 .0))
 
 pub hg-bridge-frame-in-place-spec : {M : Type 1} → stated.statement M
 unfolding code.routine tablesOf
