@@ -1,5 +1,5 @@
--- The example runs, proved by computation; what is said of every event is tested over the list of calls.
-use Prim.Native.Nat.{ℕ, zero, suc, _+_, _≤_, _<_}
+-- The example runs, proved by computation, over many calls by laws; what is said of every event is tested over the list of calls.
+use Prim.Native.Nat.{ℕ, zero, suc, _+_, _*_, _≤_, _<_}
 use mathlib.Core.Path.{_≡_, refl, sym, _∙_, ap, ap₂, subst}
 use mathlib.Core.Logic.{_⊎_, inl, inr, _≢_}
 use mathlib.Core.List.{List, [], _∷_}
@@ -7,34 +7,46 @@ use mathlib.Core.Option.{some}
 use mathlib.Core.Bool.{Bool, true, false, cond, not, _&&_, _||_, false≢true, true≢false}
 use native.Mathlib.Nat.{add-suc, suc-add, add-zero}
 use native.Mathlib.Omega.{arith}
-use native.Mathlib.Decide.{decLt, ℕ-discrete}
-use lib.ListN.{length, getD, drop, List·getD-eq-default}
+use native.Mathlib.Decide.{decLt}
+use lib.ListN.{length, getD, List·getD-eq-default}
 use lib.Dec.{eqb, ltb, leb}
-use borrow.Author.Tests.{eqb-true, eqb-false, eq-eqb, lt-ltb, le-ltb, leb-true, not-true}
-use Rattle.bus_rules.specs.Ident.{idOf, idFrom}
+use borrow.Author.Tests.{eqb-true, eqb-false, eq-eqb, lt-ltb, le-ltb, ltb-true, leb-true, not-true}
+use Rattle.bus_rules.specs.Ident.{idOf, idFrom, idTable, idOffset}
 use Rattle.bus_rules.specs.Frames.{frameWith, content, req, rsp}
+use Rattle.bus_rules.specs.Request.{request}
 use Rattle.bus_rules.specs.Holder.{serveOf, answerWith}
 use Rattle.bus_rules.specs.declared.Served.{Served}
 use Rattle.bus_rules.specs.Device.{Device}
 use Rattle.bus_rules.proofs.Replies.{answerer-unchanged}
-use Rattle.bridge_rules.specs.State.{Frame}
+use Rattle.bridge_rules.specs.State.{Frame, rest, lowestGivable}
 use Rattle.bridge_rules.specs.Answers.{Buffers, plain, rightLengths}
-use Rattle.bridge_rules.specs.Opening.{read, check, isWrite, isCheck, askDevice, askGiven}
+use Rattle.bridge_rules.specs.Opening.{Ask, read, check, isWrite, isCheck, askDevice, askTable, askOffset, askCount, askGiven}
+use Rattle.bridge_rules.specs.Turn.{chunkLen}
 use Rattle.bridge_rules.specs.Incoming.{contentNumber}
 use Rattle.bridge_rules.specs.Call.{Lent, itsOwn, other, Call, opening, turn, frame, status, bytes, close, reset}
-use Rattle.bridge_rules.specs.Run.{Run, Lawful, ShapedLent, Shaped, Transfer, Closing, Stands, isTurn, accepted, turns, chunks, answer, ledger}
-use Rattle.bridge_rules.specs.Run.{Done, statusAt, shownAt}
-use Rattle.bridge_rules.specs.Replies.{requestFrame, matchesCall, Matches, Sent, Replied}
-use Rattle.bridge_rules.specs.Device.{Timeline, Arrives, Own, range, NotAfter, Meanwhile, Current, Unwritten, Premises}
-use Rattle.bridge_examples.specs.Examples.{directory, memory, holding, after, run, reply, before, DoneRead, alone, unchanging, AloneShows}
-use Rattle.bridge_examples.specs.Examples.{together, written, TogetherShows, restarted, writtenOnce, RestartedShows, torn, overwritten, TornShows}
-use Rattle.bridge_examples.specs.Examples.{forged, ForgedShows, late, slow, LateShows, CheckedWrite, eight, ten, onTime, toClosed, readingBack, stored}
-use Rattle.bridge_examples.specs.Examples.{StoredShows, unplugged, UnpluggedShows, dropped, DroppedShows, afterClosing, prompt, lateEqual}
-use Rattle.bridge_examples.specs.Examples.{LateEqualShows, lateOther, hundred, LateOtherShows, closedCheck, lateChecked, LateCheckShows, Examples}
+use Rattle.bridge_rules.specs.Run.{Run, state, Lawful, ShapedLent, Shaped, Transfer, slotOf, Closing, Resetting, Stands, isTurn, accepted, turns, chunks}
+use Rattle.bridge_rules.specs.Run.{answer, ledger, Done, statusAt, shownAt}
+use Rattle.bridge_rules.specs.Replies.{requestFrame, matchesFrame, Matches, Sent, Replied}
+use Rattle.bridge_rules.specs.Device.{Timeline, Arrives, Own, range, NotAfter, Meanwhile, Prompt, Quiet, Arrivals, Unwritten, Premises}
+use Rattle.bridge_rules.specs.Demand3.{showing}
+use Rattle.bridge_examples.specs.Examples.{directory, memory, lower, upper, holding, after, run, reply, DoneRead, ShowsOther, answering, before}
+use Rattle.bridge_examples.specs.Examples.{onTime, toCallOne, alone, unchanging, AloneShows, together, written, TogetherShows, restarted, writtenOnce}
+use Rattle.bridge_examples.specs.Examples.{RestartedShows, torn, overwritten, TornShows, forged}
+use Rattle.bridge_examples.specs.Examples.{ForgedShows, late, lateThenOwn, LateShows, tooLate, slow}
+use Rattle.bridge_examples.specs.Examples.{TooLateShows, hasty, HastyShows, CheckedWrite, eight, ten, readingBack, stored, StoredShows, unplugged}
+use Rattle.bridge_examples.specs.Examples.{UnpluggedShows, dropped, DroppedShows, afterClosing, atOnce, lateEqual, LateEqualShows, lateOther}
+use Rattle.bridge_examples.specs.Examples.{LateOtherShows, resetCheck, lateChecked, LateCheckShows, Examples}
 use Rattle.bridge_rules.proofs.Computing.{everything}
 use Rattle.bridge_rules.proofs.NumberLaws.{lengths-true}
-use Rattle.bridge_rules.proofs.Search.{and-true, some-eq}
+use Rattle.bridge_rules.proofs.Search.{and-true, some-eq, contradiction, lowest-some}
 use Rattle.bridge_rules.proofs.CallCases.{isFrame}
+use Rattle.bridge_rules.proofs.SoundRuns.{storage-sound}
+use Rattle.bridge_rules.proofs.LedgerAgrees.{agrees, own-is, lowest-agrees}
+use Rattle.bridge_rules.proofs.Matching.{matches-ok}
+use Rattle.bridge_rules.proofs.TurnCounts.{turns-none}
+use Rattle.bridge_rules.proofs.TableBytes.{arrives}
+use Rattle.bridge_rules.proofs.NumbersInRuns.{numbers-in-runs}
+use Rattle.bridge_rules.proofs.Corollaries.{corollaries}
 
 -- ── tests of every call of a list ──────────────────────────────────────────────────────────────────────────────────
 
@@ -108,15 +120,45 @@ isClosing (bytes l t) = false
 isClosing (close t) = true
 isClosing (reset o) = true
 
+abbrev isReset : Call → Bool
+isReset (opening l a) = false
+isReset (turn l) = false
+isReset (frame l f) = false
+isReset (status t) = false
+isReset (bytes l t) = false
+isReset (close t) = false
+isReset (reset o) = true
+
+-- a turn with the bridge's own buffers, which is accepted
+abbrev ownTurn : Call → Bool
+ownTurn (opening l a) = false
+ownTurn (turn itsOwn) = true
+ownTurn (turn (other l)) = false
+ownTurn (frame l f) = false
+ownTurn (status t) = false
+ownTurn (bytes l t) = false
+ownTurn (close t) = false
+ownTurn (reset o) = false
+
 -- a reply that arrives under device 5's number
 underFive : Run → ℕ → Call → Bool
 underFive r m (opening l a) = false
 underFive r m (turn l) = false
-underFive r m (frame l f) = eqb (idFrom (f .id)) 5 && eqb (contentNumber (ledger r m .own) f) 0
+underFive r m (frame l f) = eqb (idFrom (f .id)) 5 && eqb (contentNumber (state r m .own) f) 0
 underFive r m (status t) = false
 underFive r m (bytes l t) = false
 underFive r m (close t) = false
 underFive r m (reset o) = false
+
+allZero : List ℕ → Bool
+allZero [] = true
+allZero (n ∷ ns) = eqb n 0 && allZero ns
+
+zero-at : (ns : List ℕ) → allZero ns ≡ true → (k : ℕ) → getD ns k 0 ≡ 0
+unfolding allZero
+zero-at [] e k = refl
+zero-at (n ∷ ns) e zero = eqb-true n 0 (and-true (eqb n 0) (allZero ns) e .0)
+zero-at (n ∷ ns) e (suc k) = zero-at ns (and-true (eqb n 0) (allZero ns) e .1) k
 
 or-either : (a b : Bool) → (a || b) ≡ true → (a ≡ true) ⊎ (b ≡ true)
 or-either true b e = inl refl
@@ -132,78 +174,36 @@ module _ (cs : List Call) where
     shaped = λ k. call-shaped (run cs .calls k) (all-events (λ k c. shaped c) cs e (λ k. refl) k);
   }
 
-  -- where nothing is closed from event `at` on, each transfer that stood then stands
-  still-stands : (at : ℕ) → every (λ k c. not (isClosing c) || ltb k at) 0 cs ≡ true → (y : Transfer (run cs)) (n : ℕ) → at ≤ y .at → y .at < n
-      → Stands (run cs) y n
-  still-stands at e y n g l = (l, λ m a b c. never m a c)
+  -- what holds of each event at which there is such a call
+  at-each : (a : ℕ → Call → Bool) (b : ℕ → Bool) → every (λ k c. not (a k c) || b k) 0 cs ≡ true → ((k : ℕ) → a k (status 0) ≡ false) → (m : ℕ)
+      → a m (run cs .calls m) ≡ true → b m ≡ true
+  at-each a b e d m h = go (or-either (not (a m (run cs .calls m))) (b m) (all-events (λ k c. not (a k c) || b k) cs e (λ k. rw (d k)) m))
     where
-      open-here : (m : ℕ) → y .at < m → isClosing (run cs .calls m) ≡ false
-      open-here m a = go (or-either (not (isClosing (run cs .calls m))) (ltb m at)
-          (all-events (λ k c. not (isClosing c) || ltb k at) cs e (λ k. refl) m))
-        where
-          go : (not (isClosing (run cs .calls m)) ≡ true) ⊎ (ltb m at ≡ true) → isClosing (run cs .calls m) ≡ false
-          go (inl q) = not-true _ q
-          go (inr q) = absurd (false≢true (sym (le-ltb m at (omega arith)) ∙ q))
-
-      never : (m : ℕ) → y .at < m → ¬ Closing (run cs) y m
-      never m a (z, inl c) = true≢false (sym (ap isClosing c) ∙ open-here m a)
-      never m a (z, inr (o, c)) = true≢false (sym (ap isClosing c) ∙ open-here m a)
-
-  -- the events at which a reply arrives under device 5's number
-  under-five : (p : ℕ → Bool) → every (λ k c. not (underFive (run cs) k c) || p k) 0 cs ≡ true → (m : ℕ) (f : Frame)
-      → run cs .calls m ≡ frame itsOwn f → contentNumber (ledger (run cs) m .own) f ≡ 0 → idFrom (f .id) ≡ 5 → p m ≡ true
-  unfolding underFive
-  under-five p e m f c z d = go (or-either (not (underFive (run cs) m (run cs .calls m))) (p m)
-      (all-events (λ k c. not (underFive (run cs) k c) || p k) cs e (λ k. refl) m))
-    where
-      here : underFive (run cs) m (run cs .calls m) ≡ true
-      here = ap (underFive (run cs) m) c ∙ rw (eq-eqb (idFrom (f .id)) 5 d, eq-eqb _ 0 z)
-
-      go : (not (underFive (run cs) m (run cs .calls m)) ≡ true) ⊎ (p m ≡ true) → p m ≡ true
-      go (inl q) = absurd (true≢false (sym here ∙ not-true _ q))
+      go : (not (a m (run cs .calls m)) ≡ true) ⊎ (b m ≡ true) → b m ≡ true
+      go (inl q) = contradiction h (not-true _ q)
       go (inr q) = q
 
-  -- a matching call is a frame call
-  matches-frame : (x : Transfer (run cs)) (c m : ℕ) → Matches (run cs) x c m → isFrame (run cs .calls m) ≡ true
-  matches-frame x c m = go (run cs .calls m)
+  -- a transfer stands where nothing is closed between its opening and event n
+  still-stands : (y : Transfer (run cs)) (n : ℕ) → every (λ k c. not (isClosing c) || (leb k (y .at) || leb n k)) 0 cs ≡ true → y .at < n
+      → Stands (run cs) y n
+  still-stands y n e l = (l, never)
     where
-      go : (d : Call) → matchesCall (run cs) x c m d ≡ true → isFrame d ≡ true
-      go (opening l a) e = absurd (false≢true e)
-      go (turn l) e = absurd (false≢true e)
-      go (frame l f) e = refl
-      go (status t) e = absurd (false≢true e)
-      go (bytes l t) e = absurd (false≢true e)
-      go (close t) e = absurd (false≢true e)
-      go (reset o) e = absurd (false≢true e)
+      outside : (m : ℕ) → y .at < m → m < n → (leb m (y .at) ≡ true) ⊎ (leb n m ≡ true) → ⊥
+      outside m a b (inl q) = omega (arith, leb-true m (y .at) q)
+      outside m a b (inr q) = omega (arith, leb-true n m q)
 
-  -- where frames come from event k on, and each is answered not before τ₀
-  not-after : (k τ₀ : ℕ) (t : Timeline) → every (λ i c. not (isFrame c) || leb k i) 0 cs ≡ true
-      → ((m : ℕ) → k ≤ m → τ₀ ≤ t .answered m) → (x : Transfer (run cs)) (n : ℕ) → NotAfter (run cs) x n t τ₀
-  not-after k τ₀ t e h x n c m l p = h m (go (or-either (not (isFrame (run cs .calls m))) (leb k m)
-      (all-events (λ i c. not (isFrame c) || leb k i) cs e (λ i. refl) m)))
-    where
-      go : (not (isFrame (run cs .calls m)) ≡ true) ⊎ (leb k m ≡ true) → k ≤ m
-      go (inl q) = absurd (true≢false (sym (matches-frame x c m (p .matches)) ∙ not-true _ q))
-      go (inr q) = leb-true k m q
+      closed : (m : ℕ) → y .at < m → m < n → isClosing (run cs .calls m) ≡ true → ⊥
+      closed m a b c = outside m a b (or-either (leb m (y .at)) (leb n m)
+          (at-each (λ k d. isClosing d) (λ k. leb k (y .at) || leb n k) e (λ k. refl) m c))
 
-  -- a read that sent its request at the turn right before the reply
-  replied-next : (x : Transfer (run cs)) (c j : ℕ) → ((n : ℕ) → x .at < n → Stands (run cs) x n) → x .at < j → isWrite (x .ask) ≡ false
-      → c < chunks (run cs) x → accepted (run cs) j ≡ true → answer (run cs) j .sent ≡ some (requestFrame (run cs) x c j)
-      → turns (run cs) j (suc j) < 20 → Matches (run cs) x c (suc j) → Replied (run cs) x c (suc j)
-  replied-next x c j s g rd l a y t e = record {
-    awaits = record {
-      stands = s (suc j) (omega arith);
-      j = j;
-      before = omega arith;
-      sent = record { stands = s j g; asks = rd; chunk = l; turned = a; yields = y };
-      soon = t;
-      unmatched = λ m a b. absurd (omega arith);
-    };
-    matches = e;
-  }
+      never : (m : ℕ) → y .at < m → m < n → ¬ Closing (run cs) y m
+      never m a b (z, inl c) = closed m a b (ap isClosing c)
+      never m a b (z, inr (o, c)) = closed m a b (ap isClosing c)
 
-same-frame : (c : Call) (f g : Frame) → c ≡ frame itsOwn f → c ≡ frame itsOwn g → f ≡ g
-same-frame c f g p q = let z : frame itsOwn f ≡ frame itsOwn g = sym p ∙ q in cc
+  abbrev done-read : (x : Transfer (run cs)) (n : ℕ) (bs : List ℕ) → every (λ k c. shaped c) 0 cs ≡ true
+      → every (λ k c. not (isClosing c) || (leb k (x .at) || leb n k)) 0 cs ≡ true → x .at < n → Done (run cs) x n
+      → shownAt (run cs) x n ≡ showing bs → DoneRead cs (x .at) n bs
+  done-read x n bs w s l d h = record { lawful = run-lawful w; x = x; opened = refl; stands = still-stands x n s l; done = d; shown = h }
 
 -- a reply that is the device's own, as the holder's rules give it
 own-reply : (r : Run) (t : Timeline) (m : ℕ) (q g : Frame) → t .asked m < m → accepted r (t .asked m) ≡ true
@@ -225,43 +225,190 @@ own-reply r t m q g e a y s u h = record {
   sameBytes = refl;
 }
 
+same-frame : (c : Call) (f g : Frame) → c ≡ frame itsOwn f → c ≡ frame itsOwn g → f ≡ g
+same-frame c f g p q = let z : frame itsOwn f ≡ frame itsOwn g = sym p ∙ q in cc
+
 -- a frame that a run brings at an event is the one of its list
 its-own : (r : Run) (t : Timeline) (k m : ℕ) (g f : Frame) → m ≡ k → r .calls k ≡ frame itsOwn g → Own r t k g → r .calls m ≡ frame itsOwn f
     → Own r t m f
 its-own r t k m g f e c o d =
     subst (λ (i : ℕ). Own r t i f) (sym e) (subst (Own r t k) (same-frame (r .calls k) g f c (ap (r .calls) (sym e) ∙ d)) o)
 
--- a transfer that sent its request by the call before stands
-turn-stays : (r : Run) (y : Transfer r) (m : ℕ) → isTurn (r .calls m) ≡ true → ¬ Closing r y m
-turn-stays r y m e (z, inl c) = true≢false (sym e ∙ ap isTurn c)
-turn-stays r y m e (z, inr (o, c)) = true≢false (sym e ∙ ap isTurn c)
-
-sent-before : (r : Run) (y : Transfer r) (c k m : ℕ) → k < m → Sent r y c (before m) → Stands r y m
-unfolding accepted
-sent-before r y c k zero l s = absurd (omega arith)
-sent-before r y c k (suc m) l s = (omega (arith, s .stands .0), λ i a b. go i a b (ℕ-discrete i m))
-  where
-    go : (i : ℕ) → y .at < i → i < suc m → Dec (i ≡ m) → ¬ Closing r y i
-    go i a b (yes e) d =
-        turn-stays r y m (and-true (isTurn (r .calls m)) (eqb (answer r m .number) 0) (s .turned) .0) (subst (Closing r y) e d)
-    go i a b (no e) d = s .stands .1 i a (omega arith) d
-
--- where replies arrive under device 5's number at two events only, and each is its own
-two-own : (cs : List Call) (t : Timeline) (x : Transfer (run cs)) (n i j : ℕ) (g h : Frame) → askDevice (x .ask) ≡ 5
-    → every (λ k c. not (underFive (run cs) k c) || (eqb k i || eqb k j)) 0 cs ≡ true
-    → run cs .calls i ≡ frame itsOwn g → Own (run cs) t i g → run cs .calls j ≡ frame itsOwn h → Own (run cs) t j h
-    → (m : ℕ) (f : Frame) → Arrives (run cs) x n m f → Own (run cs) t m f
-two-own cs t x n i j g h d e p o q u m f a = go (or-either (eqb m i) (eqb m j)
-    (under-five cs (λ k. eqb k i || eqb k j) e m f (a .call) (a .passes) (a .device ∙ d)))
-  where
-    go : (eqb m i ≡ true) ⊎ (eqb m j ≡ true) → Own (run cs) t m f
-    go (inl z) = its-own (run cs) t i m g f (eqb-true m i z) p o (a .call)
-    go (inr z) = its-own (run cs) t j m h f (eqb-true m j z) q u (a .call)
-
 -- a moment until a reply
 until : (r : Run) (x : Transfer r) (n : ℕ) (t : Timeline) (τ₀ τ c m : ℕ) → τ₀ ≤ τ → m < n → Replied r x c m → τ ≤ t .when m
     → Meanwhile r x n t τ₀ τ
 until r x n t τ₀ τ c m a l p u = record { since = a; c = c; m = m; before = l; last = p; until = u }
+
+-- where the device is the same all the while
+steady : (r : Run) (x : Transfer r) (t : Timeline) (During : ℕ → Type 0) (d : Device) → ((τ : ℕ) → During τ → t .device τ ≡ d)
+    → Unwritten r x t During
+steady r x t During d h = record {
+  sameTables = λ τ τ′ a b. ap (λ (e : Device). e .directory) (h τ a ∙ sym (h τ′ b));
+  unchanged = λ τ τ′ a b. ap (range r x) (h τ a ∙ sym (h τ′ b));
+}
+
+-- a reply to the request of the call before
+prompt-next : (r : Run) (x : Transfer r) (n : ℕ) (t : Timeline) → ((m : ℕ) → t .asked m ≡ before m) → Prompt r x n t
+prompt-next r x n t e m f a = rw (e m) (omega (arith, turns-none r (before m) m (at-most m)))
+  where
+    at-most : (k : ℕ) → k ≤ suc (before k)
+    at-most zero = omega arith
+    at-most (suc k) = omega arith
+
+-- the turns among the calls after event j and before event n
+called : List Call → ℕ → ℕ → ℕ
+called cs j zero = 0
+called cs j (suc n) = called cs j n + cond (ltb j n && ownTurn (getD cs n (status 0))) 1 0
+
+-- a REQ of a slot, and a reply to it
+requestOf : (own slot : ℕ) → Ask → ℕ → Frame
+requestOf own slot a c = frameWith (idOf (askOffset a + 8 * c) req own (askDevice a) (askTable a))
+    (request 6 (128 * slot + 8 * c) (chunkLen (askCount a) (8 * c)))
+
+replyOf : (own slot : ℕ) → Ask → ℕ → Frame → Bool
+replyOf own slot a c f =
+    eqb (contentNumber own f) 0 && eqb (idTable (f .id)) 6 && eqb (idFrom (f .id)) (askDevice a)
+    && eqb (idOffset (f .id)) (128 * slot + 8 * c) && eqb (f .len) (chunkLen (askCount a) (8 * c))
+
+-- own number and slot by the state in place of the ledger, turns by the calls in place of the answers: over many calls these compute sooner
+module _ (cs : List Call) (w : Lawful (run cs)) where
+  slot-is : (x : Transfer (run cs)) (k : ℕ) → lowestGivable (state (run cs) (x .at)) ≡ some k → slotOf (run cs) x ≡ k
+  unfolding slotOf lowestGivable
+  slot-is x k e = lowest-agrees (ledger (run cs) (x .at)) (state (run cs) (x .at)) k (storage-sound (run cs) w (x .at) .0)
+      (agrees (run cs) w (x .at)) (lowest-some _ k e)
+
+  accepted-own : (m : ℕ) → accepted (run cs) m ≡ ownTurn (run cs .calls m)
+  unfolding accepted
+  accepted-own m = go (run cs .calls m) refl
+    where
+      other-lent : (l : Buffers) → other l ≢ itsOwn
+      other-lent l p = let z : _≡_ {A = ℕ} 0 1 = cc in omega arith
+
+      go : (c : Call) → run cs .calls m ≡ c → (isTurn c && eqb (answer (run cs) m .number) 0) ≡ ownTurn c
+      go (opening l a) e = refl
+      go (turn itsOwn) e = eq-eqb _ 0 (numbers-in-runs (run cs) w m .turns itsOwn e 0 .1 (inr (λ d. d refl, refl)))
+      go (turn (other l)) e = ap (λ (n : ℕ). eqb n 0) (numbers-in-runs (run cs) w m .turns (other l) e 10 .1 (inl (other-lent l, refl)))
+      go (frame l f) e = refl
+      go (status t) e = refl
+      go (bytes l t) e = refl
+      go (close t) e = refl
+      go (reset o) e = refl
+
+  turns-called : (j n : ℕ) → turns (run cs) j n ≡ called cs j n
+  unfolding turns called
+  turns-called j zero = refl
+  turns-called j (suc n) = ap₂ (λ (k : ℕ) (b : Bool). k + cond (ltb j n && b) 1 0) (turns-called j n) (accepted-own n)
+
+  -- the events at which a reply arrives under device 5's number
+  under-five : (p : ℕ → Bool) → every (λ k c. not (underFive (run cs) k c) || p k) 0 cs ≡ true → (x : Transfer (run cs)) → askDevice (x .ask) ≡ 5
+      → (n m : ℕ) (f : Frame) → Arrives (run cs) x n m f → p m ≡ true
+  unfolding underFive
+  under-five p e x d n m f a = at-each cs (underFive (run cs)) p e (λ k. refl) m
+      (ap (underFive (run cs) m) (a .call) ∙ rw (eq-eqb (idFrom (f .id)) 5 (a .device ∙ d), ← own-is (run cs) w m, eq-eqb _ 0 (a .passes)))
+
+  -- where frames come from event k on, and each is answered not before τ₀
+  not-after : (k τ₀ : ℕ) (t : Timeline) → every (λ i c. not (isFrame c) || leb k i) 0 cs ≡ true
+      → ((m : ℕ) → k ≤ m → τ₀ ≤ t .answered m) → (x : Transfer (run cs)) (n : ℕ) → NotAfter (run cs) x n t τ₀
+  not-after k τ₀ t e h x n c m l p = h m (leb-true k m
+      (at-each cs (λ i d. isFrame d) (leb k) e (λ i. refl) m (ap isFrame (matches-ok (run cs) w x c m (p .matches) .1 .is))))
+
+  -- a transfer that sent its request at turn j
+  sent-at : (x : Transfer (run cs)) (c j k : ℕ) → Stands (run cs) x j → isWrite (x .ask) ≡ false → c < chunks (run cs) x
+      → lowestGivable (state (run cs) (x .at)) ≡ some k → accepted (run cs) j ≡ true
+      → answer (run cs) j .sent ≡ some (requestOf (state (run cs) j .own) k (x .ask) c) → Sent (run cs) x c j
+  unfolding requestFrame requestOf
+  sent-at x c j k s rd l e a y =
+      record { stands = s; asks = rd; chunk = l; turned = a; yields = rw (own-is (run cs) w j, slot-is x k e) y }
+
+  -- and got its reply at event m
+  replied-at : (x : Transfer (run cs)) (n c j m k : ℕ) (f : Frame) → Stands (run cs) x n → x .at < j → j < m → m ≤ n → isWrite (x .ask) ≡ false
+      → c < chunks (run cs) x → lowestGivable (state (run cs) (x .at)) ≡ some k → accepted (run cs) j ≡ true
+      → answer (run cs) j .sent ≡ some (requestOf (state (run cs) j .own) k (x .ask) c) → run cs .calls m ≡ frame itsOwn f
+      → replyOf (state (run cs) m .own) k (x .ask) c f ≡ true → turns (run cs) j m < 20
+      → ((i : ℕ) → j < i → i < m → ¬ Matches (run cs) x c i) → Replied (run cs) x c m
+  unfolding matchesFrame replyOf
+  replied-at x n c j m k f s g b l rd h e a y d q t u = record {
+    awaits = record {
+      stands = (omega arith, λ i v z. s .1 i v (omega arith));
+      j = j;
+      before = b;
+      sent = sent-at x c j k (g, λ i v z. s .1 i v (omega arith)) rd h e a y;
+      soon = t;
+      unmatched = u;
+    };
+    matches = rw (d, own-is (run cs) w m, slot-is x k e) q;
+  }
+
+  -- right after it
+  replied-next : (x : Transfer (run cs)) (n c j k : ℕ) (f : Frame) → Stands (run cs) x n → x .at < j → j < n → isWrite (x .ask) ≡ false
+      → c < chunks (run cs) x → lowestGivable (state (run cs) (x .at)) ≡ some k → accepted (run cs) j ≡ true
+      → answer (run cs) j .sent ≡ some (requestOf (state (run cs) j .own) k (x .ask) c) → run cs .calls (suc j) ≡ frame itsOwn f
+      → replyOf (state (run cs) (suc j) .own) k (x .ask) c f ≡ true → Replied (run cs) x c (suc j)
+  replied-next x n c j k f s g l rd h e a y d q = replied-at x n c j (suc j) k f s g (omega arith) l rd h e a y d q
+      (omega (arith, turns-none (run cs) j (suc j) (omega arith))) (λ i u v. absurd (omega arith))
+
+  -- ── C-19's two premises ──────────────────────────────────────────────────────────────────────────────────────────
+
+  -- "every reply arrives before the 60th turn after its request was sent, or never": counted from each reply's request
+  prompt-arrivals : (t : Timeline) → every (λ k c. not (underFive (run cs) k c) || ltb (called cs (t .asked k) k) 60) 0 cs ≡ true
+      → (x : Transfer (run cs)) (n : ℕ) → askDevice (x .ask) ≡ 5 → Prompt (run cs) x n t
+  prompt-arrivals t e x n d m f a =
+      let l = ltb-true (called cs (t .asked m) m) 60 (under-five (λ k. ltb (called cs (t .asked k) k) 60) e x d n m f a) in
+      omega (arith, turns-called (t .asked m) m, l)
+
+  -- not where one that was taken answers a request 60 or more turns ago
+  not-prompt : (t : Timeline) (x : Transfer (run cs)) (n c m : ℕ) → m < n → Replied (run cs) x c m → leb 60 (called cs (t .asked m) m) ≡ true
+      → ¬ Prompt (run cs) x n t
+  not-prompt t x n c m l p e h =
+      omega (
+        arith,
+        leb-true 60 (called cs (t .asked m) m) e,
+        turns-called (t .asked m) m,
+        h m _ (arrives (run cs) w x n c m l p),
+      )
+
+  -- "no request in the last 60 turns before a reset": where no slot rests at a reset
+  quiet-resets : every (λ k c. not (isReset c) || allZero (state (run cs) k .rests)) 0 cs ≡ true → (n : ℕ) → Quiet (run cs) n
+  unfolding rest
+  quiet-resets e n = corollaries .quietResets (run cs) w n (λ q l z k b. zero-at (state (run cs) q .rests)
+      (at-each cs (λ i c. isReset c) (λ i. allZero (state (run cs) i .rests)) e (λ i. refl) q (ap isReset (z .1 .1))) k)
+
+  -- not where a reset comes fewer than 60 turns after a request
+  not-quiet : (y : Transfer (run cs)) (n c j q : ℕ) → q < n → Resetting (run cs) q → j < q → Sent (run cs) y c j
+      → ltb (called cs j q) 60 ≡ true → ¬ Quiet (run cs) n
+  not-quiet y n c j q l z b s e h = omega (arith, ltb-true (called cs j q) 60 e, turns-called j q, h q l z y c j b s)
+
+  -- where replies arrive under device 5's number at two events only, and each is its own
+  two-own : (t : Timeline) (x : Transfer (run cs)) (n i j : ℕ) (g h : Frame) → askDevice (x .ask) ≡ 5
+      → every (λ k c. not (underFive (run cs) k c) || (eqb k i || eqb k j)) 0 cs ≡ true
+      → run cs .calls i ≡ frame itsOwn g → Own (run cs) t i g → run cs .calls j ≡ frame itsOwn h → Own (run cs) t j h
+      → (m : ℕ) (f : Frame) → Arrives (run cs) x n m f → Own (run cs) t m f
+  two-own t x n i j g h d e p o q u m f a =
+      go (or-either (eqb m i) (eqb m j) (under-five (λ k. eqb k i || eqb k j) e x d n m f a))
+    where
+      go : (eqb m i ≡ true) ⊎ (eqb m j ≡ true) → Own (run cs) t m f
+      go (inl z) = its-own (run cs) t i m g f (eqb-true m i z) p o (a .call)
+      go (inr z) = its-own (run cs) t j m h f (eqb-true m j z) q u (a .call)
+
+  -- what arrives where each reply answers the request of the call before
+  on-time : (t : Timeline) (x : Transfer (run cs)) (n : ℕ) → ((m : ℕ) → t .asked m ≡ before m)
+      → every (λ k c. not (isReset c) || allZero (state (run cs) k .rests)) 0 cs ≡ true
+      → ((m : ℕ) (f : Frame) → Arrives (run cs) x n m f → Own (run cs) t m f) → Arrivals (run cs) x n t
+  on-time t x n a e o = record { own = o; prompt = prompt-next (run cs) x n t a; quiet = quiet-resets e n }
+
+-- a done read that takes the one reply there is, the device's own to some request, at event m
+abbrev shows-other : (cs : List Call) (at m : ℕ) (bs : List ℕ) (v : DoneRead cs at (suc m) bs) (asked : ℕ → ℕ) (d : Device) (g : Frame)
+    → askDevice (v .x .ask) ≡ 5 → every (λ k c. not (underFive (run cs) k c) || (eqb k m || eqb k m)) 0 cs ≡ true
+    → every (λ k c. not (isFrame c) || leb m k) 0 cs ≡ true → run cs .calls m ≡ frame itsOwn g → Own (run cs) (answering asked (λ τ. d)) m g
+    → range (run cs) (v .x) d ≡ upper → eqb (getD bs 0 0) 108 ≡ false → ShowsOther cs at (suc m) bs (answering asked (λ τ. d)) m
+shows-other cs at m bs v asked d g a u f c o q e = record {
+  reader = v;
+  own = two-own cs (v .lawful) (answering asked (λ τ. d)) (v .x) (suc m) m m g g a u c o c o;
+  first = not-after cs (v .lawful) m m (answering asked (λ τ. d)) f (λ k l. l) (v .x) (suc m);
+  unwritten = steady (run cs) (v .x) (answering asked (λ τ. d)) _ d (λ τ h. refl);
+  asked = λ τ. q;
+  other = λ z. eqb-false (getD bs 0 0) 108 e (ap (λ (l : List ℕ). getD l 0 0) z);
+}
 
 -- ── one asker ──────────────────────────────────────────────────────────────────────────────────────────────────────
 
@@ -269,9 +416,9 @@ alone-x : Transfer (run alone)
 unfolding everything alone reply
 alone-x = record { at = 0; lent = itsOwn; ask = read 5 7 6 10; call = refl; accepted = refl }
 
-alone-stands : (n : ℕ) → alone-x .at < n → Stands (run alone) alone-x n
-unfolding everything every alone reply alone-x
-alone-stands n l = still-stands alone 0 refl alone-x n (omega arith) l
+alone-read : DoneRead alone 0 5 (106 ∷ 107 ∷ 108 ∷ 109 ∷ 110 ∷ 111 ∷ 112 ∷ 113 ∷ 114 ∷ 115 ∷ [])
+unfolding everything every shaped shapedLent alone reply alone-x
+alone-read = done-read alone alone-x 5 _ refl refl (omega arith) refl refl
 
 alone-own2 : Own (run alone) unchanging 2 (reply 5 0 (106 ∷ 107 ∷ 108 ∷ 109 ∷ 110 ∷ 111 ∷ 112 ∷ 113 ∷ []))
 unfolding everything alone reply directory memory
@@ -281,35 +428,21 @@ alone-own4 : Own (run alone) unchanging 4 (reply 5 8 (114 ∷ 115 ∷ []))
 unfolding everything alone reply directory memory
 alone-own4 = own-reply (run alone) unchanging 4 (frameWith 0x3882B8 (6 ∷ 1 ∷ 2 ∷ [])) _ (omega arith) refl refl (omega arith) (omega arith) refl
 
-alone-call2 : run alone .calls 2 ≡ frame itsOwn (reply 5 0 (106 ∷ 107 ∷ 108 ∷ 109 ∷ 110 ∷ 111 ∷ 112 ∷ 113 ∷ []))
-unfolding alone
-alone-call2 = refl
-
-alone-call4 : run alone .calls 4 ≡ frame itsOwn (reply 5 8 (114 ∷ 115 ∷ []))
-unfolding alone
-alone-call4 = refl
-
 alone-replied : Replied (run alone) alone-x 1 4
-unfolding everything alone reply alone-x
-alone-replied = replied-next alone alone-x 1 3 alone-stands (omega arith) refl (omega arith) refl refl (omega arith) refl
-
-alone-read : DoneRead alone 0 5 (106 ∷ 107 ∷ 108 ∷ 109 ∷ 110 ∷ 111 ∷ 112 ∷ 113 ∷ 114 ∷ 115 ∷ [])
-unfolding everything every shaped shapedLent alone reply alone-x
-alone-read =
-    record { lawful = run-lawful alone refl; x = alone-x; opened = refl; stands = alone-stands 5 (omega arith); done = refl; shown = refl }
+unfolding everything requestOf replyOf alone reply alone-x alone-read
+alone-replied = replied-next alone (alone-read .lawful) alone-x 5 1 3 _ _ (alone-read .stands) (omega arith) (omega arith) refl (omega arith)
+    refl refl refl refl refl
 
 alone-shows : AloneShows
-unfolding everything every underFive alone reply alone-x alone-read directory memory
+unfolding everything every underFive allZero alone reply alone-x alone-read directory memory
 alone-shows = record {
   shows = record {
     reader = alone-read;
     premises = record {
-      arrivals = record {
-        own = two-own alone unchanging alone-x 5 2 4 _ _ refl refl alone-call2 alone-own2 alone-call4 alone-own4;
-        current = λ m f a y c. sent-before (run alone) y c (alone-x .at) m (a .since);
-      };
-      first = not-after alone 2 3 unchanging refl (λ m l. omega arith) alone-x 5;
-      unwritten = record { sameTables = λ τ τ′ a b. refl; unchanged = λ τ τ′ a b. refl };
+      arrivals = on-time alone (alone-read .lawful) unchanging alone-x 5 (λ m. refl) refl
+          (two-own alone (alone-read .lawful) unchanging alone-x 5 2 4 _ _ refl refl refl alone-own2 refl alone-own4);
+      first = not-after alone (alone-read .lawful) 2 3 unchanging refl (λ m l. omega arith) alone-x 5;
+      unwritten = steady (run alone) alone-x unchanging _ holding (λ τ a. refl);
     };
     meanwhile = until (run alone) alone-x 5 unchanging 3 5 1 4 (omega arith) (omega arith) alone-replied (omega arith);
     same = refl;
@@ -325,33 +458,19 @@ together-x : Transfer (run together)
 unfolding everything together reply
 together-x = record { at = 1; lent = itsOwn; ask = read 5 7 6 10; call = refl; accepted = refl }
 
-together-stands : (n : ℕ) → together-x .at < n → Stands (run together) together-x n
-unfolding everything every together reply together-x
-together-stands n l = still-stands together 0 refl together-x n (omega arith) l
+together-read : DoneRead together 1 33 (1 ∷ 2 ∷ 108 ∷ 109 ∷ 110 ∷ 111 ∷ 112 ∷ 113 ∷ 114 ∷ 115 ∷ [])
+unfolding everything every shaped shapedLent together reply together-x
+together-read = done-read together together-x 33 _ refl refl (omega arith) refl refl
 
-abbrev first-reply : Frame
-first-reply = reply 5 128 (1 ∷ 2 ∷ 108 ∷ 109 ∷ 110 ∷ 111 ∷ 112 ∷ 113 ∷ [])
-
-together-own28 : Own (run together) written 28 first-reply
+together-own28 : Own (run together) written 28 (reply 5 128 (1 ∷ 2 ∷ 108 ∷ 109 ∷ 110 ∷ 111 ∷ 112 ∷ 113 ∷ []))
 unfolding everything together reply directory memory after
 together-own28 = own-reply (run together) written 28 (frameWith 0x1882B8 (6 ∷ 16 ∷ 8 ∷ [])) _ (omega arith) refl refl (omega arith) (omega arith)
     refl
 
-abbrev second-reply : Frame
-second-reply = reply 5 136 (114 ∷ 115 ∷ [])
-
-together-own30 : Own (run together) written 30 second-reply
+together-own30 : Own (run together) written 30 (reply 5 136 (114 ∷ 115 ∷ []))
 unfolding everything together reply directory memory after
 together-own30 = own-reply (run together) written 30 (frameWith 0x3882B8 (6 ∷ 17 ∷ 2 ∷ [])) _ (omega arith) refl refl (omega arith) (omega arith)
     refl
-
-together-call28 : run together .calls 28 ≡ frame itsOwn first-reply
-unfolding together
-together-call28 = refl
-
-together-call30 : run together .calls 30 ≡ frame itsOwn second-reply
-unfolding together
-together-call30 = refl
 
 -- the device is the same all the while
 together-same : (τ : ℕ) → Meanwhile (run together) together-x 33 written 5 τ → written .device τ ≡ after holding 6 (1 ∷ 2 ∷ [])
@@ -361,33 +480,20 @@ together-same τ w =
     rw (le-ltb τ 4 l, lt-ltb τ 33 u)
 
 together-replied : Replied (run together) together-x 1 30
-unfolding everything together reply together-x
-together-replied = replied-next together together-x 1 29 together-stands (omega arith) refl (omega arith) refl refl (omega arith) refl
-
-together-lawful : Lawful (run together)
-unfolding everything every shaped shapedLent together reply
-together-lawful = run-lawful together refl
-
-together-read : DoneRead together 1 33 (1 ∷ 2 ∷ 108 ∷ 109 ∷ 110 ∷ 111 ∷ 112 ∷ 113 ∷ 114 ∷ 115 ∷ [])
-unfolding everything together reply together-x
-together-read =
-    record { lawful = together-lawful; x = together-x; opened = refl; stands = together-stands 33 (omega arith); done = refl; shown = refl }
+unfolding everything requestOf replyOf together reply together-x together-read
+together-replied = replied-next together (together-read .lawful) together-x 33 1 29 _ _ (together-read .stands) (omega arith) (omega arith) refl
+    (omega arith) refl refl refl refl refl
 
 together-shows : TogetherShows
-unfolding everything every underFive together reply together-x together-read directory memory after
+unfolding everything every underFive allZero together reply together-x together-read directory memory after
 together-shows = record {
   shows = record {
     reader = together-read;
     premises = record {
-      arrivals = record {
-        own = two-own together written together-x 33 28 30 _ _ refl refl together-call28 together-own28 together-call30 together-own30;
-        current = λ m f a y c. sent-before (run together) y c (together-x .at) m (a .since);
-      };
-      first = not-after together 6 5 written refl (λ m l. omega arith) together-x 33;
-      unwritten = record {
-        sameTables = λ τ τ′ a b. ap (λ (d : Device). d .directory) (together-same τ a ∙ sym (together-same τ′ b));
-        unchanged = λ τ τ′ a b. ap (range (run together) together-x) (together-same τ a ∙ sym (together-same τ′ b));
-      };
+      arrivals = on-time together (together-read .lawful) written together-x 33 (λ m. refl) refl
+          (two-own together (together-read .lawful) written together-x 33 28 30 _ _ refl refl refl together-own28 refl together-own30);
+      first = not-after together (together-read .lawful) 6 5 written refl (λ m l. omega arith) together-x 33;
+      unwritten = steady (run together) together-x written _ _ together-same;
     };
     meanwhile = until (run together) together-x 33 written 5 29 1 30 (omega arith) (omega arith) together-replied (omega arith);
     same = refl;
@@ -405,44 +511,22 @@ restarted-x : Transfer (run restarted)
 unfolding everything restarted
 restarted-x = record { at = 3; lent = itsOwn; ask = read 5 7 6 2; call = refl; accepted = refl }
 
-restarted-stands : (n : ℕ) → restarted-x .at < n → Stands (run restarted) restarted-x n
-unfolding everything every restarted restarted-x
-restarted-stands n l = still-stands restarted 3 refl restarted-x n (omega arith) l
+restarted-read : DoneRead restarted 3 6 (1 ∷ 2 ∷ [])
+unfolding everything every shaped shapedLent restarted restarted-x
+restarted-read = done-read restarted restarted-x 6 _ refl refl (omega arith) refl refl
 
-abbrev third-reply : Frame
-third-reply = frameWith (idOf 0 rsp 5 3 6) (1 ∷ 2 ∷ [])
-
-restarted-own5 : Own (run restarted) writtenOnce 5 third-reply
+restarted-own5 : Own (run restarted) writtenOnce 5 (frameWith (idOf 0 rsp 5 3 6) (1 ∷ 2 ∷ []))
 unfolding everything restarted directory memory after
 restarted-own5 = own-reply (run restarted) writtenOnce 5 (frameWith (idOf 6 req 3 5 7) (6 ∷ 0 ∷ 2 ∷ [])) _ (omega arith) refl refl (omega arith)
     (omega arith) refl
 
-restarted-call5 : run restarted .calls 5 ≡ frame itsOwn third-reply
-unfolding restarted
-restarted-call5 = refl
-
 restarted-replied : Replied (run restarted) restarted-x 0 5
-unfolding everything restarted restarted-x
-restarted-replied = replied-next restarted restarted-x 0 4 restarted-stands (omega arith) refl (omega arith) refl refl (omega arith) refl
-
-restarted-same : (τ : ℕ) → Meanwhile (run restarted) restarted-x 6 writtenOnce 5 τ → writtenOnce .device τ ≡ after holding 6 (1 ∷ 2 ∷ [])
-restarted-same τ w =
-    let l : 2 ≤ τ = omega (arith, w .since) in
-    rw (le-ltb τ 2 l)
-
-restarted-read : DoneRead restarted 3 6 (1 ∷ 2 ∷ [])
-unfolding everything every shaped shapedLent restarted restarted-x
-restarted-read = record {
-  lawful = run-lawful restarted refl;
-  x = restarted-x;
-  opened = refl;
-  stands = restarted-stands 6 (omega arith);
-  done = refl;
-  shown = refl;
-}
+unfolding everything requestOf replyOf restarted restarted-x restarted-read
+restarted-replied = replied-next restarted (restarted-read .lawful) restarted-x 6 0 4 _ _ (restarted-read .stands) (omega arith) (omega arith) refl
+    (omega arith) refl refl refl refl refl
 
 restarted-shows : RestartedShows
-unfolding everything every underFive restarted restarted-x restarted-read directory memory after
+unfolding everything every underFive allZero restarted restarted-x restarted-read directory memory after
 restarted-shows = record {
   sent = refl;
   forgotten = refl;
@@ -450,15 +534,10 @@ restarted-shows = record {
   shows = record {
     reader = restarted-read;
     premises = record {
-      arrivals = record {
-        own = two-own restarted writtenOnce restarted-x 6 5 5 _ _ refl refl restarted-call5 restarted-own5 restarted-call5 restarted-own5;
-        current = λ m f a y c. sent-before (run restarted) y c (restarted-x .at) m (a .since);
-      };
-      first = not-after restarted 5 5 writtenOnce refl (λ m l. omega arith) restarted-x 6;
-      unwritten = record {
-        sameTables = λ τ τ′ a b. ap (λ (d : Device). d .directory) (restarted-same τ a ∙ sym (restarted-same τ′ b));
-        unchanged = λ τ τ′ a b. ap (range (run restarted) restarted-x) (restarted-same τ a ∙ sym (restarted-same τ′ b));
-      };
+      arrivals = on-time restarted (restarted-read .lawful) writtenOnce restarted-x 6 (λ m. refl) refl
+          (two-own restarted (restarted-read .lawful) writtenOnce restarted-x 6 5 5 _ _ refl refl refl restarted-own5 refl restarted-own5);
+      first = not-after restarted (restarted-read .lawful) 5 5 writtenOnce refl (λ m l. omega arith) restarted-x 6;
+      unwritten = steady (run restarted) restarted-x writtenOnce _ (after holding 6 (1 ∷ 2 ∷ [])) (λ τ a. rw (le-ltb τ 2 (omega (arith, a .since))));
     };
     meanwhile = until (run restarted) restarted-x 6 writtenOnce 5 5 0 5 (omega arith) (omega arith) restarted-replied (omega arith);
     same = refl;
@@ -471,40 +550,22 @@ torn-x : Transfer (run torn)
 unfolding everything torn reply
 torn-x = record { at = 0; lent = itsOwn; ask = read 5 7 6 10; call = refl; accepted = refl }
 
-torn-stands : (n : ℕ) → torn-x .at < n → Stands (run torn) torn-x n
-unfolding everything every torn reply torn-x
-torn-stands n l = still-stands torn 0 refl torn-x n (omega arith) l
+torn-read : DoneRead torn 0 7 (106 ∷ 107 ∷ 108 ∷ 109 ∷ 110 ∷ 111 ∷ 112 ∷ 113 ∷ 3 ∷ 4 ∷ [])
+unfolding everything every shaped shapedLent torn reply torn-x
+torn-read = done-read torn torn-x 7 _ refl refl (omega arith) refl refl
 
-abbrev old-reply : Frame
-old-reply = reply 5 0 (106 ∷ 107 ∷ 108 ∷ 109 ∷ 110 ∷ 111 ∷ 112 ∷ 113 ∷ [])
-
-torn-own2 : Own (run torn) overwritten 2 old-reply
+torn-own2 : Own (run torn) overwritten 2 (reply 5 0 (106 ∷ 107 ∷ 108 ∷ 109 ∷ 110 ∷ 111 ∷ 112 ∷ 113 ∷ []))
 unfolding everything torn reply directory memory
 torn-own2 = own-reply (run torn) overwritten 2 (frameWith 0x1882B8 (6 ∷ 0 ∷ 8 ∷ [])) _ (omega arith) refl refl (omega arith) (omega arith) refl
 
-abbrev new-reply : Frame
-new-reply = reply 5 8 (3 ∷ 4 ∷ [])
-
-torn-own6 : Own (run torn) overwritten 6 new-reply
+torn-own6 : Own (run torn) overwritten 6 (reply 5 8 (3 ∷ 4 ∷ []))
 unfolding everything torn reply directory memory after
 torn-own6 = own-reply (run torn) overwritten 6 (frameWith 0x3882B8 (6 ∷ 1 ∷ 2 ∷ [])) _ (omega arith) refl refl (omega arith) (omega arith) refl
 
-torn-call2 : run torn .calls 2 ≡ frame itsOwn old-reply
-unfolding torn
-torn-call2 = refl
-
-torn-call6 : run torn .calls 6 ≡ frame itsOwn new-reply
-unfolding torn
-torn-call6 = refl
-
 torn-replied : Replied (run torn) torn-x 1 6
-unfolding everything torn reply torn-x
-torn-replied = replied-next torn torn-x 1 5 torn-stands (omega arith) refl (omega arith) refl refl (omega arith) refl
-
-torn-read : DoneRead torn 0 7 (106 ∷ 107 ∷ 108 ∷ 109 ∷ 110 ∷ 111 ∷ 112 ∷ 113 ∷ 3 ∷ 4 ∷ [])
-unfolding everything every shaped shapedLent torn reply torn-x
-torn-read =
-    record { lawful = run-lawful torn refl; x = torn-x; opened = refl; stands = torn-stands 7 (omega arith); done = refl; shown = refl }
+unfolding everything requestOf replyOf torn reply torn-x torn-read
+torn-replied = replied-next torn (torn-read .lawful) torn-x 7 1 5 _ _ (torn-read .stands) (omega arith) (omega arith) refl (omega arith)
+    refl refl refl refl refl
 
 -- the range's bytes before and after the write differ from those shown, at place 8 and at place 6
 torn-never : (b : Bool) → range (run torn) torn-x (cond b holding (after holding 12 (1 ∷ 2 ∷ 3 ∷ 4 ∷ [])))
@@ -522,14 +583,12 @@ torn-rewritten u =
     omega arith
 
 torn-shows : TornShows
-unfolding everything every underFive torn reply torn-x torn-read
+unfolding everything every underFive allZero torn reply torn-x torn-read
 torn-shows = record {
   reader = torn-read;
-  arrivals = record {
-    own = two-own torn overwritten torn-x 7 2 6 _ _ refl refl torn-call2 torn-own2 torn-call6 torn-own6;
-    current = λ m f a y c. sent-before (run torn) y c (torn-x .at) m (a .since);
-  };
-  first = not-after torn 2 2 overwritten refl (λ m l. omega arith) torn-x 7;
+  arrivals = on-time torn (torn-read .lawful) overwritten torn-x 7 (λ m. refl) refl
+      (two-own torn (torn-read .lawful) overwritten torn-x 7 2 6 _ _ refl refl refl torn-own2 refl torn-own6);
+  first = not-after torn (torn-read .lawful) 2 2 overwritten refl (λ m l. omega arith) torn-x 7;
   never = λ τ. torn-never (ltb τ 5);
   rewritten = torn-rewritten;
 }
@@ -540,25 +599,21 @@ forged-x : Transfer (run forged)
 unfolding everything forged reply
 forged-x = record { at = 0; lent = itsOwn; ask = read 5 7 6 10; call = refl; accepted = refl }
 
-forged-stands : (n : ℕ) → forged-x .at < n → Stands (run forged) forged-x n
-unfolding everything every forged reply forged-x
-forged-stands n l = still-stands forged 0 refl forged-x n (omega arith) l
+forged-read : DoneRead forged 0 5 (106 ∷ 107 ∷ 108 ∷ 109 ∷ 110 ∷ 111 ∷ 112 ∷ 113 ∷ 0 ∷ 0 ∷ [])
+unfolding everything every shaped shapedLent forged reply forged-x
+forged-read = done-read forged forged-x 5 _ refl refl (omega arith) refl refl
 
-forged-own2 : Own (run forged) unchanging 2 old-reply
+forged-own2 : Own (run forged) unchanging 2 (reply 5 0 (106 ∷ 107 ∷ 108 ∷ 109 ∷ 110 ∷ 111 ∷ 112 ∷ 113 ∷ []))
 unfolding everything forged reply directory memory
 forged-own2 = own-reply (run forged) unchanging 2 (frameWith 0x1882B8 (6 ∷ 0 ∷ 8 ∷ [])) _ (omega arith) refl refl (omega arith) (omega arith) refl
-
-forged-call2 : run forged .calls 2 ≡ frame itsOwn old-reply
-unfolding forged
-forged-call2 = refl
 
 forged-others : (m : ℕ) (f : Frame) → m ≢ 4 → Arrives (run forged) forged-x 5 m f → Own (run forged) unchanging m f
 unfolding everything every underFive forged reply forged-x
 forged-others m f d a = go (or-either (eqb m 2) (eqb m 4)
-    (under-five forged (λ k. eqb k 2 || eqb k 4) refl m f (a .call) (a .passes) (a .device)))
+    (under-five forged (forged-read .lawful) (λ k. eqb k 2 || eqb k 4) refl forged-x refl 5 m f a))
   where
     go : (eqb m 2 ≡ true) ⊎ (eqb m 4 ≡ true) → Own (run forged) unchanging m f
-    go (inl z) = its-own (run forged) unchanging 2 m _ f (eqb-true m 2 z) forged-call2 forged-own2 (a .call)
+    go (inl z) = its-own (run forged) unchanging 2 m _ f (eqb-true m 2 z) refl forged-own2 (a .call)
     go (inr z) = absurd (d (eqb-true m 4 z))
 
 -- the holder gives byte 114
@@ -571,53 +626,18 @@ forged-forgery o =
     let z : _≡_ {A = ℕ} 0 114 = ap (λ (l : List ℕ). getD l 0 0) (o .sameBytes ∙ sym (ap (λ (s : Served). content (s .frame)) g)) in
     omega arith
 
-forged-read : DoneRead forged 0 5 (106 ∷ 107 ∷ 108 ∷ 109 ∷ 110 ∷ 111 ∷ 112 ∷ 113 ∷ 0 ∷ 0 ∷ [])
-unfolding everything every shaped shapedLent forged reply forged-x
-forged-read =
-    record { lawful = run-lawful forged refl; x = forged-x; opened = refl; stands = forged-stands 5 (omega arith); done = refl; shown = refl }
-
 forged-shows : ForgedShows
-unfolding everything every forged reply forged-x forged-read directory memory
+unfolding everything every allZero forged reply forged-x forged-read directory memory
 forged-shows = record {
   reader = forged-read;
   own = forged-others;
-  current = λ m f a y c. sent-before (run forged) y c (forged-x .at) m (a .since);
-  first = not-after forged 2 3 unchanging refl (λ m l. omega arith) forged-x 5;
-  unwritten = record { sameTables = λ τ τ′ a b. refl; unchanged = λ τ τ′ a b. refl };
+  prompt = prompt-next (run forged) forged-x 5 unchanging (λ m. refl);
+  quiet = quiet-resets forged (forged-read .lawful) refl 5;
+  first = not-after forged (forged-read .lawful) 2 3 unchanging refl (λ m l. omega arith) forged-x 5;
+  unwritten = steady (run forged) forged-x unchanging _ holding (λ τ a. refl);
   asked = refl;
   forgery = forged-forgery;
 }
-
--- ── a transfer that is closed ──────────────────────────────────────────────────────────────────────────────────────
-
--- a reply that x takes at m answers a request of y, which event e closed before: it is not current
-not-current : (r : Run) (x y : Transfer r) (n c m k j e : ℕ) (f : Frame) (t : Timeline) → x .at < m → m < n → Replied r x c m
-    → r .calls m ≡ frame itsOwn f → contentNumber (ledger r m .own) f ≡ 0 → idFrom (f .id) ≡ askDevice (x .ask)
-    → Sent r y k j → t .asked m ≡ j → y .at < e → e < m → Closing r y e → ¬ Current r x n t
-not-current r x y n c m k j e f t a b p q z d s u l l′ h current =
-    current m f arrives y k (subst (Sent r y k) (sym u) s) .1 e l l′ h
-  where
-    arrives : Arrives r x n m f
-    arrives = record { since = a; c = c; m′ = m; before = b; last = p; until = omega arith; call = q; passes = z; device = d }
-
-module _ (cs : List Call) where
-  abbrev closing : List Call
-  closing = opening itsOwn (read 5 7 0 8) ∷ turn itsOwn ∷ close 1 ∷ cs
-
-  closed-x : Transfer (run closing)
-  unfolding everything
-  closed-x = record { at = 0; lent = itsOwn; ask = read 5 7 0 8; call = refl; accepted = refl }
-
-  -- call 1 sent its request, and call 2 closed it: no reply to it that another transfer takes is current
-  closed-read : (x : Transfer (run closing)) (n c m : ℕ) (f : Frame) (t : Timeline) → x .at < m → m < n → 2 < m → Replied (run closing) x c m
-      → run closing .calls m ≡ frame itsOwn f → contentNumber (ledger (run closing) m .own) f ≡ 0 → idFrom (f .id) ≡ askDevice (x .ask)
-      → t .asked m ≡ 1 → ¬ Current (run closing) x n t
-  unfolding everything closed-x
-  closed-read x n c m f t a b l p q z d e =
-      not-current (run closing) x closed-x n c m 0 1 2 f t a b p q z d sent e (omega arith) l (refl, inl refl)
-    where
-      sent : Sent (run closing) closed-x 0 1
-      sent = record { stands = (omega arith, λ m a b. absurd (omega arith)); asks = refl; chunk = omega arith; turned = refl; yields = refl }
 
 -- ── late ───────────────────────────────────────────────────────────────────────────────────────────────────────────
 
@@ -625,79 +645,144 @@ late-x : Transfer (run late)
 unfolding everything late reply
 late-x = record { at = 3; lent = itsOwn; ask = read 5 7 8 8; call = refl; accepted = refl }
 
-late-stands : (n : ℕ) → late-x .at < n → Stands (run late) late-x n
-unfolding everything every late reply late-x
-late-stands n l = still-stands late 3 refl late-x n (omega arith) l
+late-read : DoneRead late 3 7 upper
+unfolding everything every shaped shapedLent late reply late-x
+late-read = done-read late late-x 7 _ refl refl (omega arith) refl refl
 
-late-replied : Replied (run late) late-x 0 5
-unfolding everything late reply late-x
-late-replied = replied-next late late-x 0 4 late-stands (omega arith) refl (omega arith) refl refl (omega arith) refl
-
-late-own5 : Own (run late) slow 5 (reply 5 0 (100 ∷ 101 ∷ 102 ∷ 103 ∷ 104 ∷ 105 ∷ 106 ∷ 107 ∷ []))
+late-own5 : Own (run late) lateThenOwn 5 (reply 5 0 lower)
 unfolding everything late reply directory memory
-late-own5 = own-reply (run late) slow 5 (frameWith (idOf 0 req 0 5 7) (6 ∷ 0 ∷ 8 ∷ [])) _ (omega arith) refl refl (omega arith) (omega arith) refl
+late-own5 = own-reply (run late) lateThenOwn 5 (frameWith (idOf 0 req 0 5 7) (6 ∷ 0 ∷ 8 ∷ [])) _ (omega arith) refl refl (omega arith) (omega arith) refl
 
-late-call5 : run late .calls 5 ≡ frame itsOwn (reply 5 0 (100 ∷ 101 ∷ 102 ∷ 103 ∷ 104 ∷ 105 ∷ 106 ∷ 107 ∷ []))
-unfolding late
-late-call5 = refl
+late-own6 : Own (run late) lateThenOwn 6 (reply 5 128 upper)
+unfolding everything late reply directory memory
+late-own6 = own-reply (run late) lateThenOwn 6 (frameWith (idOf 8 req 0 5 7) (6 ∷ 16 ∷ 8 ∷ [])) _ (omega arith) refl refl (omega arith) (omega arith) refl
 
-late-lawful : Lawful (run late)
-unfolding everything every shaped shapedLent late reply
-late-lawful = run-lawful late refl
-
-late-read : DoneRead late 3 6 (100 ∷ 101 ∷ 102 ∷ 103 ∷ 104 ∷ 105 ∷ 106 ∷ 107 ∷ [])
-unfolding everything late reply late-x
-late-read =
-    record { lawful = late-lawful; x = late-x; opened = refl; stands = late-stands 6 (omega arith); done = refl; shown = refl }
+late-replied : Replied (run late) late-x 0 6
+unfolding everything requestOf replyOf late reply late-x late-read
+late-replied = replied-at late (late-read .lawful) late-x 7 0 4 6 _ _ (late-read .stands) (omega arith) (omega arith) (omega arith) refl (omega arith)
+    refl refl refl refl refl (omega arith) (λ i a b. unmatched i (omega arith))
+  where
+    unmatched : (i : ℕ) → i ≡ 5 → ¬ Matches (run late) late-x 0 i
+    unmatched i e h = false≢true (subst (Matches (run late) late-x 0) e h)
 
 late-shows : LateShows
-unfolding everything every underFive late reply late-x late-read directory memory
+unfolding everything every underFive called allZero late reply late-x late-read directory memory
 late-shows = record {
-  reader = late-read;
-  own = two-own late slow late-x 6 5 5 _ _ refl refl late-call5 late-own5 late-call5 late-own5;
-  first = not-after late 5 5 slow refl (λ m l. omega arith) late-x 6;
-  unwritten = record { sameTables = λ τ τ′ a b. refl; unchanged = λ τ τ′ a b. refl };
-  asked = refl;
-  closed = closed-read (drop 3 late) late-x 6 0 5 _ slow (omega arith) (omega arith) (omega arith) late-replied refl refl refl refl;
+  shows = record {
+    reader = late-read;
+    premises = record {
+      arrivals = record {
+        own = two-own late (late-read .lawful) lateThenOwn late-x 7 5 6 _ _ refl refl refl late-own5 refl late-own6;
+        prompt = prompt-arrivals late (late-read .lawful) lateThenOwn refl late-x 7 refl;
+        quiet = quiet-resets late (late-read .lawful) refl 7;
+      };
+      first = not-after late (late-read .lawful) 5 5 lateThenOwn refl (λ m l. l) late-x 7;
+      unwritten = steady (run late) late-x lateThenOwn _ holding (λ τ a. refl);
+    };
+    meanwhile = until (run late) late-x 7 lateThenOwn 5 6 0 6 (omega arith) (omega arith) late-replied (omega arith);
+    same = refl;
+  };
+  slot = refl;
+  seventeen = refl;
+  crowded = refl;
+}
+
+-- ── too late ───────────────────────────────────────────────────────────────────────────────────────────────────────
+
+too-late-x : Transfer (run tooLate)
+unfolding everything tooLate reply
+too-late-x = record { at = 63; lent = itsOwn; ask = read 5 7 8 8; call = refl; accepted = refl }
+
+too-late-read : DoneRead tooLate 63 66 lower
+unfolding everything every shaped shapedLent tooLate reply too-late-x
+too-late-read = done-read tooLate too-late-x 66 _ refl refl (omega arith) refl refl
+
+too-late-own : Own (run tooLate) slow 65 (reply 5 0 lower)
+unfolding everything tooLate reply directory memory
+too-late-own = own-reply (run tooLate) slow 65 _ _ (omega arith) refl refl (omega arith) (omega arith) refl
+
+too-late-replied : Replied (run tooLate) too-late-x 0 65
+unfolding everything requestOf replyOf tooLate reply too-late-x too-late-read
+too-late-replied = replied-next tooLate (too-late-read .lawful) too-late-x 66 0 64 _ _ (too-late-read .stands) (omega arith) (omega arith) refl
+    (omega arith) refl refl refl refl refl
+
+too-late-shows : TooLateShows
+unfolding everything every underFive called allZero tooLate reply too-late-x too-late-read directory memory
+too-late-shows = record {
+  shows = shows-other tooLate 63 65 lower too-late-read (λ m. 1) holding _ refl refl refl refl too-late-own refl refl;
+  quiet = quiet-resets tooLate (too-late-read .lawful) refl 66;
+  notPrompt = not-prompt tooLate (too-late-read .lawful) slow too-late-x 66 0 65 (omega arith) too-late-replied refl;
+}
+
+-- ── hasty ──────────────────────────────────────────────────────────────────────────────────────────────────────────
+
+hasty-x : Transfer (run hasty)
+unfolding everything hasty reply
+hasty-x = record { at = 62; lent = itsOwn; ask = read 5 7 8 8; call = refl; accepted = refl }
+
+-- the read that is reset
+hasty-y : Transfer (run hasty)
+unfolding everything hasty reply
+hasty-y = record { at = 0; lent = itsOwn; ask = read 5 7 0 8; call = refl; accepted = refl }
+
+hasty-read : DoneRead hasty 62 65 lower
+unfolding everything every shaped shapedLent hasty reply hasty-x
+hasty-read = done-read hasty hasty-x 65 _ refl refl (omega arith) refl refl
+
+hasty-own : Own (run hasty) slow 64 (reply 5 0 lower)
+unfolding everything hasty reply directory memory
+hasty-own = own-reply (run hasty) slow 64 _ _ (omega arith) refl refl (omega arith) (omega arith) refl
+
+hasty-sent : Sent (run hasty) hasty-y 0 1
+unfolding everything every requestOf hasty reply hasty-y
+hasty-sent = sent-at hasty (hasty-read .lawful) hasty-y 0 1 _ (still-stands hasty hasty-y 1 refl (omega arith)) refl (omega arith)
+    refl refl refl
+
+hasty-shows : HastyShows
+unfolding everything every underFive called hasty reply hasty-x hasty-read directory memory
+hasty-shows = record {
+  shows = shows-other hasty 62 64 lower hasty-read (λ m. 1) holding _ refl refl refl refl hasty-own refl refl;
+  prompt = prompt-arrivals hasty (hasty-read .lawful) slow refl hasty-x 65 refl;
+  notQuiet = not-quiet hasty (hasty-read .lawful) hasty-y 65 0 1 61 (omega arith) (refl, (0, refl)) (omega arith) hasty-sent refl;
 }
 
 -- ── checked writes ─────────────────────────────────────────────────────────────────────────────────────────────────
 
-checked-write : (cs : List Call) (x : Transfer (run cs)) (n number : ℕ) → every (λ k c. shaped c) 0 cs ≡ true → isCheck (x .ask) ≡ true
+abbrev checked-write : (cs : List Call) (x : Transfer (run cs)) (n number : ℕ) → Lawful (run cs) → isCheck (x .ask) ≡ true
     → Stands (run cs) x n → statusAt (run cs) x n ≡ number → shownAt (run cs) x n ≡ plain number
     → CheckedWrite cs (x .at) n (askGiven (x .ask)) number
-checked-write cs x n number e c s a h =
-    record { lawful = run-lawful cs e; x = x; opened = refl; checks = c; given = refl; stands = s; answers = a; shown = h }
+checked-write cs x n number w c s a h =
+    record { lawful = w; x = x; opened = refl; checks = c; given = refl; stands = s; answers = a; shown = h }
 
 module _ (a b : ℕ) where
   back-x : Transfer (run (readingBack a b))
   unfolding everything readingBack reply
   back-x = record { at = 0; lent = itsOwn; ask = check 5 7 6 ten; call = refl; accepted = refl }
 
-  back-stands : (n : ℕ) → back-x .at < n → Stands (run (readingBack a b)) back-x n
+  back-lawful : Lawful (run (readingBack a b))
+  unfolding everything every shaped shapedLent readingBack reply
+  back-lawful = run-lawful (readingBack a b) refl
+
+  back-stands : Stands (run (readingBack a b)) back-x 7
   unfolding everything every readingBack reply back-x
-  back-stands n l = still-stands (readingBack a b) 0 refl back-x n (omega arith) l
+  back-stands = still-stands (readingBack a b) back-x 7 refl (omega arith)
 
   back-replied : Replied (run (readingBack a b)) back-x 1 6
-  unfolding everything readingBack reply back-x
-  back-replied = replied-next (readingBack a b) back-x 1 5 back-stands (omega arith) refl (omega arith) refl refl (omega arith) refl
+  unfolding everything requestOf replyOf readingBack reply back-x
+  back-replied = replied-next (readingBack a b) back-lawful back-x 7 1 5 _ _ back-stands (omega arith) (omega arith) refl (omega arith)
+      refl refl refl refl refl
 
   -- where the device is the same from moment 4 on, and these are its replies
   back-premises : (device : ℕ → Device) (d : Device) → ((τ : ℕ) → 4 ≤ τ → device τ ≡ d)
       → serveOf d (frameWith 0x1882B8 (6 ∷ 0 ∷ 8 ∷ [])) ≡ answerWith (reply 5 0 eight)
       → serveOf d (frameWith 0x3882B8 (6 ∷ 1 ∷ 2 ∷ [])) ≡ answerWith (reply 5 8 (a ∷ b ∷ []))
       → Premises (run (readingBack a b)) back-x 7 (onTime device) 4
-  unfolding everything every underFive readingBack reply back-x
+  unfolding everything every underFive allZero readingBack reply back-x
   back-premises device d same g h = record {
-    arrivals = record {
-      own = two-own (readingBack a b) t back-x 7 4 6 _ _ refl refl refl own4 refl own6;
-      current = λ m f u y c. sent-before (run (readingBack a b)) y c (back-x .at) m (u .since);
-    };
-    first = not-after (readingBack a b) 4 4 t refl (λ m l. l) back-x 7;
-    unwritten = record {
-      sameTables = λ τ τ′ u v. ap (λ (d : Device). d .directory) (still τ τ′ u v);
-      unchanged = λ τ τ′ u v. ap (range (run (readingBack a b)) back-x) (still τ τ′ u v);
-    };
+    arrivals = on-time (readingBack a b) back-lawful t back-x 7 (λ m. refl) refl
+        (two-own (readingBack a b) back-lawful t back-x 7 4 6 _ _ refl refl refl own4 refl own6);
+    first = not-after (readingBack a b) back-lawful 4 4 t refl (λ m l. l) back-x 7;
+    unwritten = steady (run (readingBack a b)) back-x t _ d (λ τ u. same τ (u .since));
   }
     where
       t : Timeline
@@ -711,17 +796,14 @@ module _ (a b : ℕ) where
       own6 = own-reply (run (readingBack a b)) t 6 _ _ (omega arith) refl refl (omega arith) (omega arith)
           (ap (λ (d : Device). serveOf d (frameWith 0x3882B8 (6 ∷ 1 ∷ 2 ∷ []))) (same 6 (omega arith)) ∙ h)
 
-      still : (τ τ′ : ℕ) → Meanwhile (run (readingBack a b)) back-x 7 t 4 τ → Meanwhile (run (readingBack a b)) back-x 7 t 4 τ′ → device τ ≡ device τ′
-      still τ τ′ u v = same τ (u .since) ∙ sym (same τ′ (v .since))
-
 -- ── done ───────────────────────────────────────────────────────────────────────────────────────────────────────────
 
 stored-checker : CheckedWrite (readingBack 9 10) 0 7 ten 0
-unfolding everything every shaped shapedLent readingBack reply back-x
-stored-checker = checked-write (readingBack 9 10) (back-x 9 10) 7 0 refl refl (back-stands 9 10 7 (omega arith)) refl refl
+unfolding everything readingBack reply back-x
+stored-checker = checked-write (readingBack 9 10) (back-x 9 10) 7 0 (back-lawful 9 10) refl (back-stands 9 10) refl refl
 
 stored-shows : StoredShows
-unfolding everything readingBack reply back-x checked-write stored-checker directory memory after
+unfolding everything readingBack reply back-x stored-checker directory memory after
 stored-shows = record {
   checker = stored-checker;
   premises = back-premises 9 10 (stored .device) (stored .device 4)
@@ -734,11 +816,11 @@ stored-shows = record {
 -- ── dropped ────────────────────────────────────────────────────────────────────────────────────────────────────────
 
 dropped-checker : CheckedWrite (readingBack 114 115) 0 7 ten 18
-unfolding everything every shaped shapedLent readingBack reply back-x
-dropped-checker = checked-write (readingBack 114 115) (back-x 114 115) 7 18 refl refl (back-stands 114 115 7 (omega arith)) refl refl
+unfolding everything readingBack reply back-x
+dropped-checker = checked-write (readingBack 114 115) (back-x 114 115) 7 18 (back-lawful 114 115) refl (back-stands 114 115) refl refl
 
 dropped-shows : DroppedShows
-unfolding everything readingBack reply back-x checked-write dropped-checker directory memory after
+unfolding everything readingBack reply back-x dropped-checker directory memory after
 dropped-shows = record {
   checker = dropped-checker;
   premises = back-premises 114 115 (dropped .device) (dropped .device 4) (λ τ l. rw (le-ltb τ 2 (omega arith))) refl refl;
@@ -759,10 +841,11 @@ unplugged-never n l d = eqb-false _ 0 (not-true _ (at-event (λ k c. not (eqb (s
 unplugged-checker : CheckedWrite unplugged 0 64 ten 16
 unfolding everything every shaped shapedLent unplugged unplugged-x
 unplugged-checker =
-    checked-write unplugged unplugged-x 64 16 refl refl (still-stands unplugged 0 refl unplugged-x 64 (omega arith) (omega arith)) refl refl
+    checked-write unplugged unplugged-x 64 16 (run-lawful unplugged refl) refl
+    (still-stands unplugged unplugged-x 64 refl (omega arith)) refl refl
 
 unplugged-shows : UnpluggedShows
-unfolding everything unplugged unplugged-x checked-write unplugged-checker
+unfolding everything unplugged unplugged-x unplugged-checker
 unplugged-shows = record { checker = unplugged-checker; never = unplugged-never; written = refl }
 
 -- ── a late reply for a checked write ───────────────────────────────────────────────────────────────────────────────
@@ -773,144 +856,115 @@ module _ (bs : List ℕ) where
 
   after-x : Transfer (run (afterClosing bs))
   unfolding everything afterClosing
-  after-x = record { at = 3; lent = itsOwn; ask = check 5 7 8 eight; call = refl; accepted = refl }
+  after-x = record { at = 63; lent = itsOwn; ask = check 5 7 8 eight; call = refl; accepted = refl }
 
-  after-stands : (n : ℕ) → after-x .at < n → Stands (run (afterClosing bs)) after-x n
+  after-stands : Stands (run (afterClosing bs)) after-x 67
   unfolding everything every afterClosing after-x
-  after-stands n l = still-stands (afterClosing bs) 3 refl after-x n (omega arith) l
+  after-stands = still-stands (afterClosing bs) after-x 67 refl (omega arith)
 
-  after-replied : Replied (run (afterClosing bs)) after-x 0 6
-  unfolding everything afterClosing after-x
-  after-replied = replied-next (afterClosing bs) after-x 0 5 after-stands (omega arith) refl (omega arith) refl refl (omega arith) refl
-
-  -- the one reply is the device's own
-  after-own : (t : Timeline) → Own (run (afterClosing bs)) t 6 last-reply → (m : ℕ) (f : Frame) → Arrives (run (afterClosing bs)) after-x 7 m f
-      → Own (run (afterClosing bs)) t m f
-  unfolding everything every underFive afterClosing after-x
-  after-own t o = two-own (afterClosing bs) t after-x 7 6 6 _ _ refl refl refl o refl o
-
-  -- to the checked write's request, and to the closed read's
-  after-prompt : (device : ℕ → Device) → serveOf (device 6) (frameWith (idOf 8 req 0 5 7) (6 ∷ 0 ∷ 8 ∷ [])) ≡ answerWith last-reply
-      → Own (run (afterClosing bs)) (onTime device) 6 last-reply
+  -- the reply is the device's own, to the checked write's request and to the closed read's
+  after-next : (device : ℕ → Device) → serveOf (device 66) (frameWith (idOf 8 req 0 5 7) (6 ∷ 0 ∷ 8 ∷ [])) ≡ answerWith last-reply
+      → Own (run (afterClosing bs)) (onTime device) 66 last-reply
   unfolding everything afterClosing
-  after-prompt device g = own-reply (run (afterClosing bs)) (onTime device) 6 _ _ (omega arith) refl refl (omega arith) (omega arith) g
+  after-next device g = own-reply (run (afterClosing bs)) (onTime device) 66 _ _ (omega arith) refl refl (omega arith) (omega arith) g
 
-  after-late : (device : ℕ → Device) → serveOf (device 6) (frameWith (idOf 0 req 0 5 7) (6 ∷ 0 ∷ 8 ∷ [])) ≡ answerWith last-reply
-      → Own (run (afterClosing bs)) (toClosed device) 6 last-reply
+  after-late : (device : ℕ → Device) → serveOf (device 66) (frameWith (idOf 0 req 0 5 7) (6 ∷ 0 ∷ 8 ∷ [])) ≡ answerWith last-reply
+      → Own (run (afterClosing bs)) (toCallOne device) 66 last-reply
   unfolding everything afterClosing
-  after-late device g = own-reply (run (afterClosing bs)) (toClosed device) 6 _ _ (omega arith) refl refl (omega arith) (omega arith) g
+  after-late device g = own-reply (run (afterClosing bs)) (toCallOne device) 66 _ _ (omega arith) refl refl (omega arith) (omega arith) g
 
-  after-closed : (device : ℕ → Device) → ¬ Current (run (afterClosing bs)) after-x 7 (toClosed device)
-  unfolding everything afterClosing after-x
-  after-closed device = closed-read (drop 3 (afterClosing bs)) after-x 7 0 6 last-reply (toClosed device) (omega arith) (omega arith) (omega arith)
-      after-replied refl refl refl refl
+  module _ (w : Lawful (run (afterClosing bs))) where
+    after-replied : Replied (run (afterClosing bs)) after-x 0 66
+    unfolding everything requestOf replyOf afterClosing after-x
+    after-replied = replied-next (afterClosing bs) w after-x 67 0 65 _ _ after-stands (omega arith) (omega arith) refl (omega arith)
+        refl refl refl refl refl
 
-equal-checker : CheckedWrite (afterClosing eight) 3 7 eight 0
+    -- it is the one reply
+    after-own : (t : Timeline) → Own (run (afterClosing bs)) t 66 last-reply → (m : ℕ) (f : Frame) → Arrives (run (afterClosing bs)) after-x 67 m f
+        → Own (run (afterClosing bs)) t m f
+    unfolding everything every underFive afterClosing after-x
+    after-own t o = two-own (afterClosing bs) w t after-x 67 66 66 _ _ refl refl refl o refl o
+
+    after-not-prompt : (device : ℕ → Device) → ¬ Prompt (run (afterClosing bs)) after-x 67 (toCallOne device)
+    unfolding called afterClosing
+    after-not-prompt device = not-prompt (afterClosing bs) w (toCallOne device) after-x 67 0 66 (omega arith) after-replied refl
+
+equal-checker : CheckedWrite (afterClosing eight) 63 67 eight 0
 unfolding everything every shaped shapedLent afterClosing after-x
-equal-checker = checked-write (afterClosing eight) (after-x eight) 7 0 refl refl (after-stands eight 7 (omega arith)) refl refl
-
-equal-same : (τ : ℕ) → 6 ≤ τ → prompt .device τ ≡ after holding 8 eight
-equal-same τ l = rw (le-ltb τ 5 (omega arith))
+equal-checker = checked-write (afterClosing eight) (after-x eight) 67 0 (run-lawful (afterClosing eight) refl) refl (after-stands eight) refl refl
 
 equal-shows : LateEqualShows
-unfolding everything every afterClosing after-x checked-write equal-checker directory memory after
+unfolding everything every allZero afterClosing after-x equal-checker directory memory after
 equal-shows = record {
   checker = equal-checker;
   premises = record {
-    arrivals = record {
-      own = after-own eight prompt (after-prompt eight (prompt .device) refl);
-      current = λ m f u y c. sent-before (run (afterClosing eight)) y c 3 m (u .since);
-    };
-    first = not-after (afterClosing eight) 6 6 prompt refl (λ m l. l) (after-x eight) 7;
-    unwritten = record {
-      sameTables = λ τ τ′ u v. ap (λ (d : Device). d .directory) (equal-same τ (u .since) ∙ sym (equal-same τ′ (v .since)));
-      unchanged = λ τ τ′ u v. ap (range (run (afterClosing eight)) (after-x eight)) (equal-same τ (u .since) ∙ sym (equal-same τ′ (v .since)));
-    };
+    arrivals = on-time (afterClosing eight) w atOnce (after-x eight) 67 (λ m. refl) refl
+        (after-own eight w atOnce (after-next eight (atOnce .device) refl));
+    first = not-after (afterClosing eight) w 66 66 atOnce refl (λ m l. l) (after-x eight) 67;
+    unwritten = steady (run (afterClosing eight)) (after-x eight) atOnce _ (after holding 8 eight)
+        (λ τ a. rw (le-ltb τ 65 (omega (arith, a .since))));
   };
   meanwhile =
-      until (run (afterClosing eight)) (after-x eight) 7 prompt 6 6 0 6 (omega arith) (omega arith) (after-replied eight) (omega arith);
+      until (run (afterClosing eight)) (after-x eight) 67 atOnce 66 66 0 66 (omega arith) (omega arith) (after-replied eight w) (omega arith);
   same = refl;
-  own = after-own eight lateEqual (after-late eight (lateEqual .device) refl);
-  first = not-after (afterClosing eight) 6 6 lateEqual refl (λ m l. l) (after-x eight) 7;
-  unwritten = record { sameTables = λ τ τ′ u v. refl; unchanged = λ τ τ′ u v. refl };
+  own = after-own eight w lateEqual (after-late eight (lateEqual .device) refl);
+  first = not-after (afterClosing eight) w 66 66 lateEqual refl (λ m l. l) (after-x eight) 67;
+  unwritten = steady (run (afterClosing eight)) (after-x eight) lateEqual _ (after holding 0 eight) (λ τ a. refl);
   other = refl;
-  closed = after-closed eight (lateEqual .device);
+  notPrompt = after-not-prompt eight w (lateEqual .device);
 }
+  where
+    w : Lawful (run (afterClosing eight))
+    w = equal-checker .lawful
 
-other-checker : CheckedWrite (afterClosing hundred) 3 7 eight 18
+other-checker : CheckedWrite (afterClosing lower) 63 67 eight 18
 unfolding everything every shaped shapedLent afterClosing after-x
-other-checker = checked-write (afterClosing hundred) (after-x hundred) 7 18 refl refl (after-stands hundred 7 (omega arith)) refl refl
+other-checker = checked-write (afterClosing lower) (after-x lower) 67 18 (run-lawful (afterClosing lower) refl) refl (after-stands lower) refl refl
 
 other-shows : LateOtherShows
-unfolding everything afterClosing after-x checked-write other-checker directory memory after
+unfolding everything every allZero afterClosing after-x other-checker directory memory after
 other-shows = record {
   checker = other-checker;
-  own = after-own hundred lateOther (after-late hundred (lateOther .device) refl);
-  replied = after-replied hundred;
+  own = after-own lower w lateOther (after-late lower (lateOther .device) refl);
+  quiet = quiet-resets (afterClosing lower) w refl 67;
+  replied = after-replied lower w;
   same = refl;
-  closed = after-closed hundred (lateOther .device);
+  notPrompt = after-not-prompt lower w (lateOther .device);
 }
+  where
+    w : Lawful (run (afterClosing lower))
+    w = other-checker .lawful
 
 -- ── a late reply to a checked write ────────────────────────────────────────────────────────────────────────────────
 
-check-x : Transfer (run closedCheck)
-unfolding everything closedCheck reply
+check-x : Transfer (run resetCheck)
+unfolding everything resetCheck reply
 check-x = record { at = 4; lent = itsOwn; ask = read 5 7 8 8; call = refl; accepted = refl }
 
-check-stands : (n : ℕ) → check-x .at < n → Stands (run closedCheck) check-x n
-unfolding everything every closedCheck reply check-x
-check-stands n l = still-stands closedCheck 4 refl check-x n (omega arith) l
+-- the checked write that is reset
+check-y : Transfer (run resetCheck)
+unfolding everything resetCheck reply
+check-y = record { at = 0; lent = itsOwn; ask = check 5 7 0 eight; call = refl; accepted = refl }
 
-check-replied : Replied (run closedCheck) check-x 0 6
-unfolding everything closedCheck reply check-x
-check-replied = replied-next closedCheck check-x 0 5 check-stands (omega arith) refl (omega arith) refl refl (omega arith) refl
+check-read : DoneRead resetCheck 4 7 eight
+unfolding everything every shaped shapedLent resetCheck reply check-x
+check-read = done-read resetCheck check-x 7 _ refl refl (omega arith) refl refl
 
-check-call6 : run closedCheck .calls 6 ≡ frame itsOwn (reply 5 0 eight)
-unfolding closedCheck
-check-call6 = refl
+check-own : Own (run resetCheck) lateChecked 6 (reply 5 0 eight)
+unfolding everything resetCheck reply directory memory after
+check-own = own-reply (run resetCheck) lateChecked 6 _ _ (omega arith) refl refl (omega arith) (omega arith) refl
 
-check-own6 : Own (run closedCheck) lateChecked 6 (reply 5 0 eight)
-unfolding everything closedCheck reply directory memory after
-check-own6 = own-reply (run closedCheck) lateChecked 6 (frameWith (idOf 0 req 0 5 7) (6 ∷ 0 ∷ 8 ∷ [])) _ (omega arith) refl refl (omega arith)
-    (omega arith) refl
-
--- the checked write, and its request
-closed-check : Transfer (run closedCheck)
-unfolding everything closedCheck reply
-closed-check = record { at = 0; lent = itsOwn; ask = check 5 7 0 eight; call = refl; accepted = refl }
-
-check-sent : Sent (run closedCheck) closed-check 0 2
-unfolding everything every closedCheck reply closed-check
-check-sent = record {
-  stands = (omega arith, λ m a b. open-still m (omega arith));
-  asks = refl;
-  chunk = omega arith;
-  turned = refl;
-  yields = refl;
-}
-  where
-    open-still : (m : ℕ) → m ≡ 1 → ¬ Closing (run closedCheck) closed-check m
-    open-still m e h = no-closing (subst (Closing (run closedCheck) closed-check) e h)
-      where
-        no-closing : ¬ Closing (run closedCheck) closed-check 1
-        no-closing (z, inl q) = let y : _≡_ {A = ℕ} 0 1 = cc in omega arith
-        no-closing (z, inr (o, q)) = let y : _≡_ {A = ℕ} 0 1 = cc in omega arith
+check-sent : Sent (run resetCheck) check-y 0 2
+unfolding everything every requestOf resetCheck reply check-y
+check-sent = sent-at resetCheck (check-read .lawful) check-y 0 2 _ (still-stands resetCheck check-y 2 refl (omega arith)) refl (omega arith)
+    refl refl refl
 
 check-shows : LateCheckShows
-unfolding everything every underFive shaped shapedLent closedCheck reply check-x closed-check directory memory after
+unfolding everything every underFive called resetCheck reply check-x check-read directory memory after
 check-shows = record {
-  reader = record {
-    lawful = run-lawful closedCheck refl;
-    x = check-x;
-    opened = refl;
-    stands = check-stands 7 (omega arith);
-    done = refl;
-    shown = refl;
-  };
-  own = two-own closedCheck lateChecked check-x 7 6 6 _ _ refl refl check-call6 check-own6 check-call6 check-own6;
-  asked = refl;
-  closed = not-current (run closedCheck) check-x closed-check 7 0 6 0 2 3 (reply 5 0 eight) lateChecked (omega arith) (omega arith) check-replied
-      check-call6 refl refl check-sent refl (omega arith) (omega arith) (refl, inl refl);
+  shows = shows-other resetCheck 4 6 eight check-read (λ m. 2) (after holding 0 eight) _ refl refl refl refl check-own refl refl;
+  prompt = prompt-arrivals resetCheck (check-read .lawful) lateChecked refl check-x 7 refl;
+  notQuiet = not-quiet resetCheck (check-read .lawful) check-y 7 0 2 3 (omega arith) (refl, (0, refl)) (omega arith) check-sent refl;
 }
 
 pub examples : Examples
@@ -921,6 +975,8 @@ examples = record {
   tornShows = torn-shows;
   forgedShows = forged-shows;
   lateShows = late-shows;
+  tooLateShows = too-late-shows;
+  hastyShows = hasty-shows;
   storedShows = stored-shows;
   unpluggedShows = unplugged-shows;
   droppedShows = dropped-shows;

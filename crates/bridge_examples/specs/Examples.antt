@@ -1,14 +1,16 @@
 -- Example runs beside demand 3: its premises hold of runs, and it says what they show; and without the premise on writes, on the
--- device's own replies or on late replies it would be false. Reads first, then checked writes.
+-- device's own replies, on late replies or on resets it would be false. Reads first, then checked writes.
 use Prim.Native.Nat.{ℕ, zero, suc, _*_, _-_, _≤_}
 use mathlib.Core.Path.{_≡_}
 use mathlib.Core.Logic.{_≢_}
 use mathlib.Core.List.{List, [], _∷_, _++_}
+use mathlib.Core.Option.{some}
 use mathlib.Core.Bool.{true, cond}
 use lib.ListN.{replicate}
 use lib.Dec.{ltb}
 use Rattle.bus_rules.specs.Ident.{idOf}
-use Rattle.bus_rules.specs.Frames.{cmd, rsp, frameWith}
+use Rattle.bus_rules.specs.Frames.{cmd, req, rsp, frameWith}
+use Rattle.bus_rules.specs.Request.{request}
 use Rattle.bus_rules.specs.Device.{Device, device}
 use Rattle.bus_rules.specs.Holder.{deviceAfter}
 use Rattle.bus_rules.specs.declared.Directory.{Directory}
@@ -18,7 +20,7 @@ use Rattle.bridge_rules.specs.Opening.{read, write, check, isCheck, askGiven}
 use Rattle.bridge_rules.specs.Call.{Call, itsOwn, opening, turn, frame, status, close, reset}
 use Rattle.bridge_rules.specs.Run.{Run, Lawful, Transfer, Stands, Done, statusAt, shownAt, answer, answerTo}
 use Rattle.bridge_rules.specs.Replies.{Replied}
-use Rattle.bridge_rules.specs.Device.{Timeline, range, Arrives, Own, Arrivals, Current, NotAfter, Meanwhile, Unwritten, Premises}
+use Rattle.bridge_rules.specs.Device.{Timeline, range, Arrives, Own, Prompt, Quiet, Arrivals, NotAfter, Meanwhile, Unwritten, Premises}
 use Rattle.bridge_rules.specs.Demand3.{showing, runOf}
 
 -- device 5: table 7 has 16 bytes, 100 to 115, and all rights
@@ -33,6 +35,13 @@ directory = record {
 
 unfoldable pub memory : List ℕ
 memory = 100 ∷ 101 ∷ 102 ∷ 103 ∷ 104 ∷ 105 ∷ 106 ∷ 107 ∷ 108 ∷ 109 ∷ 110 ∷ 111 ∷ 112 ∷ 113 ∷ 114 ∷ 115 ∷ []
+
+-- its bytes 0 to 7, and 8 to 15
+abbrev pub lower : List ℕ
+lower = 100 ∷ 101 ∷ 102 ∷ 103 ∷ 104 ∷ 105 ∷ 106 ∷ 107 ∷ []
+
+abbrev pub upper : List ℕ
+upper = 108 ∷ 109 ∷ 110 ∷ 111 ∷ 112 ∷ 113 ∷ 114 ∷ 115 ∷ []
 
 abbrev pub holding : Device
 holding = device directory memory
@@ -65,18 +74,30 @@ pub record Shows (cs : List Call) (at n : ℕ) (bs : List ℕ) (t : Timeline) (�
   pub meanwhile : Meanwhile (run cs) (reader .x) n t τ₀ τ
   pub same : range (run cs) (reader .x) (t .device τ) ≡ bs
 
--- a reply answers the request of the call before it
+-- one that shows other bytes than its range's, bytes 8 to 15 of the table, though each reply is the device's own and nothing is written
+pub record ShowsOther (cs : List Call) (at n : ℕ) (bs : List ℕ) (t : Timeline) (τ₀ : ℕ) : Type 0 where
+  pub reader : DoneRead cs at n bs
+  pub own : (m : ℕ) (f : Frame) → Arrives (run cs) (reader .x) n m f → Own (run cs) t m f
+  pub first : NotAfter (run cs) (reader .x) n t τ₀
+  pub unwritten : Unwritten (run cs) (reader .x) t (Meanwhile (run cs) (reader .x) n t τ₀)
+  pub asked : (τ : ℕ) → range (run cs) (reader .x) (t .device τ) ≡ upper
+  pub other : bs ≢ upper
+
+-- events are one moment apart, a reply arrives when it is given, and it answers the request of the call that `asked` tells
+abbrev pub answering : (asked : ℕ → ℕ) → (ℕ → Device) → Timeline
+answering asked device = record { when = λ k. k; device = device; asked = asked; answered = λ m. m }
+
+-- the call before the reply
 abbrev pub before : ℕ → ℕ
 before zero = zero
 before (suc n) = n
 
--- events are one moment apart, and a reply arrives when it is given
 abbrev pub onTime : (ℕ → Device) → Timeline
-onTime device = record { when = λ k. k; device = device; asked = before; answered = λ m. m }
+onTime = answering before
 
--- the same, but a reply answers the request that call 1 sent, for a transfer that call 2 closes
-abbrev pub toClosed : (ℕ → Device) → Timeline
-toClosed device = record { when = λ k. k; device = device; asked = λ m. 1; answered = λ m. m }
+-- every reply answers the request of call 1
+abbrev pub toCallOne : (ℕ → Device) → Timeline
+toCallOne = answering (λ m. 1)
 
 -- ── One asker, and a device that does not change ───────────────────────────────────────────────────────────────────
 
@@ -185,7 +206,7 @@ torn =
 abbrev pub overwritten : Timeline
 overwritten = onTime (λ τ. cond (ltb τ 5) holding (after holding 12 (1 ∷ 2 ∷ 3 ∷ 4 ∷ [])))
 
--- each reply is the device's own, and none is to a closed or reset read; yet the read shows bytes that the range never held
+-- each reply is the device's own and comes at once, and nothing is reset; yet the read shows bytes that the range never held
 pub record TornShows : Type 0 where
   pub reader : DoneRead torn 0 7 (106 ∷ 107 ∷ 108 ∷ 109 ∷ 110 ∷ 111 ∷ 112 ∷ 113 ∷ 3 ∷ 4 ∷ [])
   pub arrivals : Arrivals (run torn) (reader .x) 7 overwritten
@@ -207,44 +228,85 @@ forged =
     ∷ frame itsOwn (reply 5 8 (0 ∷ 0 ∷ []))
     ∷ []
 
--- nothing is written, each other reply is the device's own, and none is to a closed or reset read; yet the read shows other bytes
+-- nothing is written or reset, each other reply is the device's own, and all come at once; yet the read shows other bytes
 pub record ForgedShows : Type 0 where
   pub reader : DoneRead forged 0 5 (106 ∷ 107 ∷ 108 ∷ 109 ∷ 110 ∷ 111 ∷ 112 ∷ 113 ∷ 0 ∷ 0 ∷ [])
   pub own : (m : ℕ) (f : Frame) → m ≢ 4 → Arrives (run forged) (reader .x) 5 m f → Own (run forged) unchanging m f
-  pub current : Current (run forged) (reader .x) 5 unchanging
+  pub prompt : Prompt (run forged) (reader .x) 5 unchanging
+  pub quiet : Quiet (run forged) 5
   pub first : NotAfter (run forged) (reader .x) 5 unchanging 3
   pub unwritten : Unwritten (run forged) (reader .x) unchanging (Meanwhile (run forged) (reader .x) 5 unchanging 3)
   pub asked : range (run forged) (reader .x) holding ≡ 106 ∷ 107 ∷ 108 ∷ 109 ∷ 110 ∷ 111 ∷ 112 ∷ 113 ∷ 114 ∷ 115 ∷ []
   -- the premise that fails: the holder's rules give other bytes
   pub forgery : ¬ Own (run forged) unchanging 4 (reply 5 8 (0 ∷ 0 ∷ []))
 
--- ── A late reply to a closed read: why no reply to a closed or reset transfer may arrive ───────────────────────────
+-- ── A late reply to a closed read: the slot rests, so the next read does not take it ───────────────────────────────
 
--- the first read asks for bytes 0 to 7 and is closed; the second, in the same slot, asks for bytes 8 to 15; then the device's
--- reply to the first arrives
+-- a read of bytes 0 to 7, whose REQ call 1 sends, is closed; then these calls
+abbrev pub closedRead : List Call → List Call
+closedRead cs = opening itsOwn (read 5 7 0 8) ∷ turn itsOwn ∷ close 1 ∷ cs
+
+-- the second read asks for bytes 8 to 15, 4 sends its REQ; then the device's reply to the first arrives, and its reply to the second
 unfoldable pub late : List Call
-late =
-    opening itsOwn (read 5 7 0 8)
+late = closedRead (
+    opening itsOwn (read 5 7 8 8)
     ∷ turn itsOwn
-    ∷ close 1
-    ∷ opening itsOwn (read 5 7 8 8)
-    ∷ turn itsOwn
-    ∷ frame itsOwn (reply 5 0 (100 ∷ 101 ∷ 102 ∷ 103 ∷ 104 ∷ 105 ∷ 106 ∷ 107 ∷ []))
-    ∷ []
+    ∷ frame itsOwn (reply 5 0 lower)
+    ∷ frame itsOwn (reply 5 128 upper)
+    ∷ [])
+
+-- 5 answers the request of call 1, 6 that of call 4
+abbrev pub lateThenOwn : Timeline
+lateThenOwn = answering (λ m. cond (ltb m 6) 1 4) (λ τ. holding)
+
+-- the three other slots are held by writes
+abbrev pub crowd : List Call
+crowd = closedRead (replicate 3 (opening itsOwn (write 5 7 0 (1 ∷ []))))
+
+-- "A slot whose last request went out fewer than 60 turns ago is not given to a new transfer."
+pub record LateShows : Type 0 where
+  pub shows : Shows late 3 7 upper lateThenOwn 5 6
+  -- the second read has slot 1, whose bytes begin at 128, and the first one's reply is refused
+  pub slot : answer (run late) 4 .sent ≡ some (frameWith (idOf 8 req 0 5 7) (request 6 128 8))
+  pub seventeen : answer (run late) 5 .number ≡ 17
+  -- slot 0 is free but rests: "19 in 12's place where slots are free but all resting"
+  pub crowded : answerTo (run crowd) 6 (opening itsOwn (read 5 7 8 8)) .number ≡ 19
+
+-- ── A reply after 60 turns: why "every reply arrives before the 60th turn after its request was sent, or never" ────
+
+-- 60 turns later the second read gets slot 0, 64 sends its REQ, the 61st turn after the first one's; then the reply to that arrives
+unfoldable pub tooLate : List Call
+tooLate = closedRead (replicate 60 (turn itsOwn) ++ opening itsOwn (read 5 7 8 8) ∷ turn itsOwn ∷ frame itsOwn (reply 5 0 lower) ∷ [])
 
 -- a reply answers the first read's request
 abbrev pub slow : Timeline
-slow = toClosed (λ τ. holding)
+slow = toCallOne (λ τ. holding)
 
--- each reply is the device's own and nothing is written; yet the second read is done and shows the first one's bytes
-pub record LateShows : Type 0 where
-  pub reader : DoneRead late 3 6 (100 ∷ 101 ∷ 102 ∷ 103 ∷ 104 ∷ 105 ∷ 106 ∷ 107 ∷ [])
-  pub own : (m : ℕ) (f : Frame) → Arrives (run late) (reader .x) 6 m f → Own (run late) slow m f
-  pub first : NotAfter (run late) (reader .x) 6 slow 5
-  pub unwritten : Unwritten (run late) (reader .x) slow (Meanwhile (run late) (reader .x) 6 slow 5)
-  pub asked : range (run late) (reader .x) holding ≡ 108 ∷ 109 ∷ 110 ∷ 111 ∷ 112 ∷ 113 ∷ 114 ∷ 115 ∷ []
-  -- the premise that fails: the transfer whose request is answered was closed
-  pub closed : ¬ Current (run late) (reader .x) 6 slow
+-- the second read is done and shows the first one's bytes
+pub record TooLateShows : Type 0 where
+  pub shows : ShowsOther tooLate 63 66 lower slow 65
+  pub quiet : Quiet (run tooLate) 66
+  -- the premise that fails
+  pub notPrompt : ¬ Prompt (run tooLate) (shows .reader .x) 66 slow
+
+-- ── A hasty reset: why "no request in the last 60 turns before a reset" ────────────────────────────────────────────
+
+-- 58 turns follow the closed read's REQ, then a reset, and the second read gets slot 0 at once; 63 sends its REQ, the 59th turn after the first
+-- one's; then the reply to that arrives
+unfoldable pub hasty : List Call
+hasty = closedRead (replicate 58 (turn itsOwn)
+    ++ reset 0
+    ∷ opening itsOwn (read 5 7 8 8)
+    ∷ turn itsOwn
+    ∷ frame itsOwn (reply 5 0 lower)
+    ∷ [])
+
+-- the reply comes before the 60th turn; yet the second read is done and shows the first one's bytes
+pub record HastyShows : Type 0 where
+  pub shows : ShowsOther hasty 62 65 lower slow 64
+  pub prompt : Prompt (run hasty) (shows .reader .x) 65 slow
+  -- the premise that fails
+  pub notQuiet : ¬ Quiet (run hasty) 65
 
 -- ── Checked writes ─────────────────────────────────────────────────────────────────────────────────────────────────
 
@@ -315,81 +377,77 @@ pub record DroppedShows : Type 0 where
   pub replied : Replied (run (readingBack 114 115)) (checker .x) 1 6
   pub other : range (run (readingBack 114 115)) (checker .x) (dropped .device 6) ≡ eight ++ 114 ∷ 115 ∷ []
 
--- ── A late reply to a closed read, for a checked write in the same slot ────────────────────────────────────────────
+-- ── A reply after 60 turns, for a checked write in the same slot ───────────────────────────────────────────────────
 
--- the read asks for bytes 0 to 7 and is closed; the checked write, in the same slot, is of bytes 8 to 15: 4 sends its CMD, 5 its REQ; then
--- a reply of these eight bytes arrives
+-- 60 turns later a checked write of bytes 8 to 15 gets slot 0: 64 sends its CMD, 65 its REQ; then a reply of these eight bytes arrives
 unfoldable pub afterClosing : List ℕ → List Call
-afterClosing bs =
-    opening itsOwn (read 5 7 0 8)
-    ∷ turn itsOwn
-    ∷ close 1
-    ∷ opening itsOwn (check 5 7 8 eight)
+afterClosing bs = closedRead (
+    replicate 60 (turn itsOwn)
+    ++ opening itsOwn (check 5 7 8 eight)
     ∷ turn itsOwn
     ∷ turn itsOwn
     ∷ frame itsOwn (record { id = idOf 0 rsp 5 0 6; len = 8; bytes = bs })
-    ∷ []
+    ∷ [])
 
--- the reply answers the checked write's request; the device took its CMD at moment 5
-abbrev pub prompt : Timeline
-prompt = onTime (λ τ. cond (ltb τ 5) holding (after holding 8 eight))
+-- the reply answers the checked write's request; the device took its CMD at moment 65
+abbrev pub atOnce : Timeline
+atOnce = onTime (λ τ. cond (ltb τ 65) holding (after holding 8 eight))
 
 -- it answers the closed read's; the device holds these very bytes there, and drops the CMD
 abbrev pub lateEqual : Timeline
-lateEqual = toClosed (λ τ. after holding 0 eight)
+lateEqual = toCallOne (λ τ. after holding 0 eight)
 
 -- the same calls, by which it is done, in both: with the premise the range is what was given, without it it is other
 pub record LateEqualShows : Type 0 where
-  pub checker : CheckedWrite (afterClosing eight) 3 7 eight 0
-  pub premises : Premises (run (afterClosing eight)) (checker .x) 7 prompt 6
-  pub meanwhile : Meanwhile (run (afterClosing eight)) (checker .x) 7 prompt 6 6
-  pub same : range (run (afterClosing eight)) (checker .x) (prompt .device 6) ≡ eight
-  pub own : (m : ℕ) (f : Frame) → Arrives (run (afterClosing eight)) (checker .x) 7 m f → Own (run (afterClosing eight)) lateEqual m f
-  pub first : NotAfter (run (afterClosing eight)) (checker .x) 7 lateEqual 6
-  pub unwritten : Unwritten (run (afterClosing eight)) (checker .x) lateEqual (Meanwhile (run (afterClosing eight)) (checker .x) 7 lateEqual 6)
-  pub other : range (run (afterClosing eight)) (checker .x) (lateEqual .device 6) ≡ 108 ∷ 109 ∷ 110 ∷ 111 ∷ 112 ∷ 113 ∷ 114 ∷ 115 ∷ []
-  -- the premise that fails: the transfer whose request is answered was closed
-  pub closed : ¬ Current (run (afterClosing eight)) (checker .x) 7 lateEqual
+  pub checker : CheckedWrite (afterClosing eight) 63 67 eight 0
+  pub premises : Premises (run (afterClosing eight)) (checker .x) 67 atOnce 66
+  pub meanwhile : Meanwhile (run (afterClosing eight)) (checker .x) 67 atOnce 66 66
+  pub same : range (run (afterClosing eight)) (checker .x) (atOnce .device 66) ≡ eight
+  pub own : (m : ℕ) (f : Frame) → Arrives (run (afterClosing eight)) (checker .x) 67 m f → Own (run (afterClosing eight)) lateEqual m f
+  pub first : NotAfter (run (afterClosing eight)) (checker .x) 67 lateEqual 66
+  pub unwritten : Unwritten (run (afterClosing eight)) (checker .x) lateEqual (Meanwhile (run (afterClosing eight)) (checker .x) 67 lateEqual 66)
+  pub other : range (run (afterClosing eight)) (checker .x) (lateEqual .device 66) ≡ upper
+  -- the premise that fails
+  pub notPrompt : ¬ Prompt (run (afterClosing eight)) (checker .x) 67 lateEqual
 
--- a reply to the closed read; the device took the CMD at moment 5
+-- a reply to the closed read; the device took the CMD at moment 65
 abbrev pub lateOther : Timeline
-lateOther = toClosed (prompt .device)
-
-abbrev pub hundred : List ℕ
-hundred = 100 ∷ 101 ∷ 102 ∷ 103 ∷ 104 ∷ 105 ∷ 106 ∷ 107 ∷ []
+lateOther = toCallOne (atOnce .device)
 
 -- different, though the range is what was given when the device answered
 pub record LateOtherShows : Type 0 where
-  pub checker : CheckedWrite (afterClosing hundred) 3 7 eight 18
-  pub own : (m : ℕ) (f : Frame) → Arrives (run (afterClosing hundred)) (checker .x) 7 m f → Own (run (afterClosing hundred)) lateOther m f
-  pub replied : Replied (run (afterClosing hundred)) (checker .x) 0 6
-  pub same : range (run (afterClosing hundred)) (checker .x) (lateOther .device 6) ≡ eight
-  pub closed : ¬ Current (run (afterClosing hundred)) (checker .x) 7 lateOther
+  pub checker : CheckedWrite (afterClosing lower) 63 67 eight 18
+  pub own : (m : ℕ) (f : Frame) → Arrives (run (afterClosing lower)) (checker .x) 67 m f → Own (run (afterClosing lower)) lateOther m f
+  pub quiet : Quiet (run (afterClosing lower)) 67
+  pub replied : Replied (run (afterClosing lower)) (checker .x) 0 66
+  pub same : range (run (afterClosing lower)) (checker .x) (lateOther .device 66) ≡ eight
+  -- the premise that fails
+  pub notPrompt : ¬ Prompt (run (afterClosing lower)) (checker .x) 67 lateOther
 
--- ── A late reply to a closed checked write, for a read in the same slot ────────────────────────────────────────────
+-- ── A hasty reset of a checked write, and a read in the same slot ──────────────────────────────────────────────────
 
--- the checked write is of bytes 0 to 7, 2 sends its REQ, and it is closed; the read asks for bytes 8 to 15; then the reply to the checked
+-- the checked write is of bytes 0 to 7, 2 sends its REQ, and a reset follows; the read asks for bytes 8 to 15; then the reply to the checked
 -- write arrives
-unfoldable pub closedCheck : List Call
-closedCheck =
+unfoldable pub resetCheck : List Call
+resetCheck =
     opening itsOwn (check 5 7 0 eight)
     ∷ turn itsOwn
     ∷ turn itsOwn
-    ∷ close 1
+    ∷ reset 0
     ∷ opening itsOwn (read 5 7 8 8)
     ∷ turn itsOwn
     ∷ frame itsOwn (reply 5 0 eight)
     ∷ []
 
 abbrev pub lateChecked : Timeline
-lateChecked = record { when = λ k. k; device = λ τ. after holding 0 eight; asked = λ m. 2; answered = λ m. m }
+lateChecked = answering (λ m. 2) (λ τ. after holding 0 eight)
 
 -- the read is done and shows the checked write's bytes: "requests and replies of the reading back count there as a read's do"
 pub record LateCheckShows : Type 0 where
-  pub reader : DoneRead closedCheck 4 7 eight
-  pub own : (m : ℕ) (f : Frame) → Arrives (run closedCheck) (reader .x) 7 m f → Own (run closedCheck) lateChecked m f
-  pub asked : range (run closedCheck) (reader .x) (after holding 0 eight) ≡ 108 ∷ 109 ∷ 110 ∷ 111 ∷ 112 ∷ 113 ∷ 114 ∷ 115 ∷ []
-  pub closed : ¬ Current (run closedCheck) (reader .x) 7 lateChecked
+  pub shows : ShowsOther resetCheck 4 7 eight lateChecked 6
+  pub prompt : Prompt (run resetCheck) (shows .reader .x) 7 lateChecked
+  -- the premise that fails
+  pub notQuiet : ¬ Quiet (run resetCheck) 7
 
 -- all of it
 pub record Examples : Type 0 where
@@ -399,6 +457,8 @@ pub record Examples : Type 0 where
   pub tornShows : TornShows
   pub forgedShows : ForgedShows
   pub lateShows : LateShows
+  pub tooLateShows : TooLateShows
+  pub hastyShows : HastyShows
   pub storedShows : StoredShows
   pub unpluggedShows : UnpluggedShows
   pub droppedShows : DroppedShows

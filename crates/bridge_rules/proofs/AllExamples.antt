@@ -4,7 +4,7 @@ use mathlib.Core.Path.{refl}
 use Rattle.bridge_rules.specs.Examples.{reply, numbersOf, sendsOf, framesOf, statusesOf, silence, fetching, taking, readingBack, unplugged}
 use Rattle.bridge_rules.specs.Examples.{dropping, threeKinds, closing, inOrder, Unstarred, Fetched, ByTurns, Checked, Unplugged, Dropped}
 use Rattle.bridge_rules.specs.Examples.{heldUp, slowly, turnsAmong, SlowRead, SlowCheck, OwnBuffers, Ended, Limits, CheckedLimits}
-use Rattle.bridge_rules.specs.Examples.{Openings, ShortBuffers, Examples}
+use Rattle.bridge_rules.specs.Examples.{answeredLate, fourClosed, AnsweredLate, RestBegins, AllRest, RestLimits, Openings, ShortBuffers, Examples}
 use Rattle.bridge_rules.proofs.Computing.{everything}
 
 reckoned : Unstarred
@@ -33,6 +33,46 @@ is-checked = record {
   ended = refl;
   hidden = refl;
   shown = refl;
+}
+
+answered-late : AnsweredLate
+unfolding everything answeredLate reply numbersOf framesOf
+answered-late = record {
+  numbers = refl;
+  requests = refl;
+  shown = refl;
+  closed = refl;
+  asked = refl;
+  replied = refl;
+  again = refl;
+  noted = refl;
+  renoted = refl;
+}
+
+rest-begins : RestBegins
+unfolding everything silence taking readingBack reply
+rest-begins = record {
+  asked = refl;
+  held = refl;
+  waited = refl;
+  again = refl;
+  written = refl;
+  sending = refl;
+  readsBack = refl;
+  noted = refl;
+  writeNoted = refl;
+}
+
+all-rest : AllRest
+unfolding everything fourClosed
+all-rest = record {
+  held = refl;
+  reads = refl;
+  writes = refl;
+  checks = refl;
+  rests = refl;
+  given = refl;
+  found = refl;
 }
 
 is-unplugged : Unplugged
@@ -144,6 +184,10 @@ checked-limits = record {
   differsWithin = refl;
 }
 
+rest-limits : RestLimits
+unfolding everything
+rest-limits = record { none = refl; most = refl; first = refl; second = refl; third = refl; fourth = refl }
+
 openings : Openings
 unfolding everything inOrder
 openings = record { reads = refl; writes = refl; checks = refl }
@@ -164,8 +208,12 @@ examples = record {
   slowCheck = slow-check;
   ownBuffers = own-buffers;
   ended = is-ended;
+  answeredLate = answered-late;
+  restBegins = rest-begins;
+  allRest = all-rest;
   limits = limits;
   checkedLimits = checked-limits;
+  restLimits = rest-limits;
   openings = openings;
   shortBuffers = short-buffers;
 }

@@ -10,11 +10,11 @@ use native.Mathlib.Decide.{decLe}
 use lib.ListN.{set}
 use lib.Seq.{sets}
 use lib.Dec.{eqb}
-use borrow.Author.Tests.{eqb-true, eqb-false, ne-eqb, lt-ltb, le-ltb, not-true}
+use borrow.Author.Tests.{eqb-true, eqb-false, eq-eqb, ne-eqb, lt-ltb, le-ltb, not-true}
 use Rattle.bus_rules.specs.Frames.{content}
 use Rattle.wire.specs.Order.{_if_else_}
-use Rattle.bridge_rules.specs.State.{Frame, Bridge, blank, slot, fresh, sound, isReady, isFree, isNone, orZero, lowestFree, heldSlot, nextReady}
-use Rattle.bridge_rules.specs.State.{withSlots}
+use Rattle.bridge_rules.specs.State.{Frame, Bridge, blank, slot, rest, fresh, sound, isReady, isFree, isNone, orZero, heldSlot, nextReady}
+use Rattle.bridge_rules.specs.State.{withSlots, givable, lowestGivable}
 use Rattle.bridge_rules.specs.Answers.{Buffers, Result, both, rightLengths, plain}
 use Rattle.bridge_rules.specs.Opening.{Ask, withGiven, opened, openNumber, openOf}
 use Rattle.bridge_rules.specs.Turn.{advanced, agedBridge, sendFor, turnOf}
@@ -24,7 +24,8 @@ use Rattle.bridge_rules.specs.Call.{Call, itsOwn, other, opening, turn, 
 use Rattle.bridge_rules.specs.Run.{Shaped, isTurn}
 use Rattle.bridge_rules.proofs.NumberLaws.{else-first, else-second, LawfulAsk, OpenFacts, open-facts, lent-clear, lent-ten, open-ten, reply-later}
 use Rattle.bridge_rules.proofs.NumberLaws.{reply-ten, RightLengths}
-use Rattle.bridge_rules.proofs.Search.{option-cases, cases, and-true, contradiction, Found, Lowest, search-some, search-none, lowest-some, lowest-none}
+use Rattle.bridge_rules.proofs.Search.{option-cases, cases, and-true, and-intro, contradiction}
+use Rattle.bridge_rules.proofs.Search.{Found, Lowest, search-some, search-none, lowest-some, lowest-none}
 use Rattle.bridge_rules.proofs.Search.{Outcome, through, refused, outcome}
 use Rattle.bridge_rules.proofs.SoundTest.{Sound, sound-true}
 
@@ -48,17 +49,38 @@ isFrame c = eqb (whichCall c) 2
 -- the calls that change the ledger
 abbrev pub isNoted : Call → Bool
 isNoted (opening l a) = true
-isNoted (turn l) = false
+isNoted (turn l) = true
 isNoted (frame l f) = false
 isNoted (status t) = false
 isNoted (bytes l t) = false
 isNoted (close t) = true
 isNoted (reset o) = true
 
+-- those that take or free a slot
+abbrev pub isHolding : Call → Bool
+isHolding (opening l a) = true
+isHolding (turn l) = false
+isHolding (frame l f) = false
+isHolding (status t) = false
+isHolding (bytes l t) = false
+isHolding (close t) = true
+isHolding (reset o) = true
+
 -- ── the cases ──────────────────────────────────────────────────────────────────────────────────────────────────────
 
 abbrev pub freeAt : Bridge → ℕ → Bool
 freeAt s k = isFree (slot s k .phase)
+
+-- a slot that an opening may take is free, and does not rest
+pub givable-free : (s : Bridge) (k : ℕ) → givable s k ≡ true → freeAt s k ≡ true
+givable-free s k e = and-true (freeAt s k) (eqb (rest s k) 0) e .0
+
+pub givable-rested : (s : Bridge) (k : ℕ) → givable s k ≡ true → rest s k ≡ 0
+givable-rested s k e = eqb-true (rest s k) 0 (and-true (freeAt s k) (eqb (rest s k) 0) e .1)
+
+-- a free slot that it may not take rests
+pub free-resting : (s : Bridge) (k : ℕ) → givable s k ≡ false → freeAt s k ≡ true → rest s k ≢ 0
+free-resting s k e f z = contradiction (and-intro (freeAt s k) (eqb (rest s k) 0) f (eq-eqb (rest s k) 0 z)) e
 
 abbrev pub readyAt : Bridge → ℕ → Bool
 readyAt s k = isReady (slot s k .phase)
@@ -69,7 +91,13 @@ heldBy s t k = not (isFree (slot s k .phase)) && eqb (slot s k .ticket) t
 abbrev pub openResult : Bridge → Buffers → Ask → ℕ → Result
 openResult s b a k = record {
   answer = record { number = 0; ticket = suc (s .issued); sent = none; shown = [] };
-  state = record { own = s .own; last = s .last; issued = suc (s .issued); slots = set (s .slots) k (opened a (suc (s .issued))) };
+  state = record {
+    own = s .own;
+    last = s .last;
+    issued = suc (s .issued);
+    slots = set (s .slots) k (opened a (suc (s .issued)));
+    rests = s .rests;
+  };
   buffers = withGiven b k a;
 }
 
@@ -102,8 +130,8 @@ module _ (s : Bridge) (b : Buffers) (c : Call) where
     pub ask : Ask
     pub k : ℕ
     pub call : c ≡ opening itsOwn ask
-    pub found : lowestFree s ≡ some k
-    pub lowest : Lowest (freeAt s) k
+    pub found : lowestGivable s ≡ some k
+    pub lowest : Lowest (givable s) k
     pub lawful : LawfulAsk ask
     pub room : s .issued < 4294967295
     pub result : step s b c ≡ openResult s b ask k
@@ -211,27 +239,27 @@ module _ (s : Bridge) (b : Buffers) (h : Sound s) (lb : RightLengths b) where
       ∙ ap (λ (u : Result). record { answer = u .answer; state = u .state; buffers = b }) e)
 
   opening-own : (a : Ask) → CallCase s b (opening itsOwn a)
-  unfolding step openOf lowestFree
-  opening-own a = go (outcome (openNumber s (rightLengths b) a) (openResult s b a (orZero (lowestFree s))) s b)
+  unfolding step openOf lowestGivable
+  opening-own a = go (outcome (openNumber s (rightLengths b) a) (openResult s b a (orZero (lowestGivable s))) s b)
     where
-      pick : OpenFacts s a → openOf s b a ≡ openResult s b a (orZero (lowestFree s))
-          → (lowestFree s ≡ none) ⊎ ((k : ℕ) × (lowestFree s ≡ some k)) → CallCase s b (opening itsOwn a)
+      pick : OpenFacts s a → openOf s b a ≡ openResult s b a (orZero (lowestGivable s))
+          → (lowestGivable s ≡ none) ⊎ ((k : ℕ) × (lowestGivable s ≡ some k)) → CallCase s b (opening itsOwn a)
       pick o e (inl z) = contradiction (ap isNone z) (o .slotted)
       pick o e (inr z) = opens (record {
         ask = a;
         k = z .0;
         call = refl;
         found = z .1;
-        lowest = lowest-some (freeAt s) (z .0) (z .1);
+        lowest = lowest-some (givable s) (z .0) (z .1);
         lawful = o .law;
         room = o .ticketed;
         result = e ∙ ap (λ (o : Option ℕ). openResult s b a (orZero o)) (z .1);
       })
 
-      go : Outcome (openNumber s (rightLengths b) a) (openResult s b a (orZero (lowestFree s))) s b (openOf s b a)
+      go : Outcome (openNumber s (rightLengths b) a) (openResult s b a (orZero (lowestGivable s))) s b (openOf s b a)
           → CallCase s b (opening itsOwn a)
       go (refused n e) = refuses s b (opening itsOwn a) (openNumber s (rightLengths b) a) n refl e
-      go (through n e) = pick (open-facts s (rightLengths b) a n) e (option-cases (lowestFree s))
+      go (through n e) = pick (open-facts s (rightLengths b) a n) e (option-cases (lowestGivable s))
 
   opening-other : (a : Ask) (l : Buffers) → ¬ RightLengths l → CallCase s b (opening (other l) a)
   unfolding step openOf

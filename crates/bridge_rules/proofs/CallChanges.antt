@@ -1,4 +1,4 @@
--- What a call answered 0 changes: openings, turns, frames, closings, resets and the rest.
+-- What a call answered 0 changes: openings, turns, frames, closings, resets, status and bytes.
 use Prim.Native.Nat.{ℕ, suc, _+_, _*_, _≤_, _<_}
 use mathlib.Core.Path.{_≡_, refl, sym, _∙_, ap, subst}
 use mathlib.Core.Logic.{_⊎_, inl, inr}
@@ -13,7 +13,7 @@ use Rattle.wire.proofs.Orders.{if-zero, else-zero}
 use Rattle.bus_rules.specs.Frames.{content}
 use Rattle.bus_rules.specs.Ident.{idOffset}
 use Rattle.bridge_rules.specs.State.{Frame, Bridge, Slot, free, ready, waiting, done, reads, writes, checks, readsBack, blank, slot, fresh, moved}
-use Rattle.bridge_rules.specs.State.{withSlots, sound, isNone, orZero, lowestFree, heldSlot}
+use Rattle.bridge_rules.specs.State.{withSlots, rest, givable, sound, asks, isFree, isNone, orZero, lowestGivable, heldSlot}
 use Rattle.bridge_rules.specs.Answers.{Buffers, Result, both, rightLengths, plain}
 use Rattle.bridge_rules.specs.Opening.{Ask, read, write, check, askGiven, toFirst, toSecond, opened, openNumber, openOf}
 use Rattle.bridge_rules.specs.Turn.{ticked, aged, agedBridge, advanced, requested, readBack, carried, sentSlot, sentFrame, sendFor, chunkLen}
@@ -22,7 +22,7 @@ use Rattle.bridge_rules.specs.Ending.{closeNumber, closeOf, resetOf}
 use Rattle.bridge_rules.specs.Call.{itsOwn, turn, close, step}
 use Rattle.bridge_rules.specs.Changes.{MovesOn, Ages, Sends, Copied, Takes, OpenChanges, NextBytes, Turned, TurnChanges, Stored, NotStored, SameByte}
 use Rattle.bridge_rules.specs.Changes.{TakenReply, FrameChanges, Frees, CloseChanges, ResetChanges, NothingChanged, Changes}
-use Rattle.bridge_rules.proofs.KindTests.{kinds-ask, kinds-carry, kind-checking, kind-compares, writes-not-checking, reads-not-compared}
+use Rattle.bridge_rules.proofs.KindTests.{kinds-ask, kinds-carry, carries-only, kind-checking, kind-compares, writes-not-checking, reads-not-compared}
 use Rattle.bridge_rules.proofs.NumberLaws.{LawfulAsk, RightLengths, lent-ok, open-facts, open-lent}
 use Rattle.bridge_rules.proofs.FrameLaws.{content-length}
 use Rattle.bridge_rules.proofs.BufferParts.{getD-sets-below, getD-sets-above, getD-sets-in}
@@ -34,9 +34,11 @@ use Rattle.bridge_rules.proofs.SlotOk.{WaitOk, ReadyOk, wait-ok}
 use Rattle.bridge_rules.proofs.SlotChanges.{aged-other, sent-write, Carry, movesOn, turnsBack, carry}
 use Rattle.bridge_rules.proofs.SoundTest.{Sound, true-sound}
 use Rattle.bridge_rules.proofs.SoundExactly.{blank-zero}
-use Rattle.bridge_rules.proofs.SoundStates.{slot-set-same, slot-set-other, slot-aged, aged-sound, fresh-slot}
+use Rattle.bridge_rules.proofs.SoundStates.{slot-set-same, slot-set-other, slot-aged, aged-sound, fresh-slot, rest-aged, sent-rest, kept-rest}
+use Rattle.bridge_rules.proofs.SoundStates.{fresh-rest}
 use Rattle.bridge_rules.proofs.CallCases.{CallCase, nothing, opens, sends, idles, takes, disagrees, closes, resets, callCase, other-call}
-use Rattle.bridge_rules.proofs.CallCases.{openResult, takeResult, differResult, take-same, take-other, freeAt, readyAt, heldBy}
+use Rattle.bridge_rules.proofs.CallCases.{openResult, takeResult, differResult, take-same, take-other, readyAt, heldBy, givable-free, givable-rested}
+use Rattle.bridge_rules.proofs.CallCases.{free-resting}
 use Rattle.bridge_rules.proofs.TurnSends.{turn-lent, next-bytes, found-bound, found-ready, found-first}
 
 -- ── slots ──────────────────────────────────────────────────────────────────────────────────────────────────────────
@@ -103,7 +105,7 @@ given-short (write d t o bs) w = w .few
 given-short (check d t o bs) w = w .few
 
 -- slot k is taken
-module _ (s : Bridge) (b : Buffers) (a : Ask) (k : ℕ) (h : Sound s) (lb : RightLengths b) (w : Lowest (freeAt s) k) (law : LawfulAsk a) where
+module _ (s : Bridge) (b : Buffers) (a : Ask) (k : ℕ) (h : Sound s) (lb : RightLengths b) (w : Lowest (givable s) k) (law : LawfulAsk a) where
   given-copied : (l bytes : List ℕ) → length l ≡ 512 → bytes ≡ askGiven a
       → Copied l (sets l (128 * k) bytes) (128 * k) (length (askGiven a)) (askGiven a)
   given-copied l bytes ll e = rw e (sets-copied l (128 * k) (askGiven a) (omega (arith, ll, w .bound, given-short a law)))
@@ -114,13 +116,15 @@ module _ (s : Bridge) (b : Buffers) (a : Ask) (k : ℕ) (h : Sound s) (lb : Righ
     ticket = refl;
     k = k;
     bound = w .bound;
-    wasFree = eqb-true (slot s k .phase) free (w .passes);
-    lowest = λ j l. eqb-false (slot s j .phase) free (w .below j l);
+    wasFree = eqb-true (slot s k .phase) free (givable-free s k (w .passes));
+    rested = givable-rested s k (w .passes);
+    lowest = λ j l e. free-resting s j (w .below j l) (ap isFree e);
     taken = slot-set-same s _ k _ (h .four) refl (w .bound);
     others = λ j d. slot-set-other s _ k j _ refl d;
     own = refl;
     issued = refl;
     last = refl;
+    rests = refl;
     written = λ e. given-copied (b .first) (toFirst a) (lb .0) (rw e);
     checked = λ e. given-copied (b .second) (toSecond a) (lb .1) (rw e);
     firstSame = λ e. rw e;
@@ -128,19 +132,19 @@ module _ (s : Bridge) (b : Buffers) (a : Ask) (k : ℕ) (h : Sound s) (lb : Righ
   }
 
 open-changes : OpenChanges
-unfolding step openOf lowestFree
-open-changes s b a e = go (outcome (openNumber s (rightLengths b) a) (openResult s b a (orZero (lowestFree s))) s b)
+unfolding step openOf lowestGivable
+open-changes s b a e = go (outcome (openNumber s (rightLengths b) a) (openResult s b a (orZero (lowestGivable s))) s b)
   where
-    pick : openNumber s (rightLengths b) a ≡ 0 → (lowestFree s ≡ none) ⊎ ((k : ℕ) × (lowestFree s ≡ some k))
-        → Takes s b a (openResult s b a (orZero (lowestFree s)))
+    pick : openNumber s (rightLengths b) a ≡ 0 → (lowestGivable s ≡ none) ⊎ ((k : ℕ) × (lowestGivable s ≡ some k))
+        → Takes s b a (openResult s b a (orZero (lowestGivable s)))
     pick z (inl w) = contradiction (ap isNone w) (open-facts s (rightLengths b) a z .slotted)
     pick z (inr (k, w)) =
         let l = open-lent s b a z in
-        rw w (opened-takes s b a k (true-sound s (l .0)) (l .1) (lowest-some (freeAt s) k w) (open-facts s (rightLengths b) a z .law))
+        rw w (opened-takes s b a k (true-sound s (l .0)) (l .1) (lowest-some (givable s) k w) (open-facts s (rightLengths b) a z .law))
 
-    go : Outcome (openNumber s (rightLengths b) a) (openResult s b a (orZero (lowestFree s))) s b (openOf s b a) → Takes s b a (openOf s b a)
+    go : Outcome (openNumber s (rightLengths b) a) (openResult s b a (orZero (lowestGivable s))) s b (openOf s b a) → Takes s b a (openOf s b a)
     go (refused z q) = absurd (z (sym (ap (λ (u : Result). u .answer .number) q) ∙ e))
-    go (through z q) = subst (Takes s b a) (sym q) (pick z (option-cases (lowestFree s)))
+    go (through z q) = subst (Takes s b a) (sym q) (pick z (option-cases (lowestGivable s)))
 
 -- ── turns ──────────────────────────────────────────────────────────────────────────────────────────────────────────
 
@@ -154,7 +158,7 @@ module _ (s : Bridge) (b : Buffers) where
   idle-turned = record {
     numbers = (refl, refl);
     buffers = refl;
-    silent = λ e. record { ages = λ k l. ages-at k _ refl; last = refl };
+    silent = λ e. record { ages = λ k l. ages-at k _ refl; rests = λ k l. rest-aged s k; last = refl };
     serves = λ f e. none-some e;
   }
 
@@ -176,6 +180,10 @@ module _ (s : Bridge) (b : Buffers) where
           (ap sentSlot (sym (slot-aged s k)) ∙ sym (slot-set-same (agedBridge s) _ k _ (aged-sound s h .four) refl l))
           (sent-sends (aged (slot s k)) (r .phase));
       others = λ j m d. ages-at j _ (slot-set-other (agedBridge s) _ k j _ refl d);
+      asked = λ e. sent-rest (agedBridge s) b k l (aged-sound s h) (ap (λ (x : Slot). asks (x .kind)) (slot-aged s k) ∙ kinds-ask _ e);
+      carried = λ e. kept-rest (agedBridge s) b k k (inr (ap (λ (x : Slot). asks (x .kind)) (slot-aged s k) ∙ carries-only _ (kinds-carry _ e)))
+          ∙ rest-aged s k;
+      restsLess = λ j m d. kept-rest (agedBridge s) b k j (inl d) ∙ rest-aged s j;
     };
   }
     where
@@ -288,6 +296,7 @@ module _ (s : Bridge) (b : Buffers) (f : Frame) (k : ℕ) (h : Sound s) (lb : Ri
     others = λ j d. slot-set-other s _ k j _ refl d;
     numbers = (refl, refl);
     last = refl;
+    rests = refl;
   }
 
   judged : (differs k (slot s k) (b .second) f ≡ true) ⊎ (differs k (slot s k) (b .second) f ≡ false) → TakenReply s b f (takeFor s b f k)
@@ -344,6 +353,7 @@ close-changes s b t e = go (option-cases (heldSlot s t))
           others = λ j d. slot-set-other s _ k j blank refl d;
           numbers = (refl, refl);
           last = refl;
+          rests = refl;
           buffers = refl;
         })
 
@@ -354,7 +364,7 @@ close-changes s b t e = go (option-cases (heldSlot s t))
 reset-changes : ResetChanges
 unfolding step resetOf fresh
 reset-changes s b own e = rw e (record {
-  isFresh = record { number = refl; slots = λ k. blank-zero _ (fresh-slot own k); issued = refl; last = refl };
+  isFresh = record { number = refl; slots = λ k. blank-zero _ (fresh-slot own k); issued = refl; last = refl; rests = fresh-rest own };
   same = λ s′. rw e;
   buffers = refl;
 })

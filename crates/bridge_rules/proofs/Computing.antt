@@ -2,16 +2,16 @@
 -- the bus.
 use Rattle.bus_rules.proofs.Computing.{bus}
 use Rattle.bridge_rules.specs.State.{asks, carries, checking, compares, shows, askNumber, slot, fresh, soundPhase, soundSlot, soundSlots}
-use Rattle.bridge_rules.specs.State.{absent, distinct, sound, firstSlot, lowestFree, heldSlot, nextReady}
+use Rattle.bridge_rules.specs.State.{rest, soundRests, absent, distinct, sound, firstSlot, lowestFree, lowestGivable, heldSlot, nextReady}
 use Rattle.bridge_rules.specs.Answers.{lentNumber}
 use Rattle.bridge_rules.specs.Opening.{roomNumber, openNumber, opened, openOf}
 use Rattle.bridge_rules.specs.Turn.{ticked, aged, agedBridge, chunkLen, readFrame, outgoing, writeFrame, carriedFrom, sentFrame, advanced}
-use Rattle.bridge_rules.specs.Turn.{requested, readBack, carried, sentSlot, sendFor, turnOf}
+use Rattle.bridge_rules.specs.Turn.{requested, readBack, carried, sentSlot, sentRests, sendFor, turnOf}
 use Rattle.bridge_rules.specs.Incoming.{contentNumber, awaits, awaiting, replyNumber, sameBytes, differs, differed, takeFor, frameOf}
 use Rattle.bridge_rules.specs.Ending.{phaseNumber, ticketNumber, statusOf, bytesNumber, slotSpan, spanOf, bytesOf, closeNumber}
 use Rattle.bridge_rules.specs.Ending.{closeOf, resetNumber, resetOf}
 use Rattle.bridge_rules.specs.Call.{step}
-use Rattle.bridge_rules.specs.Run.{storage, accepted, turns, slotOf, ledger, firstGivable}
+use Rattle.bridge_rules.specs.Run.{storage, accepted, turns, slotOf, ledger, firstGivable, slotAsked}
 use Rattle.bridge_rules.specs.Replies.{commandFrame, requestFrame, matchesFrame}
 use Rattle.bridge_rules.specs.Device.{range}
 use Rattle.bridge_rules.specs.Demand3.{join}
@@ -21,7 +21,8 @@ unfolding asks carries checking compares shows
 kinds = tt
 
 unfoldable state : Unit {0}
-unfolding kinds askNumber slot fresh soundPhase soundSlot soundSlots absent distinct sound firstSlot lowestFree heldSlot nextReady
+unfolding kinds askNumber slot rest fresh soundPhase soundSlot soundSlots soundRests absent distinct sound firstSlot lowestFree lowestGivable
+    heldSlot nextReady
 state = tt
 
 unfoldable openings : Unit {0}
@@ -29,7 +30,7 @@ unfolding lentNumber roomNumber openNumber opened openOf
 openings = tt
 
 unfoldable sending : Unit {0}
-unfolding chunkLen readFrame outgoing writeFrame carriedFrom sentFrame advanced requested readBack carried sentSlot sendFor
+unfolding chunkLen readFrame outgoing writeFrame carriedFrom sentFrame advanced requested readBack carried sentSlot sentRests sendFor
 sending = tt
 
 unfoldable turning : Unit {0}
@@ -49,7 +50,7 @@ unfolding openings turning incoming ending step
 calls = tt
 
 unfoldable runs : Unit {0}
-unfolding storage accepted turns slotOf commandFrame requestFrame matchesFrame range join ledger firstGivable
+unfolding storage accepted turns slotOf commandFrame requestFrame matchesFrame range join ledger firstGivable slotAsked
 runs = tt
 
 unfoldable pub everything : Unit {0}

@@ -1,19 +1,25 @@
 -- The corollaries of demand 3, proved from it.
-use Prim.Native.Nat.{ℕ, _≤_, _<_}
-use mathlib.Core.Path.{_≡_, sym, _∙_, ap}
+use Prim.Native.Nat.{ℕ, zero, suc, _+_, _≤_, _<_}
+use mathlib.Core.Path.{_≡_, refl, sym, _∙_, ap}
+use mathlib.Core.Logic.{_⊎_, inl, inr}
 use mathlib.Core.Bool.{true}
 use native.Mathlib.Omega.{arith}
 use native.Mathlib.Decide.{decLt}
 use Rattle.bridge_rules.specs.Answers.{plain}
 use Rattle.bridge_rules.specs.Opening.{isRead}
-use Rattle.bridge_rules.specs.Run.{Run, Lawful, Transfer, Stands, Done, Different, statusAt, shownAt, chunks}
+use Rattle.bridge_rules.specs.State.{rest}
+use Rattle.bridge_rules.specs.Run.{Run, state, Lawful, Transfer, slotOf, Stands, turns, Done, Different, statusAt, shownAt, chunks}
 use Rattle.bridge_rules.specs.Replies.{Replied, ThreeFailed}
+use Rattle.bridge_rules.specs.Device.{Quiet}
 use Rattle.bridge_rules.specs.Demand3.{Claims}
-use Rattle.bridge_rules.specs.Corollaries.{Corollaries}
+use Rattle.bridge_rules.specs.Corollaries.{ShowsSince, QuietResets, Corollaries}
 use Rattle.bridge_rules.proofs.AskedSoFar.{failed-mono, read-so-far}
-use Rattle.bridge_rules.proofs.TableBytes.{table-since, taken-answers}
+use Rattle.bridge_rules.proofs.TableBytes.{Timely, timely, table-since, taken-answers}
 use Rattle.bridge_rules.proofs.Demand3.{claims}
 use Rattle.bridge_rules.proofs.AskTests.{ask-cases, read-not-check, write-not-check}
+use Rattle.bridge_rules.proofs.RestedSlots.{ResetBetween, rests-on}
+use Rattle.bridge_rules.proofs.Standing.{openedAt}
+use Rattle.bridge_rules.proofs.TurnCounts.{turns-mono}
 use Rattle.bridge_rules.proofs.WrittenInOrder.{all-mono}
 
 three-stays : (r : Run) (x : Transfer r) (n n′ : ℕ) → n ≤ n′ → ThreeFailed r x n → ThreeFailed r x n′
@@ -81,6 +87,19 @@ module _ (r : Run) (w : Lawful r) (x : Transfer r) (n n′ : ℕ) (l : n ≤ n�
       (λ wr. hidden-stays e (now .shownOfWrite wr) (later .shownOfWrite wr))
       (λ ck. hidden-stays e (now .checked ck .shown) (later .checked ck .shown))
 
+since : ShowsSince Timely
+since r w x n s rd e t a un τ m = table-since r w x n t a un s (read-so-far r w x rd n s) e τ m rd
+
+-- a reset of a bridge no slot of which rests comes late enough
+quiet-rested : QuietResets
+quiet-rested r w zero h q b z y c j l s = absurd (omega arith)
+quiet-rested r w (suc n) h q b z y c j l s = go (quiet-rested r w n (λ i a. h i (omega arith)))
+    (rests-on r w q (slotOf r y) (openedAt r w y .bound) y c j refl s l)
+  where
+    go : Quiet r n → (60 ≤ rest (state r q) (slotOf r y) + turns r j q) ⊎ ResetBetween r w j q → 60 ≤ turns r j q
+    go ih (inl m) = omega (arith, m, h q b z (slotOf r y) (openedAt r w y .bound))
+    go ih (inr (i, a, e, v)) = omega (arith, ih i (omega arith) v y c j a s, turns-mono r j i q (omega arith))
+
 pub corollaries : Corollaries
 corollaries = record {
   endedStays = λ r w x n n′ l s s′. record {
@@ -89,6 +108,12 @@ corollaries = record {
     different = different-stays r w x n n′ l s s′;
     shown = shown-stays r w x n n′ l s s′;
   };
-  narrowMeanwhile = λ r w x n s rd e t a un τ m. table-since r w x n t a un s (read-so-far r w x rd n s) e τ m rd;
-  takenAnswers = λ r w x n t a. taken-answers r w x n t a;
+  narrowMeanwhile = λ r w x n s rd e t a. since r w x n s rd e t (timely r x n t a);
+  narrowResets = λ r w x n s rd e t a. since r w x n s rd e t (record {
+    own = a .own;
+    prompt = a .prompt;
+    unreset = λ m f h y c v. a .unreset m f h;
+  });
+  takenAnswers = λ r w x n t a. taken-answers r w x n t (timely r x n t a);
+  quietResets = quiet-rested;
 }

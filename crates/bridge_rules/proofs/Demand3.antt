@@ -26,8 +26,9 @@ use Rattle.bridge_rules.proofs.ShownBytes.{done-progress, hidden, not-r
 use Rattle.bridge_rules.proofs.WrittenInOrder.{all-written-done, full-written}
 use Rattle.bridge_rules.proofs.ReadingBack.{asked-so-far-at, sent-after, ends-in, not-different, different-other, other-different, first-other}
 use Rattle.bridge_rules.proofs.ReadingBack.{done-back, equal-done}
-use Rattle.bridge_rules.proofs.SlotHolders.{places, alone, no-holder, known-holder}
-use Rattle.bridge_rules.proofs.TableBytes.{table-meanwhile, given-meanwhile, other-then, some-moment}
+use Rattle.bridge_rules.proofs.SlotHolders.{alone, no-holder, known-holder}
+use Rattle.bridge_rules.proofs.RestedSlots.{places}
+use Rattle.bridge_rules.proofs.TableBytes.{timely, table-meanwhile, given-meanwhile, other-then, some-moment}
 
 module _ (r : Run) (w : Lawful r) (x : Transfer r) (n : ℕ) (s : Stands r x n) where
   three-failed : slotAt r x n .phase ≡ gaveUp → ThreeFailed r x n
@@ -65,8 +66,8 @@ module _ (r : Run) (w : Lawful r) (x : Transfer r) (n : ℕ) (s : Stands r x n) 
     shown = λ m h. shown-joined r w x n s p rd (back (λ c l. (m c, h c l .0, h c l .1))) m h;
     hidden = hidden r w x n s;
     whole = shown-whole r w x n s p rd;
-    table = λ t τ₀ h e τ m. table-meanwhile r w x n t (h .arrivals) τ₀ h s p e τ m rd;
-    during = λ t τ₀ a h. some-moment r w x n t a τ₀ h s p;
+    table = λ t τ₀ h e τ m. table-meanwhile r w x n t (timely r x n t (h .arrivals)) τ₀ h s p e τ m rd;
+    during = λ t τ₀ a h. some-moment r w x n t (timely r x n t a) τ₀ h s p;
   }
     where
       p : AskedSoFar r x n
@@ -104,9 +105,9 @@ module _ (r : Run) (w : Lawful r) (x : Transfer r) (n : ℕ) (s : Stands r x n) 
     sentAfter = sent-after r w x ur;
     firstOther = first-other r w x ck;
     shown = not-read-hidden r w x n s ur;
-    table = λ t τ₀ h e τ m. given-meanwhile r w x n t (h .arrivals) τ₀ h s (back e .1) e τ m ck;
-    during = λ t τ₀ a h e. some-moment r w x n t a τ₀ h s (back e .1) e;
-    tableOther = other-then r w x n;
+    table = λ t τ₀ h e τ m. given-meanwhile r w x n t (timely r x n t (h .arrivals)) τ₀ h s (back e .1) e τ m ck;
+    during = λ t τ₀ a h e. some-moment r w x n t (timely r x n t a) τ₀ h s (back e .1) e;
+    tableOther = λ t a. other-then r w x n t (timely r x n t a);
   }
     where
       ur : isRead (x .ask) ≡ false

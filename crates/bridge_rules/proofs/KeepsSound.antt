@@ -1,7 +1,7 @@
 -- Every call keeps a sound state sound, and a reset makes any state fresh.
-use Prim.Native.Nat.{ℕ, suc, _+_, _*_, _<_}
+use Prim.Native.Nat.{ℕ, suc, _+_, _*_, _≤_, _<_}
 use mathlib.Core.Path.{_≡_, refl, _∙_}
-use mathlib.Core.Logic.{_⊎_, inl, inr}
+use mathlib.Core.Logic.{_⊎_, inl, inr, _≢_}
 use mathlib.Core.Bool.{true, false}
 use mathlib.Core.Option.{Option, none, some}
 use native.Mathlib.Omega.{arith}
@@ -37,20 +37,27 @@ idle-sound : (s : Bridge) (b : Buffers) → Sound s → Sound (sendFor s b none 
 unfolding sendFor
 idle-sound s b h = h
 
--- a reply that slot k awaits makes y of it
-replied-sound : (s : Bridge) → Sound s → (f : Frame) (k : ℕ) → k < 4 → awaits s f k ≡ true → (y : Slot) → y .ticket ≡ slot s k .ticket
-    → (WaitOk (slot s k) → SlotOk y) → Sound (withSlots s (set (s .slots) k y))
-replied-sound s h f k l a y t ok = set-sound s _ k y h (record {
+-- slot k becomes y, and nothing else changes
+slot-sound : (s : Bridge) → Sound s → (k : ℕ) → k < 4 → (y : Slot) → SlotOk y → y .ticket ≤ s .issued
+    → ((j : ℕ) → j < 4 → j ≢ k → 0 < y .ticket → y .ticket ≢ slot s j .ticket) → Sound (withSlots s (set (s .slots) k y))
+slot-sound s h k l y ok given apart = set-sound s _ k y h (record {
   bound = l;
   own = h .own;
   last = h .last;
   issued = h .issued;
   more = omega arith;
   slots = refl;
-  ok = ok (wait-ok (slot s k) (h .each k l) (awaits-ok s f k a .waits));
-  given = omega (arith, t, h .given k l);
-  apart = keeps-apart s k y h l t;
+  rests = h .rests;
+  ok = ok;
+  given = given;
+  apart = apart;
 })
+
+-- a reply that slot k awaits makes y of it
+replied-sound : (s : Bridge) → Sound s → (f : Frame) (k : ℕ) → k < 4 → awaits s f k ≡ true → (y : Slot) → y .ticket ≡ slot s k .ticket
+    → (WaitOk (slot s k) → SlotOk y) → Sound (withSlots s (set (s .slots) k y))
+replied-sound s h f k l a y t ok = slot-sound s h k l y (ok (wait-ok (slot s k) (h .each k l) (awaits-ok s f k a .waits)))
+    (omega (arith, t, h .given k l)) (keeps-apart s k y h l t)
 
 pub case-sound : (s : Bridge) (b : Buffers) (c : Call) → Sound s → RightLengths b → CallCase s b c
     → Sound (step s b c .state) × RightLengths (step s b c .buffers)
@@ -63,6 +70,7 @@ case-sound s b c h lb (opens u) = (
     issued = omega (arith, u .room);
     more = omega arith;
     slots = refl;
+    rests = h .rests;
     ok = opened-ok (u .ask) (s .issued) (u .lawful);
     given = omega (arith, opened-ticket (u .ask) (suc (s .issued)));
     apart = λ j m d p q. omega (arith, h .given j m, opened-ticket (u .ask) (suc (s .issued)), q);
@@ -89,17 +97,7 @@ case-sound s b c h lb (disagrees u) = (
   rw (u .result) lb,
 )
 case-sound s b c h lb (closes u) = (
-  rw (u .result) (set-sound s _ (u .k) blank h (record {
-    bound = u .bound;
-    own = h .own;
-    last = h .last;
-    issued = h .issued;
-    more = omega arith;
-    slots = refl;
-    ok = okFree refl;
-    given = omega arith;
-    apart = λ j m d p. absurd (omega arith);
-  })),
+  rw (u .result) (slot-sound s h (u .k) (u .bound) blank (okFree refl) (omega arith) (λ j m d p. absurd (omega arith))),
   rw (u .result) lb,
 )
 case-sound s b c h lb (resets u) = (rw (u .result) (fresh-sound (u .o) (u .small)), rw (u .result) lb)

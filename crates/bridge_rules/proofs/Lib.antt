@@ -17,6 +17,7 @@ pub mod CallCases
 pub mod KeepsSound
 pub mod SlotEffects
 pub mod SoundRuns
+pub mod RequestSlots
 pub mod LedgerAgrees
 pub mod TurnCounts
 pub mod Standing
@@ -26,6 +27,7 @@ pub mod SlotHolders
 pub mod EndsInBound
 pub mod GivenBytes
 pub mod SentRequests
+pub mod RestedSlots
 pub mod Matching
 pub mod AskedSoFar
 pub mod JustSent

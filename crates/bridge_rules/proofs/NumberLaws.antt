@@ -8,7 +8,7 @@ use native.Mathlib.Omega.{arith}
 use borrow.Author.Tests.{eqb-true, eqb-false, eq-eqb, ne-eqb, le-ltb, ltb-false, leb-false, not-false}
 use Rattle.wire.specs.Order.{_if_else_, _orElse_}
 use Rattle.wire.proofs.Orders.{if-zero, else-zero, else-some}
-use Rattle.bridge_rules.specs.State.{Frame, Bridge, askNumber, sound, isNone, lowestFree}
+use Rattle.bridge_rules.specs.State.{Frame, Bridge, askNumber, sound, isNone, lowestGivable}
 use Rattle.bridge_rules.specs.Answers.{Buffers, rightLengths, lentNumber}
 use Rattle.bridge_rules.specs.Opening.{Ask, askDevice, askTable, askOffset, askCount, roomNumber, openNumber}
 use Rattle.bridge_rules.specs.Incoming.{contentNumber, awaiting, replyNumber}
@@ -102,7 +102,7 @@ lent-ok s b e =
 
 pub record OpenFacts (s : Bridge) (a : Ask) : Type 0 where
   pub law : LawfulAsk a
-  pub slotted : isNone (lowestFree s) ≡ false
+  pub slotted : isNone (lowestGivable s) ≡ false
   pub ticketed : s .issued < 4294967295
 
 pub open-facts : (s : Bridge) (ok : Bool) (a : Ask) → openNumber s ok a ≡ 0 → OpenFacts s a
@@ -111,11 +111,12 @@ open-facts s ok a e =
     let h1 = else-zero _ _ e in
     let h2 = else-zero _ _ (h1 .1) in
     let h3 = if-zero 11 _ _ (h2 .1) in
-    let h4 = if-zero 12 _ _ (h3 .1) in
+    let h4 = if-zero 18 _ _ (h3 .1) in
+    let h5 = if-zero 12 _ _ (h4 .1) in
     record {
       law = args-lawful _ _ _ _ (h2 .0);
-      slotted = h3 .0;
-      ticketed = omega (arith, leb-false _ (s .issued) (h4 .0));
+      slotted = h4 .0;
+      ticketed = omega (arith, leb-false _ (s .issued) (h5 .0));
     }
 
 pub open-lent : (s : Bridge) (b : Buffers) (a : Ask) → openNumber s (rightLengths b) a ≡ 0 → (sound s ≡ true) × RightLengths b

@@ -14,7 +14,7 @@ use Rattle.bus_rules.specs.Ident.{idSpare, idTo, idKind}
 use Rattle.wire.specs.Order.{_if_else_, _orElse_}
 use Rattle.wire.specs.First.{First, Zero}
 use Rattle.wire.proofs.Orders.{if-zero, else-zero, if-orElse, zero-orElse, orElse-orElse}
-use Rattle.bridge_rules.specs.State.{Frame, Bridge, waiting, nextReady, heldSlot, slot, sound, isFree, isNone, lowestFree}
+use Rattle.bridge_rules.specs.State.{Frame, Bridge, waiting, nextReady, heldSlot, slot, sound, isFree, isNone, lowestFree, lowestGivable}
 use Rattle.bridge_rules.specs.Answers.{Buffers, rightLengths, lentNumber, plain}
 use Rattle.bridge_rules.specs.Opening.{Ask, openOf}
 use Rattle.bridge_rules.specs.Turn.{turnOf, agedBridge}
@@ -22,11 +22,12 @@ use Rattle.bridge_rules.specs.Incoming.{takeFor, frameOf, replyNumber, c
 use Rattle.bridge_rules.specs.Ending.{resetNumber, bytesOf, spanOf, bytesNumber, closeOf, closeNumber, resetOf}
 use Rattle.bridge_rules.specs.Call.{bytes, turn, frame, close, reset, Call, Lent, itsOwn, other, opening, step}
 use Rattle.bridge_rules.specs.Run.{ticket, Run, Lawful, Shaped, Transfer, Stands, slotOf, state, buffers, answer, ledger}
-use Rattle.bridge_rules.specs.Replies.{Replied}
+use Rattle.bridge_rules.specs.Replies.{Replied, Resting}
+use Rattle.bridge_rules.specs.Demand3.{HeldAt}
 use Rattle.bridge_rules.specs.Calls.{FrameInRun, NumbersInRun, NumbersInRuns, OpeningInRun}
 use Rattle.bridge_rules.proofs.NumberLaws.{RightLengths, lent-clear, lent-ten, open-later, open-ten, reply-later, reply-ten}
 use Rattle.wire.proofs.RefusalChains.{first-if, not-test, leb-test, ltb-test, eqb-test}
-use Rattle.bridge_rules.proofs.OpeningNumbers.{afterLent, AfterLent, chain, full, unless-number, number-is}
+use Rattle.bridge_rules.proofs.OpeningNumbers.{afterLent, AfterLent, chain, full, none-givable, unless-number, number-is}
 use Rattle.bridge_rules.proofs.RefusalsKeep.{sends-zero}
 use Rattle.bridge_rules.proofs.Search.{contradiction, Lowest, lowest-some, lowest-none, option-cases}
 use Rattle.bridge_rules.proofs.AwaitsTest.{awaits-ok}
@@ -41,6 +42,7 @@ use Rattle.bridge_rules.proofs.AskedSoFar.{awaited-replied}
 use Rattle.bridge_rules.proofs.ReadingBack.{asked-so-far-at}
 use Rattle.bridge_rules.proofs.RepliesInOrder.{reply-awaited}
 use Rattle.bridge_rules.proofs.SlotHolders.{no-holder, known-holder, occupied}
+use Rattle.bridge_rules.proofs.RestedSlots.{not-given, kept-back}
 
 -- 10 by the buffers lent
 own-first : (k m : ℕ) (rest : ℕ → Type 0) → (k ≡ m) ↔ rest m → (k ≡ m) ↔ First (_≢_ {A = Lent Buffers} itsOwn itsOwn) 10 rest m
@@ -110,17 +112,27 @@ module _ (r : Run) (w : Lawful r) (n : ℕ) where
   lb = storage-sound r w n .1
 
   -- openings: a slot is held exactly by a transfer that stands
-  held-slots : (isNone (lowestFree (state r n)) ≡ true) ↔ ((k : ℕ) → k < 4 → (x : Transfer r) × Stands r x n × (slotOf r x ≡ k))
+  held-slots : (isNone (lowestFree (state r n)) ≡ true) ↔ ((k : ℕ) → k < 4 → HeldAt r k n)
   held-slots = (λ e k l. occupied r w n k l (full (state r n) .0 e k l), λ f. full (state r n) .1 (λ k l. taken k l (f k l)))
     where
-      taken : (k : ℕ) → k < 4 → (x : Transfer r) × Stands r x n × (slotOf r x ≡ k) → isFree (slot (state r n) k .phase) ≡ false
+      taken : (k : ℕ) → k < 4 → HeldAt r k n → isFree (slot (state r n) k .phase) ≡ false
       taken k l (x, s, e) = rw e at (held-slot r w x n s)
+
+  -- one that an opening may not take is held or rests
+  given-slots : (isNone (lowestGivable (state r n)) ≡ true) ↔ ((k : ℕ) → k < 4 → HeldAt r k n ⊎ Resting r k n)
+  given-slots = (
+    λ e k l. not-given r w n k l (none-givable (state r n) .0 e k l),
+    λ f. none-givable (state r n) .1 (λ k l. kept-back r w n k l (f k l)),
+  )
 
   tickets-used : (4294967295 ≤ state r n .issued) ↔ (4294967295 ≤ ledger r n .issued)
   tickets-used = (λ l. omega (arith, agrees r w n .issued), λ l. omega (arith, agrees r w n .issued))
 
   abbrev Full : Type 0
-  Full = (k : ℕ) → k < 4 → (x : Transfer r) × Stands r x n × (slotOf r x ≡ k)
+  Full = (k : ℕ) → k < 4 → HeldAt r k n
+
+  abbrev Rests : Type 0
+  Rests = (k : ℕ) → k < 4 → HeldAt r k n ⊎ Resting r k n
 
   abbrev Used : Type 0
   Used = 4294967295 ≤ ledger r n .issued
@@ -128,14 +140,14 @@ module _ (r : Run) (w : Lawful r) (n : ℕ) where
   opening-number : (l : Lent Buffers) (a : Ask) → Shaped (opening l a) → (m : ℕ)
       → (step (state r n) (buffers r n) (opening l a) .answer .number ≡ m) ↔ OpeningInRun r n l a m
   unfolding step
-  opening-number itsOwn a d m = own-first _ m (AfterLent a Full Used) (λ e. c .0 (sym q ∙ e), λ p. q ∙ c .1 p)
+  opening-number itsOwn a d m = own-first _ m (AfterLent a Full Rests Used) (λ e. c .0 (sym q ∙ e), λ p. q ∙ c .1 p)
     where
       q : openOf (state r n) (buffers r n) a .answer .number ≡ afterLent (state r n) a
       q = number-is (state r n) (buffers r n) a ∙ open-later (state r n) (buffers r n) a ss lb
 
-      c : (afterLent (state r n) a ≡ m) ↔ AfterLent a Full Used m
-      c = chain (state r n) a m Full Used held-slots tickets-used
-  opening-number (other b) a d m = other-first _ m b (AfterLent a Full Used) (number-is (state r n) b a ∙ open-ten (state r n) b a ss d)
+      c : (afterLent (state r n) a ≡ m) ↔ AfterLent a Full Rests Used m
+      c = chain (state r n) a m Full Rests Used held-slots given-slots tickets-used
+  opening-number (other b) a d m = other-first _ m b (AfterLent a Full Rests Used) (number-is (state r n) b a ∙ open-ten (state r n) b a ss d)
 
   turns-number : (l : Lent Buffers) → Shaped (turn l) → (m : ℕ)
       → (step (state r n) (buffers r n) (turn l) .answer .number ≡ m) ↔ First (l ≢ itsOwn) 10 Zero m

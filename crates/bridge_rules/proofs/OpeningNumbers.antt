@@ -9,7 +9,7 @@ use lib.Dec.{ltb, eqb}
 use borrow.Author.Tests.{eqb-true, le-leb, ltb-false, leb-true}
 use Rattle.wire.specs.Order.{_if_else_, _orElse_}
 use Rattle.wire.specs.First.{First, Zero}
-use Rattle.bridge_rules.specs.State.{askNumber, Bridge, free, slot, sound, isFree, isNone, lowestFree}
+use Rattle.bridge_rules.specs.State.{askNumber, Bridge, free, slot, rest, sound, isFree, isNone, firstSlot, lowestFree, givable, lowestGivable}
 use Rattle.bridge_rules.specs.Answers.{Buffers, Result, rightLengths, lentNumber, unless, plain}
 use Rattle.bridge_rules.specs.Opening.{roomNumber, Ask, askDevice, askTable, askOffset, askCount, openNumber, openOf}
 use Rattle.bridge_rules.specs.Call.{step}
@@ -18,28 +18,30 @@ use Rattle.bridge_rules.proofs.NumberLaws.{OpenFacts, open-facts, open-
 use Rattle.wire.proofs.Orders.{if-orElse, zero-orElse}
 use Rattle.wire.proofs.RefusalChains.{first-if, not-test, ltb-test, sound-test, either, or-test, over-test, none-test, some-of}
 use Rattle.bridge_rules.proofs.Search.{cases, contradiction, Lowest, lowest-some, lowest-none, option-cases}
-use Rattle.bridge_rules.proofs.CallCases.{freeAt}
+use Rattle.bridge_rules.proofs.CallCases.{freeAt, givable-free, givable-rested, free-resting}
 
--- the numbers after 11 and 10, of which 12 and 13 are told in two ways
+-- the numbers after 11 and 10, of which 12, 19 and 13 are told in two ways
 abbrev pub afterLent : Bridge → Ask → ℕ
 afterLent s a = askNumber (askDevice a) (askTable a) (askOffset a) (askCount a) orElse roomNumber s
 
-abbrev pub AfterLent : Ask → Type 0 → Type 0 → ℕ → Type 0
-AfterLent a P Q =
+abbrev pub AfterLent : Ask → (full resting used : Type 0) → ℕ → Type 0
+AfterLent a P R Q =
     First (¬ ((askDevice a ≤ 15) × (askTable a ≤ 31))) 7
     (First (¬ ((1 ≤ askCount a) × (askCount a ≤ 128))) 9
     (First (2048 < askOffset a + askCount a) 8
     (First P 12
+    (First R 19
     (First Q 13
-    Zero))))
+    Zero)))))
 
-room-chain : (s : Bridge) (n : ℕ) (P Q : Type 0) → (isNone (lowestFree s) ≡ true) ↔ P → (4294967295 ≤ s .issued) ↔ Q
-    → (roomNumber s ≡ n) ↔ First P 12 (First Q 13 Zero) n
+room-chain : (s : Bridge) (n : ℕ) (P R Q : Type 0) → (isNone (lowestFree s) ≡ true) ↔ P → (isNone (lowestGivable s) ≡ true) ↔ R
+    → (4294967295 ≤ s .issued) ↔ Q → (roomNumber s ≡ n) ↔ First P 12 (First R 19 (First Q 13 Zero)) n
 unfolding roomNumber
-room-chain s n P Q p q = first-if 12 (isNone (lowestFree s)) _ n P (First Q 13 Zero) p (λ z. first-if 13 _ 0 n Q Zero (
-  λ e. q .0 (omega (arith, leb-true _ (s .issued) e)),
-  λ u. le-leb _ (s .issued) (omega (arith, q .1 u)),
-) (λ z. (sym, sym)))
+room-chain s n P R Q p c q = first-if 12 (isNone (lowestFree s)) _ n P (First R 19 (First Q 13 Zero)) p
+    (λ y. first-if 19 (isNone (lowestGivable s)) _ n R (First Q 13 Zero) c (λ z. first-if 13 _ 0 n Q Zero (
+      λ e. q .0 (omega (arith, leb-true _ (s .issued) e)),
+      λ u. le-leb _ (s .issued) (omega (arith, q .1 u)),
+    ) (λ z. (sym, sym))))
 
 args-chain : (d t o c x n : ℕ) (rest : ℕ → Type 0) → (x ≡ n) ↔ rest n
     → ((askNumber d t o c orElse x) ≡ n)
@@ -61,29 +63,48 @@ args-chain d t o c x n rest r = (λ e. tests .0 (sym flat ∙ e), λ p. flat ∙
         (or-test (eqb c 0) (ltb 128 c) (1 ≤ c) (c ≤ 128) (none-test c) (over-test 128 c) (some-of c) (ltb-false 128 c))
         (λ y. first-if 8 (ltb 2048 (o + c)) x n (2048 < o + c) rest (ltb-test 2048 (o + c)) (λ u. r)))
 
-pub chain : (s : Bridge) (a : Ask) (n : ℕ) (P Q : Type 0) → (isNone (lowestFree s) ≡ true) ↔ P → (4294967295 ≤ s .issued) ↔ Q
-    → (afterLent s a ≡ n) ↔ AfterLent a P Q n
-chain s a n P Q p q = args-chain (askDevice a) (askTable a) (askOffset a) (askCount a) (roomNumber s) n (First P 12 (First Q 13 Zero))
-    (room-chain s n P Q p q)
+pub chain : (s : Bridge) (a : Ask) (n : ℕ) (P R Q : Type 0) → (isNone (lowestFree s) ≡ true) ↔ P → (isNone (lowestGivable s) ≡ true) ↔ R
+    → (4294967295 ≤ s .issued) ↔ Q → (afterLent s a ≡ n) ↔ AfterLent a P R Q n
+chain s a n P R Q p c q = args-chain (askDevice a) (askTable a) (askOffset a) (askCount a) (roomNumber s) n
+    (First P 12 (First R 19 (First Q 13 Zero))) (room-chain s n P R Q p c q)
 
 free-phase : (p : ℕ) → isFree p ≡ true → p ≡ free
 free-phase p e = eqb-true p free e
 
--- no free slot
-pub full : (s : Bridge) → (isNone (lowestFree s) ≡ true) ↔ ((k : ℕ) → k < 4 → isFree (slot s k .phase) ≡ false)
-unfolding lowestFree
-full s = go (option-cases (lowestFree s))
+-- a search that fails
+none-passes : (p : ℕ → Bool) → (isNone (firstSlot p 0 4) ≡ true) ↔ ((k : ℕ) → k < 4 → p k ≡ false)
+none-passes p = go (option-cases (firstSlot p 0 4))
   where
-    go : (lowestFree s ≡ none) ⊎ ((k : ℕ) × (lowestFree s ≡ some k))
-        → (isNone (lowestFree s) ≡ true) ↔ ((k : ℕ) → k < 4 → isFree (slot s k .phase) ≡ false)
-    go (inl z) = (λ e k l. lowest-none (freeAt s) z k l, λ f. ap isNone z)
+    go : (firstSlot p 0 4 ≡ none) ⊎ ((k : ℕ) × (firstSlot p 0 4 ≡ some k)) → (isNone (firstSlot p 0 4) ≡ true) ↔ ((k : ℕ) → k < 4 → p k ≡ false)
+    go (inl z) = (λ e k l. lowest-none p z k l, λ f. ap isNone z)
     go (inr (k, z)) =
-        let w : Lowest (freeAt s) k = lowest-some (freeAt s) k z in
+        let w : Lowest p k = lowest-some p k z in
         (λ e. contradiction e (ap isNone z), λ f. contradiction (w .passes) (f k (w .bound)))
 
-lowest-is : (s : Bridge) (k : ℕ) → lowestFree s ≡ some k → Lowest (freeAt s) k
+-- no free slot, and none that an opening may take
+pub full : (s : Bridge) → (isNone (lowestFree s) ≡ true) ↔ ((k : ℕ) → k < 4 → isFree (slot s k .phase) ≡ false)
 unfolding lowestFree
-lowest-is s k = lowest-some (freeAt s) k
+full s = none-passes (freeAt s)
+
+pub none-givable : (s : Bridge) → (isNone (lowestGivable s) ≡ true) ↔ ((k : ℕ) → k < 4 → givable s k ≡ false)
+unfolding lowestGivable
+none-givable s = none-passes (givable s)
+
+lowest-is : (s : Bridge) (k : ℕ) → lowestGivable s ≡ some k → Lowest (givable s) k
+unfolding lowestGivable
+lowest-is s k = lowest-some (givable s) k
+
+-- each free slot rests
+all-resting : (s : Bridge) → (isNone (lowestGivable s) ≡ true) ↔ ((k : ℕ) → k < 4 → slot s k .phase ≡ free → rest s k ≢ 0)
+all-resting s = (
+  λ e k l z. free-resting s k (none-givable s .0 e k l) (ap isFree z),
+  λ f. none-givable s .1 (λ k l. go k l (cases (givable s k)) f),
+)
+  where
+    go : (k : ℕ) → k < 4 → (givable s k ≡ true) ⊎ (givable s k ≡ false) → ((k : ℕ) → k < 4 → slot s k .phase ≡ free → rest s k ≢ 0)
+        → givable s k ≡ false
+    go k l (inl e) f = absurd (f k l (free-phase (slot s k .phase) (givable-free s k e)) (givable-rested s k e))
+    go k l (inr e) f = e
 
 full-phases : (s : Bridge) → (isNone (lowestFree s) ≡ true) ↔ ((k : ℕ) → k < 4 → slot s k .phase ≢ free)
 full-phases s = (
@@ -115,6 +136,9 @@ opening-numbers s b a n = (λ e. h .0 (sym (number-is s b a) ∙ e), λ p. numbe
     Full : Type 0
     Full = (k : ℕ) → k < 4 → slot s k .phase ≢ free
 
+    Rests : Type 0
+    Rests = (k : ℕ) → k < 4 → slot s k .phase ≡ free → rest s k ≢ 0
+
     Used : Type 0
     Used = 4294967295 ≤ s .issued
 
@@ -125,10 +149,10 @@ opening-numbers s b a n = (λ e. h .0 (sym (number-is s b a) ∙ e), λ p. numbe
         flat = rw (if-orElse, if-orElse, zero-orElse)
 
         tests : ((11 if not (sound s) else 10 if not (rightLengths b) else afterLent s a) ≡ n) ↔ OpeningNumber s b a n
-        tests = first-if 11 (not (sound s)) _ n (sound s ≡ false) (First (¬ RightLengths b) 10 (AfterLent a Full Used)) (sound-test (sound s))
-            (λ y. first-if 10 (not (rightLengths b)) (afterLent s a) n (¬ RightLengths b) (AfterLent a Full Used)
+        tests = first-if 11 (not (sound s)) _ n (sound s ≡ false) (First (¬ RightLengths b) 10 (AfterLent a Full Rests Used)) (sound-test (sound s))
+            (λ y. first-if 10 (not (rightLengths b)) (afterLent s a) n (¬ RightLengths b) (AfterLent a Full Rests Used)
             (not-test (rightLengths b) (RightLengths b) (true-lengths b, lengths-true b))
-            (λ z. chain s a n Full Used (full-phases s) (λ u. u, λ u. u)))
+            (λ z. chain s a n Full Rests Used (full-phases s) (all-resting s) (λ u. u, λ u. u)))
 
 pub opens-exactly : OpensExactly
 unfolding step
@@ -148,14 +172,16 @@ opens-exactly s b a = (there, back)
           nonempty = omega (arith, o .law .some);
           few = o .law .few;
           inside = omega (arith, o .law .inside);
-          room = free-slot (option-cases (lowestFree s)) (o .slotted);
+          room = free-slot (option-cases (lowestGivable s)) (o .slotted);
           ticket = o .ticketed;
         }
       where
-        free-slot : (lowestFree s ≡ none) ⊎ ((k : ℕ) × (lowestFree s ≡ some k)) → isNone (lowestFree s) ≡ false
-            → (k : ℕ) × (k < 4) × (slot s k .phase ≡ free)
+        free-slot : (lowestGivable s ≡ none) ⊎ ((k : ℕ) × (lowestGivable s ≡ some k)) → isNone (lowestGivable s) ≡ false
+            → (k : ℕ) × (k < 4) × (slot s k .phase ≡ free) × (rest s k ≡ 0)
         free-slot (inl y) q = contradiction (ap isNone y) q
-        free-slot (inr (k, y)) q = let w = lowest-is s k y in (k, w .bound, free-phase (slot s k .phase) (w .passes))
+        free-slot (inr (k, y)) q =
+            let w = lowest-is s k y in
+            (k, w .bound, free-phase (slot s k .phase) (givable-free s k (w .passes)), givable-rested s k (w .passes))
 
     back : Acceptable s b a → openOf s b a .answer .number ≡ 0
     back c = opening-numbers s b a 0 .1 (inr (
@@ -168,7 +194,10 @@ opens-exactly s b a = (there, back)
             λ z. z (c .nonempty, c .few),
             inr (
               λ z. omega (arith, c .inside),
-              inr (λ z. z (c .room .0) (c .room .1) (c .room .2), inr (λ z. omega (arith, c .ticket), refl)),
+              inr (
+                λ z. z (c .room .0) (c .room .1) (c .room .2),
+                inr (λ z. z (c .room .0) (c .room .1) (c .room .2) (c .room .3), inr (λ z. omega (arith, c .ticket), refl)),
+              ),
             ),
           ),
         ),

@@ -12,7 +12,7 @@ use lib.Seq.{sets}
 use lib.Dec.{eqb}
 use Rattle.bus_rules.specs.Frames.{content}
 use Rattle.bus_rules.specs.Ident.{idOffset}
-use Rattle.bridge_rules.specs.State.{Frame, Bridge, Slot, blank, slot, isReady, isFree, lowestFree}
+use Rattle.bridge_rules.specs.State.{Frame, Bridge, Slot, blank, slot, isReady, isFree, lowestGivable}
 use Rattle.bridge_rules.specs.Answers.{Answer, Buffers, Result, both}
 use Rattle.bridge_rules.specs.Opening.{Ask, read, write, check, isWrite, isCheck, askGiven, toFirst, toSecond, opened}
 use Rattle.bridge_rules.specs.Turn.{aged, advanced, sentSlot, sentFrame, agedBridge, sendFor}
@@ -31,7 +31,7 @@ use Rattle.bridge_rules.proofs.KindTests.{KindGoes}
 use Rattle.bridge_rules.proofs.SoundTest.{Sound}
 use Rattle.bridge_rules.proofs.SoundStates.{slot-set-same, slot-set-other, slot-aged, aged-sound, fresh-slot}
 use Rattle.bridge_rules.proofs.CallCases.{CallCase, nothing, opens, sends, idles, takes, disagrees, closes, resets, SendsSlot, other-call}
-use Rattle.bridge_rules.proofs.CallCases.{readyAt, freeAt, openResult, takeResult, differResult, closeResult}
+use Rattle.bridge_rules.proofs.CallCases.{readyAt, freeAt, givable-free, openResult, takeResult, differResult, closeResult}
 
 -- ── the search's order ─────────────────────────────────────────────────────────────────────────────────────────────
 
@@ -130,7 +130,7 @@ module _ (s s′ : Bridge) (b b′ : Buffers) (c : Call) (a : Answer) (t : Bool)
   pub record OpensHere : Type 0 where
     pub ask : Ask
     pub call : c ≡ opening itsOwn ask
-    pub found : lowestFree s ≡ some k
+    pub found : lowestGivable s ≡ some k
     pub free : isFree (slot s k .phase) ≡ true
     pub number : a .number ≡ 0
 
@@ -255,7 +255,7 @@ module _ (s : Bridge) (b : Buffers) (c : Call) (h : Sound s) (k : ℕ) (l : k < 
         ask = u .ask;
         call = u .call;
         found = u .found ∙ ap some p;
-        free = ap (freeAt s) (sym p) ∙ u .lowest .passes;
+        free = ap (freeAt s) (sym p) ∙ givable-free s (u .k) (u .lowest .passes);
         number = rw (u .result);
       })
       go (no p) = keeps (unchanged (record {

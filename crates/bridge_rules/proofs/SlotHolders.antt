@@ -9,19 +9,19 @@ use native.Mathlib.Decide.{ℕ-discrete, decLt}
 use lib.Dec.{ltb, eqb}
 use borrow.Author.Tests.{eqb-true, not-true}
 use Rattle.wire.specs.Order.{_if_else_}
-use Rattle.bridge_rules.specs.State.{Frame, Bridge, Slot, free, blank, slot, fresh, isFree, isWaiting, lowestFree, heldSlot, sound}
+use Rattle.bridge_rules.specs.State.{Frame, Bridge, Slot, free, blank, slot, fresh, isFree, isWaiting, givable, lowestGivable, heldSlot, sound}
 use Rattle.bridge_rules.specs.Answers.{Buffers, Result}
 use Rattle.bridge_rules.specs.Turn.{aged, sentFrame, agedBridge, sendFor}
 use Rattle.bridge_rules.specs.Ending.{closeNumber, closeOf, resetOf, resetNumber}
 use Rattle.bridge_rules.specs.Call.{Call, itsOwn, close, reset, step}
 use Rattle.bridge_rules.specs.Run.{ledger, Run, storage, state, buffers, answer, Lawful, Transfer, ticket, slotOf, Closing, Stands, accepted, isTurn}
-use Rattle.bridge_rules.specs.Demand3.{Places}
+use Rattle.bridge_rules.specs.Demand3.{HeldAt}
 use Rattle.bridge_rules.proofs.Search.{some-eq, none-some, cases, contradiction, Lowest, lowest-some, and-true, option-cases}
 use Rattle.bridge_rules.proofs.SlotOk.{ReadyOk, ready-ok, held-free}
 use Rattle.bridge_rules.proofs.SlotChanges.{aged-other, aged-same}
 use Rattle.bridge_rules.proofs.SoundTest.{Sound, sound-true}
 use Rattle.bridge_rules.proofs.SoundStates.{slot-set-same, slot-aged, aged-sound, fresh-slot}
-use Rattle.bridge_rules.proofs.CallCases.{CallCase, nothing, opens, sends, idles, takes, disagrees, closes, resets, heldBy, freeAt, closeResult}
+use Rattle.bridge_rules.proofs.CallCases.{CallCase, nothing, opens, sends, idles, takes, disagrees, closes, resets, heldBy, givable-free, closeResult}
 use Rattle.bridge_rules.proofs.SlotEffects.{unchanged, ages, served, taken, disagreed, keeps, opensHere, closesHere, resetsHere}
 use Rattle.bridge_rules.proofs.SoundRuns.{storage-sound, caseAt, EffectAt, effectAt}
 use Rattle.bridge_rules.proofs.LedgerAgrees.{agrees, lowest-agrees}
@@ -56,10 +56,7 @@ module _ (r : Run) (w : Lawful r) where
       ∙ reset-is (state r n) (buffers r n) o (sym (ap (λ (d : Call). step (state r n) (buffers r n) d .answer .number) c) ∙ e) in
       ap (λ (y : Slot). isFree (y .phase)) (ap (λ (z : Bridge). slot z (slotOf r x)) st ∙ fresh-slot o (slotOf r x))
 
-  abbrev Occupied : ℕ → ℕ → Type 0
-  Occupied n k = (y : Transfer r) × Stands r y n × (slotOf r y ≡ k)
-
-  goes-on : (n k : ℕ) → isFree (slot (state r (suc n)) k .phase) ≡ false → Occupied n k → Occupied (suc n) k
+  goes-on : (n k : ℕ) → isFree (slot (state r (suc n)) k .phase) ≡ false → HeldAt r k n → HeldAt r k (suc n)
   goes-on n k f (y, s, e) = (y, (omega (arith, s .0), λ m a b. stay m a b (ℕ-discrete m n)), e)
     where
       stay : (m : ℕ) → y .at < m → m < suc n → Dec (m ≡ n) → ¬ Closing r y m
@@ -70,21 +67,21 @@ module _ (r : Run) (w : Lawful r) where
   free-ages : (y : Slot) → isFree (y .phase) ≡ true → aged y ≡ y
   free-ages y e = aged-other y (ap isWaiting (eqb-true (y .phase) free e))
 
-  pub occupied : (n k : ℕ) → k < 4 → isFree (slot (state r n) k .phase) ≡ false → Occupied n k
-  unfolding storage slotOf lowestFree
+  pub occupied : (n k : ℕ) → k < 4 → isFree (slot (state r n) k .phase) ≡ false → HeldAt r k n
+  unfolding storage slotOf lowestGivable
   occupied zero k l f = contradiction (ap (λ (y : Slot). isFree (y .phase)) (fresh-slot (r .own) k)) f
   occupied (suc n) k l f = go (occupied n k l) (effectAt r w n k l) (cases (isFree (slot (state r n) k .phase)))
     where
       -- it was not free before
-      was-free : slot (state r (suc n)) k ≡ slot (state r n) k → isFree (slot (state r n) k .phase) ≡ true → Occupied (suc n) k
+      was-free : slot (state r (suc n)) k ≡ slot (state r n) k → isFree (slot (state r n) k .phase) ≡ true → HeldAt r k (suc n)
       was-free e q = contradiction (ap (λ (y : Slot). isFree (y .phase)) e ∙ q) f
 
       -- a call that leaves it free
-      freed : slot (state r (suc n)) k ≡ blank → Occupied (suc n) k
+      freed : slot (state r (suc n)) k ≡ blank → HeldAt r k (suc n)
       freed e = contradiction (ap (λ (y : Slot). isFree (y .phase)) e) f
 
-      go : (isFree (slot (state r n) k .phase) ≡ false → Occupied n k) → EffectAt r n k
-          → (isFree (slot (state r n) k .phase) ≡ true) ⊎ (isFree (slot (state r n) k .phase) ≡ false) → Occupied (suc n) k
+      go : (isFree (slot (state r n) k .phase) ≡ false → HeldAt r k n) → EffectAt r n k
+          → (isFree (slot (state r n) k .phase) ≡ true) ⊎ (isFree (slot (state r n) k .phase) ≡ false) → HeldAt r k (suc n)
       go ih e (inr q) = goes-on n k f (ih q)
       go ih (keeps (unchanged u)) (inl q) = was-free (u .after) q
       go ih (keeps (ages u)) (inl q) = was-free (u .after ∙ free-ages (slot (state r n) k) q) q
@@ -95,28 +92,22 @@ module _ (r : Run) (w : Lawful r) where
       go ih (opensHere u) (inl q) = (
         record { at = n; lent = itsOwn; ask = u .ask; call = u .call; accepted = u .number },
         (omega arith, λ t a b. absurd (omega arith)),
-        lowest-agrees (ledger r n) (state r n) k (storage-sound r w n .0) (agrees r w n) (lowest-some (freeAt (state r n)) k (u .found)),
+        lowest-agrees (ledger r n) (state r n) k (storage-sound r w n .0) (agrees r w n) (lowest-some (givable (state r n)) k (u .found)),
       )
       go ih (closesHere u) (inl q) = freed (u .after)
       go ih (resetsHere u) (inl q) = freed (u .after)
 
-  pub places : (x : Transfer r) → Places r x
-  places x = record {
-    bound = openedAt r w x .bound;
-    apart = λ y s e. contradiction (lw .passes)
-        (subst (λ (k : ℕ). isFree (slot (state r (x .at)) k .phase) ≡ false) e (held-slot r w y (x .at) s));
-    lowest = λ k l. occupied (x .at) k (omega (arith, lw .bound)) (lw .below k l);
-  }
-    where
-      lw : Lowest (freeAt (state r (x .at))) (slotOf r x)
-      lw = openedAt r w x .lowest
+  -- no transfer that stood at an opening had the slot that it takes
+  pub apart : (x y : Transfer r) → Stands r y (x .at) → slotOf r y ≢ slotOf r x
+  apart x y s e = contradiction (givable-free (state r (x .at)) (slotOf r x) (openedAt r w x .lowest .passes))
+      (subst (λ (k : ℕ). isFree (slot (state r (x .at)) k .phase) ≡ false) e (held-slot r w y (x .at) s))
 
   -- two transfers that stand at once in one slot were opened by one call
   pub same-slot : (x y : Transfer r) (n : ℕ) → Stands r x n → Stands r y n → slotOf r x ≡ slotOf r y → x .at ≡ y .at
   same-slot x y n s t e = go (decLt (x .at) (y .at)) (decLt (y .at) (x .at))
     where
       before : (a b : Transfer r) → a .at < b .at → Stands r a n → Stands r b n → slotOf r a ≡ slotOf r b → ⊥
-      before a b l sa sb q = places b .apart a (l, λ m u v. sa .1 m u (omega (arith, sb .0))) q
+      before a b l sa sb q = apart b a (l, λ m u v. sa .1 m u (omega (arith, sb .0))) q
 
       go : Dec (x .at < y .at) → Dec (y .at < x .at) → x .at ≡ y .at
       go (yes p) q = absurd (before x y p s t e)
@@ -141,7 +132,7 @@ module _ (r : Run) (w : Lawful r) where
   has-holder n t k z =
       let l : Lowest (heldBy (state r n) t) k = lowest-some (heldBy (state r n) t) k z in
       let p = and-true (not (isFree (slot (state r n) k .phase))) (eqb (slot (state r n) k .ticket) t) (l .passes) in
-      let o : Occupied n k = occupied n k (l .bound) (not-true _ (p .0)) in (
+      let o : HeldAt r k n = occupied n k (l .bound) (not-true _ (p .0)) in (
         o .0,
         o .1,
         sym (held r w (o .0) n (o .1) .ticket) ∙ ap (λ (i : ℕ). slot (state r n) i .ticket) (o .2) ∙ eqb-true _ t (p .1),
@@ -199,7 +190,7 @@ module _ (r : Run) (w : Lawful r) where
           sent = some-eq (sym q ∙ ap (λ (v : Result). v .answer .sent) (u .result))
               ∙ ap (λ (x : Slot). sentFrame (state r j .own) (u .k) x (buffers r j)) (slot-aged (state r j) (u .k))
 
-          from-slot : Occupied j (u .k) → Sender j f
+          from-slot : HeldAt r (u .k) j → Sender j f
           from-slot (y, t, i) = record {
             y = y;
             stands = t;

@@ -1,13 +1,14 @@
 -- The test `sound` passes exactly where 01's sentence on a sound state holds.
 use Prim.Native.Nat.{ℕ, _≤_, _<_}
 use mathlib.Core.Path.{_≡_, refl, ap}
-use mathlib.Core.Logic.{_⊎_, inl, inr, _≢_}
+use mathlib.Core.Logic.{_↔_, _⊎_, inl, inr, _≢_}
 use mathlib.Core.Bool.{Bool, true, false}
 use native.Mathlib.Omega.{arith}
 use native.Mathlib.Decide.{ℕ-discrete}
+use lib.ListN.{getD}
 use lib.Dec.{eqb}
 use borrow.Author.Tests.{ne-eqb}
-use Rattle.bridge_rules.specs.State.{Bridge, Slot, free, ready, waiting, done, gaveUp, different, reads, writes, checks, readsBack, blank, slot}
+use Rattle.bridge_rules.specs.State.{Bridge, Slot, free, ready, waiting, done, gaveUp, different, reads, writes, checks, readsBack, blank, slot, rest}
 use Rattle.bridge_rules.specs.State.{isFree, isReady, isWaiting, asks, carries, checking}
 use Rattle.bridge_rules.specs.Sound.{AllZero, SoundHeld, SoundState, SoundExactly}
 use Rattle.bridge_rules.proofs.KindTests.{KnownKind, one-kind, asks-kinds, kinds-ask, carries-kinds, kinds-carry}
@@ -223,6 +224,11 @@ module _ (t : ℕ) (x : Slot) (h : SoundHeld t x) where
 
 -- ── states ─────────────────────────────────────────────────────────────────────────────────────────────────────────
 
+-- rests by their place in the list
+rests-facts : (s : Bridge) → ((k : ℕ) → k < 4 → rest s k ≤ 60) ↔ ((k : ℕ) → k < 4 → getD (s .rests) k 0 ≤ 60)
+unfolding rest
+rests-facts s = (λ h. h, λ h. h)
+
 facts-sentence : (s : Bridge) → Sound s → SoundState s
 facts-sentence s h = record {
   own = h .own;
@@ -230,7 +236,9 @@ facts-sentence s h = record {
   held = λ k l p. held-sentence (s .issued) (slot s k) p (h .each k l) (h .given k l);
   distinct = λ k j l m d p q. h .apart k j l m d (has-ticket (slot s k) (h .each k l) (ne-eqb (slot s k .phase) free p));
   unheld = λ k l p. blank-zero (slot s k) (free-ok (slot s k) (h .each k l) (ap isFree p));
+  rests = rests-facts s .1 (h .rests .1);
   four = h .four;
+  fourRests = h .rests .0;
   issued = h .issued;
 }
 
@@ -240,6 +248,7 @@ sentence-facts s h = record {
   last = h .last;
   issued = h .issued;
   four = h .four;
+  rests = (h .fourRests, rests-facts s .0 (h .rests));
   each = λ k l. each k l (ℕ-discrete (slot s k .phase) free);
   given = λ k l. given k l (ℕ-discrete (slot s k .phase) free);
   apart = λ k j l m d p z. h .distinct k j l m d (taken k l p) (taken j m (omega (arith, p, z))) z;

@@ -11,17 +11,22 @@ use lib.Dec.{leb, ltb, eqb}
 use borrow.Author.Tests.{not-true, eqb-true, eqb-false, ne-eqb, eq-eqb, lt-ltb, le-leb, ltb-true, leb-true}
 use Rattle.bridge_rules.specs.State.{Bridge, Slot, free, ready, waiting, done, gaveUp, different, isZero, isFree, blank, slot, partway, askNumber}
 use Rattle.bridge_rules.specs.State.{asks, carries, checking, compares}
-use Rattle.bridge_rules.specs.State.{soundPhase, soundSlot, soundSlots, absent, distinct, sound}
+use Rattle.bridge_rules.specs.State.{soundPhase, soundSlot, soundSlots, soundRests, absent, distinct, sound}
 use Rattle.bridge_rules.proofs.KindTests.{KnownKind, carries-only, known-tested, tested-known}
 use Rattle.bridge_rules.proofs.NumberLaws.{args-lawful, args-clear}
 use Rattle.bridge_rules.proofs.Search.{and-intro, and-true, contradiction}
 use Rattle.bridge_rules.proofs.SlotOk.{HeldOk, Partway, SlotOk, okFree, okReady, okWaiting, okDone, okGaveUp, okDifferent, ticket-eq}
+
+-- four slots' turns left to rest, each at most 60
+abbrev pub RestsOk : List ℕ → Type 0
+RestsOk l = (length l ≡ 4) × ((k : ℕ) → k < 4 → getD l k 0 ≤ 60)
 
 pub record Sound (s : Bridge) : Type 0 where
   pub own : s .own ≤ 15
   pub last : s .last ≤ 3
   pub issued : s .issued ≤ 4294967295
   pub four : length (s .slots) ≡ 4
+  pub rests : RestsOk (s .rests)
   pub each : (k : ℕ) → k < 4 → SlotOk (slot s k)
   pub given : (k : ℕ) → k < 4 → slot s k .ticket ≤ s .issued
   pub apart : (k j : ℕ) → k < 4 → j < 4 → k ≢ j → 0 < slot s k .ticket → slot s k .ticket ≢ slot s j .ticket
@@ -126,6 +131,12 @@ distinct-true (x ∷ xs) h = and-intro (absent (x .ticket) xs) (distinct xs) (go
     go (yes p) = absent-zero (x .ticket) xs (omega arith)
     go (no p) = absent-true (x .ticket) xs (omega arith) (λ k l. h 0 (suc k) (omega arith) (omega arith) (λ z. omega arith) (omega arith))
 
+rests-true : (l : List ℕ) → ((k : ℕ) → k < length l → getD l k 0 ≤ 60) → soundRests l ≡ true
+unfolding soundRests
+rests-true [] h = refl
+rests-true (n ∷ ns) h =
+    and-intro (leb n 60) (soundRests ns) (le-leb n 60 (h 0 (omega arith))) (rests-true ns (λ k l. h (suc k) (omega arith)))
+
 pub sound-true : (s : Bridge) → Sound s → sound s ≡ true
 unfolding sound slot
 sound-true s h =
@@ -134,6 +145,8 @@ sound-true s h =
       le-leb (s .last) 3 (h .last),
       le-leb (s .issued) 4294967295 (h .issued),
       eq-eqb (length (s .slots)) 4 (h .four),
+      eq-eqb (length (s .rests)) 4 (h .rests .0),
+      rests-true (s .rests) (λ k l. h .rests .1 k (omega (arith, h .rests .0))),
       slots-true (s .issued) (s .slots) (λ k l. (h .each k (omega (arith, h .four)), h .given k (omega (arith, h .four)))),
       distinct-true (s .slots) (λ k j l m. h .apart k j (omega (arith, h .four)) (omega (arith, h .four))),
     )
@@ -364,20 +377,30 @@ true-distinct (x ∷ xs) h (suc k) zero a b d p =
 true-distinct (x ∷ xs) h (suc k) (suc j) a b d p =
     true-distinct xs (and-true (absent (x .ticket) xs) (distinct xs) h .1) k j (omega arith) (omega arith) (λ z. d (ap suc z)) p
 
+true-rests : (l : List ℕ) → soundRests l ≡ true → (k : ℕ) → k < length l → getD l k 0 ≤ 60
+unfolding soundRests
+true-rests [] h k l = absurd (omega arith)
+true-rests (n ∷ ns) h zero l = leb-true n 60 (and-true (leb n 60) (soundRests ns) h .0)
+true-rests (n ∷ ns) h (suc k) l = true-rests ns (and-true (leb n 60) (soundRests ns) h .1) k (omega arith)
+
 pub true-sound : (s : Bridge) → sound s ≡ true → Sound s
 unfolding sound slot
 true-sound s h =
     let a1 = and-true _ (distinct (s .slots)) h in
     let a2 = and-true _ (soundSlots (s .issued) (s .slots)) (a1 .0) in
-    let a3 = and-true _ (eqb (length (s .slots)) 4) (a2 .0) in
-    let a4 = and-true _ (leb (s .issued) 4294967295) (a3 .0) in
-    let a5 = and-true (leb (s .own) 15) (leb (s .last) 3) (a4 .0) in
-    let four : length (s .slots) ≡ 4 = eqb-true _ 4 (a3 .1) in
+    let a3 = and-true _ (soundRests (s .rests)) (a2 .0) in
+    let a4 = and-true _ (eqb (length (s .rests)) 4) (a3 .0) in
+    let a5 = and-true _ (eqb (length (s .slots)) 4) (a4 .0) in
+    let a6 = and-true _ (leb (s .issued) 4294967295) (a5 .0) in
+    let a7 = and-true (leb (s .own) 15) (leb (s .last) 3) (a6 .0) in
+    let four : length (s .slots) ≡ 4 = eqb-true _ 4 (a5 .1) in
+    let fourRests : length (s .rests) ≡ 4 = eqb-true _ 4 (a4 .1) in
     record {
-      own = leb-true _ _ (a5 .0);
-      last = leb-true _ _ (a5 .1);
-      issued = leb-true _ _ (a4 .1);
+      own = leb-true _ _ (a7 .0);
+      last = leb-true _ _ (a7 .1);
+      issued = leb-true _ _ (a6 .1);
       four = four;
+      rests = (fourRests, λ k l. true-rests (s .rests) (a3 .1) k (omega arith));
       each = λ k l. true-slots (s .issued) (s .slots) (a2 .1) k (omega arith) .0;
       given = λ k l. true-slots (s .issued) (s .slots) (a2 .1) k (omega arith) .1;
       apart = λ k j l m d p. true-distinct (s .slots) (a1 .1) k j (omega arith) (omega arith) d p;

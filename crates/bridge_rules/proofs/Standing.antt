@@ -8,7 +8,7 @@ use native.Mathlib.Decide.{ℕ-discrete}
 use lib.ListN.{set}
 use lib.Dec.{eqb}
 use borrow.Author.Tests.{eq-eqb}
-use Rattle.bridge_rules.specs.State.{Slot, slot, ready, done, isFree}
+use Rattle.bridge_rules.specs.State.{Slot, slot, ready, done, isFree, givable}
 use Rattle.bridge_rules.specs.Answers.{Result}
 use Rattle.bridge_rules.specs.Opening.{askDevice, askTable, askOffset, askCount, withGiven, opened}
 use Rattle.bridge_rules.specs.Call.{close}
@@ -20,7 +20,7 @@ use Rattle.bridge_rules.proofs.SlotOk.{held-free, no-ticket, ticket-eq}
 use Rattle.bridge_rules.proofs.KindTests.{KindFits, KindGoes, asked-fits, fits-goes}
 use Rattle.bridge_rules.proofs.SlotChanges.{Same, Aging, aging}
 use Rattle.bridge_rules.proofs.SoundStates.{slot-set-same}
-use Rattle.bridge_rules.proofs.CallCases.{CallCase, nothing, opens, sends, idles, takes, disagrees, closes, resets, freeAt, isNoted, other-call}
+use Rattle.bridge_rules.proofs.CallCases.{CallCase, nothing, opens, sends, idles, takes, disagrees, closes, resets, isNoted, other-call}
 use Rattle.bridge_rules.proofs.SlotEffects.{keeps, opensHere, closesHere, resetsHere, change-same, change-kind}
 use Rattle.bridge_rules.proofs.SoundRuns.{storage-sound, caseAt, ChangeAt, EffectAt, effectAt}
 use Rattle.bridge_rules.proofs.LedgerAgrees.{agrees, lowest-agrees}
@@ -31,7 +31,7 @@ pub record Opened (r : Run) (x : Transfer r) : Type 0 where
   pub bound : slotOf r x < 4
   pub law : LawfulAsk (x .ask)
   pub ticketed : ticket r x ≡ suc (state r (x .at) .issued)
-  pub lowest : Lowest (freeAt (state r (x .at))) (slotOf r x)
+  pub lowest : Lowest (givable (state r (x .at))) (slotOf r x)
   pub slot : slot (state r (suc (x .at))) (slotOf r x) ≡ opened (x .ask) (ticket r x)
   pub given : buffers r (suc (x .at)) ≡ withGiven (buffers r (x .at)) (slotOf r x) (x .ask)
 

@@ -6,9 +6,10 @@ use mathlib.Core.List.{List}
 use mathlib.Core.Option.{some}
 use mathlib.Core.Bool.{true, false}
 use native.Mathlib.Omega.{arith}
+use native.Mathlib.Decide.{ℕ-discrete, decLt}
 use lib.ListN.{length, take, drop}
 use lib.Seq.{take-length}
-use Rattle.bus_rules.specs.Frames.{cmd, req, rsp, frameWith, content}
+use Rattle.bus_rules.specs.Frames.{req, rsp, frameWith, content}
 use Rattle.bus_rules.specs.Device.{Device, ownOf, rangeOf}
 use Rattle.bus_rules.specs.Holder.{requestAt, tableOf, answerWith, serveOf}
 use Rattle.bus_rules.specs.Ident.{idOf, idOffset, idKind, idFrom, idTable}
@@ -19,22 +20,25 @@ use Rattle.bridge_rules.specs.Opening.{isRead, isCheck, askDevice, askTa
 use Rattle.bridge_rules.specs.Turn.{aged, sentFrame, chunkLen}
 use Rattle.bridge_rules.specs.Incoming.{contentNumber}
 use Rattle.bridge_rules.specs.Call.{opening}
-use Rattle.bridge_rules.specs.Run.{Run, state, buffers, Lawful, Transfer, slotOf, Stands, chunks, lenOf, shownAt, Done}
+use Rattle.bridge_rules.specs.Run.{Run, state, buffers, Lawful, Transfer, slotOf, Stands}
+use Rattle.bridge_rules.specs.Run.{chunks, lenOf, isTurn, accepted, turns, Resetting, shownAt, Done}
 use Rattle.bridge_rules.specs.Replies.{given, Sent, Replied}
-use Rattle.bridge_rules.specs.Device.{Arrives, Timeline, range, Own, NotAfter, Meanwhile, Arrivals, Unwritten, Premises}
+use Rattle.bridge_rules.specs.Device.{Arrives, Timeline, range, Own, Prompt, NotAfter, Meanwhile, Arrivals, Unwritten, Premises}
 use Rattle.bridge_rules.specs.Demand3.{join, brought, showing}
 use Rattle.bridge_rules.specs.Corollaries.{SinceTaken}
-use Rattle.bridge_rules.proofs.KindTests.{asks-not-write}
-use Rattle.bus_rules.proofs.IdentLaws.{offset-of-id, kind-of-id, table-of-id}
+use Rattle.bus_rules.proofs.IdentLaws.{offset-of-id, table-of-id}
 use Rattle.bus_rules.proofs.Ranges.{range-part, range-whole, range-short}
 use Rattle.bus_rules.proofs.Replies.{command-unanswered, request-answered, answerer-own, answerer-unchanged, request-read}
 use Rattle.bridge_rules.proofs.FrameLaws.{len-eight, len-inside, id-of, content-of, read-is}
-use Rattle.bridge_rules.proofs.FrameLaws.{write-is}
+use Rattle.bridge_rules.proofs.RequestSlots.{asked-kind, carried-kind}
+use Rattle.bridge_rules.proofs.Search.{contradiction, and-true}
+use Rattle.bridge_rules.proofs.TurnCounts.{turns-mono}
+use Rattle.bridge_rules.proofs.RestedSlots.{sender-sent, ResetBetween, before-opening}
 use Rattle.bridge_rules.proofs.SlotOk.{ReadyOk}
-use Rattle.bridge_rules.proofs.SlotChanges.{Same, aged-same, aged-kind}
+use Rattle.bridge_rules.proofs.SlotChanges.{Same, aged-same}
 use Rattle.bridge_rules.proofs.SoundRuns.{storage-sound}
 use Rattle.bridge_rules.proofs.LedgerAgrees.{own-is}
-use Rattle.bridge_rules.proofs.Standing.{slotAt, Held, held, openedAt}
+use Rattle.bridge_rules.proofs.Standing.{slotAt, Held, held, openedAt, stands-back}
 use Rattle.bridge_rules.proofs.Status.{done-is}
 use Rattle.bridge_rules.proofs.SentRequests.{sends-request, same-place, chunk-small}
 use Rattle.bridge_rules.proofs.Matching.{MatchesOk, matches-ok}
@@ -42,6 +46,10 @@ use Rattle.bridge_rules.proofs.AskedSoFar.{AskedSoFar, Got}
 use Rattle.bridge_rules.proofs.ShownBytes.{join-all, shown-part, shown-done, all-got}
 use Rattle.bridge_rules.proofs.SlotHolders.{same-slot, Sender, sender}
 use Rattle.bridge_rules.proofs.AskTests.{given-count, check-not-read}
+
+opening-no-turn : (r : Run) (x : Transfer r) → ¬ (accepted r (x .at) ≡ true)
+unfolding accepted
+opening-no-turn r x a = contradiction (and-true _ _ a .0) (ap isTurn (x .call))
 
 from-small : (id : ℕ) → idFrom id ≤ 15
 unfolding idFrom
@@ -93,8 +101,7 @@ answered d own k y b g kb o r u e = record {
         (len-eight (y .count) (y .progress)) (omega (arith, r .partway .at))
 
     kind : idKind (q .id) ≡ req
-    kind = ap idKind (id-of _ _)
-        ∙ kind-of-id (y .offset + y .progress) req own (y .device) (y .table) low (omega arith) own< device< table<
+    kind = ap (λ (f : Frame). idKind (f .id)) (sym (read-is own k y b u)) ∙ asked-kind own k y b r o u
 
     gq : g ≡ frameWith (idOf (requestAt q 0 .offset) rsp (ownOf d) (idFrom (q .id)) (requestAt q 0 .table))
         (rangeOf d (tableOf q) (idOffset (q .id)) (requestAt q 0 .count))
@@ -113,23 +120,44 @@ whole-range : (r : Run) (x : Transfer r) (d : Device) → take (askCount (x .ask
 unfolding range
 whole-range r x d = range-whole d (askTable (x .ask)) (askOffset (x .ask)) (askCount (x .ask))
 
-module _ (r : Run) (w : Lawful r) (x : Transfer r) (n : ℕ) (t : Timeline) (pre : Arrivals r x n t) where
-  -- a reply that was taken arrived under the device's number
-  arrives : (c m : ℕ) → m < n → (p : Replied r x c m) → Arrives r x n m (matches-ok r w x c m (p .matches) .0)
-  arrives c m l p =
-      let f = matches-ok r w x c m (p .matches) in
-      record {
-        since = p .awaits .stands .0;
-        c = c;
-        m′ = m;
-        before = l;
-        last = p;
-        until = omega arith;
-        call = f .1 .is;
-        passes = ap (λ (o : ℕ). contentNumber o (f .0)) (own-is r w m) ∙ f .1 .passes;
-        device = f .1 .device;
-      }
+-- what is used of the premises on what arrives: a reply is the device's own, in time, and no reset came between its request and its arrival
+pub record Timely (r : Run) (x : Transfer r) (n : ℕ) (t : Timeline) : Type 0 where
+  pub own : (m : ℕ) (f : Frame) → Arrives r x n m f → Own r t m f
+  pub prompt : Prompt r x n t
+  pub unreset : (m : ℕ) (f : Frame) → Arrives r x n m f → (y : Transfer r) (c : ℕ) → Sent r y c (t .asked m)
+      → (q : ℕ) → t .asked m < q → q < m → ¬ Resetting r q
 
+-- the premise on resets allows none between a request and a reply that comes in time
+pub timely : (r : Run) (x : Transfer r) (n : ℕ) (t : Timeline) → Arrivals r x n t → Timely r x n t
+timely r x n t a = record {
+  own = a .own;
+  prompt = a .prompt;
+  unreset = λ m f h y c s q l b z. omega (
+    arith,
+    a .quiet q (omega (arith, b, h .until, h .before)) z y c (t .asked m) l s,
+    a .prompt m f h,
+    turns-mono r (t .asked m) q m (omega (arith, b)),
+  );
+}
+
+-- a reply that was taken arrived under the device's number
+pub arrives : (r : Run) (w : Lawful r) (x : Transfer r) (n c m : ℕ) → m < n → (p : Replied r x c m)
+    → Arrives r x n m (matches-ok r w x c m (p .matches) .0)
+arrives r w x n c m l p =
+    let f = matches-ok r w x c m (p .matches) in
+    record {
+      since = p .awaits .stands .0;
+      c = c;
+      m′ = m;
+      before = l;
+      last = p;
+      until = omega arith;
+      call = f .1 .is;
+      passes = ap (λ (o : ℕ). contentNumber o (f .0)) (own-is r w m) ∙ f .1 .passes;
+      device = f .1 .device;
+    }
+
+module _ (r : Run) (w : Lawful r) (x : Transfer r) (n : ℕ) (t : Timeline) (pre : Timely r x n t) where
   -- it answers a request of this read, and holds the bytes of its chunk in the device's memory when it answered
   record Answers (c m : ℕ) : Type 0 where
     sent : Sent r x c (t .asked m)
@@ -145,7 +173,7 @@ module _ (r : Run) (w : Lawful r) (x : Transfer r) (n : ℕ) (t : Timeline) (pre
       fo = matches-ok r w x c m (p .matches)
 
       ow : Own r t m (fo .0)
-      ow = pre .own m (fo .0) (arrives c m l p)
+      ow = pre .own m (fo .0) (arrives r w x n c m l p)
 
       j : ℕ
       j = t .asked m
@@ -180,10 +208,7 @@ module _ (r : Run) (w : Lawful r) (x : Transfer r) (n : ℕ) (t : Timeline) (pre
       kinds : (carries (aged (slotAt r y j) .kind) ≡ true) ⊎ (asks (aged (slotAt r y j) .kind) ≡ true)
           → Answers c m
       kinds (inl u) = absurd (command-unanswered d (sentFrame (state r j .own) (slotOf r y) (aged (slotAt r y j)) (buffers r j)) (ow .reply)
-          sv (ap (λ (f : Frame). idKind (f .id)) (write-is (state r j .own) (slotOf r y) (aged (slotAt r y j)) (buffers r j) u)
-          ∙ ap idKind (id-of _ _)
-          ∙ kind-of-id _ cmd _ _ _ (omega (arith, k .partway .below, k .held .args .inside)) (omega arith) (omega (arith, ownS))
-          (omega (arith, k .held .args .device)) (omega (arith, k .held .args .table))))
+          sv (carried-kind (state r j .own) (slotOf r y) (aged (slotAt r y j)) (buffers r j) k ownS u))
       kinds (inr u) = record {
         sent = record {
           stands = (omega (arith, at, sd .stands .0), λ i a b. p .awaits .stands .1 i a (omega (arith, ow .earlier)));
@@ -202,25 +227,33 @@ module _ (r : Run) (w : Lawful r) (x : Transfer r) (n : ℕ) (t : Timeline) (pre
               (openedAt r w y .bound) ownS k u sv
 
           sent : Sent r y (k .partway .chunk) j
-          sent = record {
-            stands = sd .stands;
-            asks = asks-not-write (y .ask) (slotAt r y j .kind) (h .kind) (sym (ap asks (aged-kind (slotAt r y j))) ∙ u);
-            chunk = omega (arith, k .partway .at, k .partway .below, sa .count, h .count);
-            turned = ow .turned;
-            yields = ow .yields ∙ ap some (sd .is ∙ sends-request r w y (k .partway .chunk) j (aged (slotAt r y j)) u (k .partway .at)
-                (sa .device ∙ h .device) (sa .table ∙ h .table) (sa .offset ∙ h .offset) (sa .count ∙ h .count));
-          }
+          sent = sender-sent r w j (ow .request) (ow .turned) (ow .yields) sd u
 
           sp : (slotOf r y ≡ slotOf r x) × (k .partway .chunk ≡ c)
           sp = same-place (slotOf r y) (aged (slotAt r y j) .progress) (k .partway .chunk) (slotOf r x) c (k .partway .at)
               (omega (arith, k .partway .at, k .partway .below, k .held .args .few)) (sm .1)
               (ap (λ (b : ℕ). b / 8) (sym (an .offset) ∙ ap idOffset (sym (ow .sameId)) ∙ fo .1 .place))
 
+          -- a request that was sent before the read was opened is answered too late, or a reset came between
+          too-late : j < x .at → ⊥
+          too-late q = go (before-opening r w x y (k .partway .chunk) j sent (sp .0) q)
+            where
+              go : (60 ≤ turns r j (x .at)) ⊎ ResetBetween r w j (x .at) → ⊥
+              go (inl t) =
+                  omega (arith, t, pre .prompt m (fo .0) (arrives r w x n c m l p), turns-mono r j (x .at) m (omega (arith, p .awaits .stands .0)))
+              go (inr (i, a, b, z)) =
+                  pre .unreset m (fo .0) (arrives r w x n c m l p) y (k .partway .chunk) sent i a (omega (arith, b, p .awaits .stands .0)) z
+
           progress : aged (slotAt r y j) .progress ≡ 8 * c
           progress = k .partway .at ∙ ap (λ (b : ℕ). 8 * b) (sp .1)
 
           at : x .at ≡ y .at
-          at = same-slot r w x y m (p .awaits .stands) (pre .current m (fo .0) (arrives c m l p) y (k .partway .chunk) sent) (sym (sp .0))
+          at = go (decLt (x .at) j) (ℕ-discrete (x .at) j)
+            where
+              go : Dec (x .at < j) → Dec (x .at ≡ j) → x .at ≡ y .at
+              go (yes q) e = same-slot r w x y j (stands-back r w x j m (p .awaits .stands) q (omega (arith, ow .earlier))) (sd .stands) (sym (sp .0))
+              go (no q) (yes e) = absurd (opening-no-turn r x (rw e (ow .turned)))
+              go (no q) (no e) = absurd (too-late (omega arith))
 
           ask : y .ask ≡ x .ask
           ask = let z : opening (y .lent) (y .ask) ≡ opening (x .lent) (x .ask) = sym (y .call) ∙ ap (r .calls) (sym at) ∙ x .call in cc
@@ -261,7 +294,7 @@ module _ (r : Run) (w : Lawful r) (x : Transfer r) (n : ℕ) (t : Timeline) (pre
     unfolding chunk
     same c q =
         let gt : Got r x c n = all-got r w x n s p dn c q in
-        let ow : Own r t (gt .m) _ = pre .own (gt .m) _ (arrives c (gt .m) (gt .before) (gt .replied)) in
+        let ow : Own r t (gt .m) _ = pre .own (gt .m) _ (arrives r w x n c (gt .m) (gt .before) (gt .replied)) in
         ap (λ (l : List ℕ). take (lenOf r x c) (drop (8 * c) l))
         (un .unchanged τ (t .answered (gt .m)) mw (covers c (gt .m) (gt .before) (gt .replied) (ow .untilArrived)))
         ∙ sym (answers c (gt .m) (gt .before) (gt .replied) .bytes)
@@ -303,7 +336,7 @@ module _ (r : Run) (w : Lawful r) (x : Transfer r) (n : ℕ) (t : Timeline) (pre
   pub some-moment : (τ₀ : ℕ) → NotAfter r x n t τ₀ → Stands r x n → AskedSoFar r x n → Done r x n → (τ : ℕ) × Meanwhile r x n t τ₀ τ
   some-moment τ₀ first s p e =
       let g : Got r x 0 n = all-got r w x n s p (done-is r w x n s .0 e) 0 (openedAt r w x .law .some) in
-      let o : Own r t (g .m) _ = pre .own (g .m) _ (arrives 0 (g .m) (g .before) (g .replied)) in
+      let o : Own r t (g .m) _ = pre .own (g .m) _ (arrives r w x n 0 (g .m) (g .before) (g .replied)) in
       (t .answered (g .m), taken-meanwhile τ₀ first 0 (g .m) (g .before) (g .replied) (o .untilArrived))
 
   -- from the first answer that was taken on

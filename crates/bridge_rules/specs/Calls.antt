@@ -1,7 +1,7 @@
 -- The calls one by one: what is kept, what changes (specs/Changes), what a turn sends, and which number is given when.
 use Prim.Native.Nat.{ℕ, suc, _+_, _^_, _≤_, _<_}
 use mathlib.Core.Path.{_≡_}
-use mathlib.Core.Logic.{_↔_, _≢_}
+use mathlib.Core.Logic.{_↔_, _⊎_, _≢_}
 use mathlib.Core.List.{List}
 use mathlib.Core.Option.{none, some}
 use mathlib.Core.Bool.{true, false}
@@ -9,7 +9,7 @@ use lib.ListN.{length}
 use Rattle.bus_rules.specs.Frames.{rsp}
 use Rattle.bus_rules.specs.Ident.{idSpare, idTo, idKind}
 use Rattle.wire.specs.First.{First, Zero}
-use Rattle.bridge_rules.specs.State.{Frame, Bridge, free, ready, slot, sound, fresh}
+use Rattle.bridge_rules.specs.State.{Frame, Bridge, free, ready, slot, rest, sound, fresh}
 use Rattle.bridge_rules.specs.Sound.{SoundExactly}
 use Rattle.bridge_rules.specs.Answers.{Answer, Buffers, plain}
 use Rattle.bridge_rules.specs.Opening.{Ask, askDevice, askTable, askOffset, askCount, isRead, isWrite, isCheck}
@@ -18,7 +18,8 @@ use Rattle.bridge_rules.specs.Call.{Call, Lent, itsOwn, other, opening, 
 use Rattle.bridge_rules.specs.Changes.{FirstReady, NextBytes, Changes}
 use Rattle.bridge_rules.specs.Run.{ticket, Run, Lawful, Transfer, Stands, slotOf, answer, accepted, ledger, chunks, statusAt}
 use Rattle.bridge_rules.specs.Examples.{Examples}
-use Rattle.bridge_rules.specs.Replies.{Replied, lastServed, requestFrame, commandFrame, AllWritten}
+use Rattle.bridge_rules.specs.Replies.{Replied, Resting, lastServed, requestFrame, commandFrame, AllWritten}
+use Rattle.bridge_rules.specs.Demand3.{HeldAt}
 
 -- ── Sound states ───────────────────────────────────────────────────────────────────────────────────────────────────
 
@@ -72,7 +73,7 @@ SendsForTransfers = (r : Run) → Lawful r → (j : ℕ) (f : Frame) → accepte
 
 -- ── Openings ───────────────────────────────────────────────────────────────────────────────────────────────────────
 
--- 01's order: 11, 10, 7, 9, 8, 12, 13; 0 exactly when none applies
+-- 01's order: 11, 10, 7, 9, 8, 12, 13, with C-19's 19 "in 12's place where slots are free but all resting"; 0 exactly when none applies
 abbrev pub OpeningNumber : Bridge → Buffers → Ask → ℕ → Type 0
 OpeningNumber s b a =
     First (sound s ≡ false) 11
@@ -81,8 +82,9 @@ OpeningNumber s b a =
     (First (¬ ((1 ≤ askCount a) × (askCount a ≤ 128))) 9
     (First (2048 < askOffset a + askCount a) 8
     (First ((k : ℕ) → k < 4 → slot s k .phase ≢ free) 12
+    (First ((k : ℕ) → k < 4 → slot s k .phase ≡ free → rest s k ≢ 0) 19
     (First (4294967295 ≤ s .issued) 13
-    Zero))))))
+    Zero)))))))
 
 abbrev pub OpeningNumbers : Type 0
 OpeningNumbers = (s : Bridge) (b : Buffers) (a : Ask) (n : ℕ) → (step s b (opening itsOwn a) .answer .number ≡ n) ↔ OpeningNumber s b a n
@@ -97,7 +99,7 @@ pub record Acceptable (s : Bridge) (b : Buffers) (a : Ask) : Type 0 where
   pub nonempty : 1 ≤ askCount a
   pub few : askCount a ≤ 128
   pub inside : askOffset a + askCount a ≤ 2048
-  pub room : (k : ℕ) × (k < 4) × (slot s k .phase ≡ free)
+  pub room : (k : ℕ) × (k < 4) × (slot s k .phase ≡ free) × (rest s k ≡ 0)
   pub ticket : s .issued < 4294967295
 
 abbrev pub OpensExactly : Type 0
@@ -105,16 +107,17 @@ OpensExactly = (s : Bridge) (b : Buffers) (a : Ask) → (step s b (opening itsOw
 
 -- ── Numbers in a run, by the calls and their answers ───────────────────────────────────────────────────────────────
 
--- of an opening: 11 never; 12 where each of the four slots is that of a transfer that stands
+-- of an opening: 11 never; 12 where each of the four slots is held by a transfer that stands, 19 where each is held or rests
 abbrev pub OpeningInRun : (r : Run) → ℕ → Lent Buffers → Ask → ℕ → Type 0
 OpeningInRun r n l a =
     First (l ≢ itsOwn) 10
     (First (¬ ((askDevice a ≤ 15) × (askTable a ≤ 31))) 7
     (First (¬ ((1 ≤ askCount a) × (askCount a ≤ 128))) 9
     (First (2048 < askOffset a + askCount a) 8
-    (First ((k : ℕ) → k < 4 → (x : Transfer r) × Stands r x n × (slotOf r x ≡ k)) 12
+    (First ((k : ℕ) → k < 4 → HeldAt r k n) 12
+    (First ((k : ℕ) → k < 4 → HeldAt r k n ⊎ Resting r k n) 19
     (First (4294967295 ≤ ledger r n .issued) 13
-    Zero)))))
+    Zero))))))
 
 -- of a frame: 17 where it is no reply that a read or a checked write awaits
 abbrev pub FrameInRun : (r : Run) → ℕ → Lent Buffers → Frame → ℕ → Type 0

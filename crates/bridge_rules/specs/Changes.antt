@@ -10,7 +10,7 @@ use Rattle.bus_rules.specs.Ident.{idOf, idOffset}
 use Rattle.bus_rules.specs.Frames.{cmd, req, frameWith}
 use Rattle.bus_rules.specs.Request.{request}
 use Rattle.bridge_rules.specs.State.{Frame, Bridge, Slot, free, ready, waiting, done, gaveUp, different, slot, moved, ofKind}
-use Rattle.bridge_rules.specs.State.{reads, writes, checks, readsBack}
+use Rattle.bridge_rules.specs.State.{reads, writes, checks, readsBack, rest}
 use Rattle.bridge_rules.specs.Answers.{Buffers, Result}
 use Rattle.bridge_rules.specs.Opening.{Ask, isWrite, isCheck, askKind, askDevice, askTable, askOffset, askCount, askGiven}
 use Rattle.bridge_rules.specs.Turn.{aged, chunkLen}
@@ -60,13 +60,14 @@ pub record Copied (b b′ : List ℕ) (p n : ℕ) (bytes : List ℕ) : Type 0 wh
 -- ── Openings ───────────────────────────────────────────────────────────────────────────────────────────────────────
 
 -- "it takes the lowest free slot and the next ticket ..; a write's bytes are copied into its slot, and their number is the count"; a
--- checked write's "opening copies only into a second lent buffer"
+-- checked write's "opening copies only into a second lent buffer"; a resting slot "is not given to a new transfer"
 pub record Takes (s : Bridge) (b : Buffers) (a : Ask) (r : Result) : Type 0 where
   pub ticket : r .answer .ticket ≡ suc (s .issued)
   pub k : ℕ
   pub bound : k < 4
   pub wasFree : slot s k .phase ≡ free
-  pub lowest : (j : ℕ) → j < k → slot s j .phase ≢ free
+  pub rested : rest s k ≡ 0
+  pub lowest : (j : ℕ) → j < k → slot s j .phase ≡ free → rest s j ≢ 0
   pub taken : slot (r .state) k ≡ record {
     ticket = suc (s .issued);
     offset = askOffset a;
@@ -83,6 +84,7 @@ pub record Takes (s : Bridge) (b : Buffers) (a : Ask) (r : Result) : Type 0 wher
   pub own : r .state .own ≡ s .own
   pub issued : r .state .issued ≡ suc (s .issued)
   pub last : r .state .last ≡ s .last
+  pub rests : r .state .rests ≡ s .rests
   pub written : isWrite a ≡ true → Copied (b .first) (r .buffers .first) (128 * k) (length (askGiven a)) (askGiven a)
   pub checked : isCheck a ≡ true → Copied (b .second) (r .buffers .second) (128 * k) (length (askGiven a)) (askGiven a)
   pub firstSame : isWrite a ≡ false → r .buffers .first ≡ b .first
@@ -93,9 +95,14 @@ OpenChanges = (s : Bridge) (b : Buffers) (a : Ask) → step s b (opening itsOwn 
 
 -- ── Turns ──────────────────────────────────────────────────────────────────────────────────────────────────────────
 
--- a turn that sends nothing ages the waiting slots, and that is all
+-- slot k rests one turn less, unless it does not rest
+abbrev pub RestsLess : Bridge → Bridge → ℕ → Type 0
+RestsLess s t k = rest t k ≡ rest s k - 1
+
+-- a turn that sends nothing ages the waiting slots and the rests, and that is all
 pub record SilentTurn (s t : Bridge) : Type 0 where
   pub ages : (k : ℕ) → k < 4 → Ages (slot s k) (slot t k)
+  pub rests : (k : ℕ) → k < 4 → RestsLess s t k
   pub last : t .last ≡ s .last
 
 -- slot k is the first in the search, from the one after the last served, that is ready after the turn's aging
@@ -123,7 +130,8 @@ pub record NextBytes (own k : ℕ) (x : Slot) (b : Buffers) (f : Frame) : Type 0
   pub commands : x .kind ≡ writes → CarriesBytes own k n x (b .first) f
   pub checked : x .kind ≡ checks → CarriesBytes own k n x (b .second) f
 
--- one that sends frame f serves the first slot that is ready, with its next bytes, and ages the other waiting slots
+-- one that sends frame f serves the first slot that is ready, with its next bytes, and ages the other waiting slots and the rests; a slot
+-- that sent a REQ rests 60 turns
 pub record SendingTurn (s t : Bridge) (b : Buffers) (f : Frame) : Type 0 where
   pub k : ℕ
   pub first : FirstReady s k
@@ -132,6 +140,9 @@ pub record SendingTurn (s t : Bridge) (b : Buffers) (f : Frame) : Type 0 where
   pub bytes : NextBytes (s .own) k (aged (slot s k)) b f
   pub sends : Sends (aged (slot s k)) (slot t k)
   pub others : (j : ℕ) → j < 4 → j ≢ k → Ages (slot s j) (slot t j)
+  pub asked : (aged (slot s k) .kind ≡ reads) ⊎ (aged (slot s k) .kind ≡ readsBack) → rest t k ≡ 60
+  pub carried : (aged (slot s k) .kind ≡ writes) ⊎ (aged (slot s k) .kind ≡ checks) → RestsLess s t k
+  pub restsLess : (j : ℕ) → j < 4 → j ≢ k → RestsLess s t j
 
 pub record Turned (s : Bridge) (b : Buffers) (r : Result) : Type 0 where
   pub numbers : SameNumbers s (r .state)
@@ -174,13 +185,14 @@ pub record TakenReply (s : Bridge) (b : Buffers) (f : Frame) (r : Result) : Type
   pub others : OthersSame s (r .state) k
   pub numbers : SameNumbers s (r .state)
   pub last : r .state .last ≡ s .last
+  pub rests : r .state .rests ≡ s .rests
 
 -- of a frame of eight bytes, as its declared type has it
 abbrev pub FrameChanges : Type 0
 FrameChanges = (s : Bridge) (b : Buffers) (f : Frame) → length (f .bytes) ≡ 8 → step s b (frame itsOwn f) .answer .number ≡ 0 →
     TakenReply s b f (step s b (frame itsOwn f))
 
--- ── Closings, resets and the rest ──────────────────────────────────────────────────────────────────────────────────
+-- ── Closings, resets, status and bytes ─────────────────────────────────────────────────────────────────────────────
 
 -- "closing .. frees the slot in any state": the one that holds the ticket, and no other
 pub record Frees (s : Bridge) (b : Buffers) (t : ℕ) (r : Result) : Type 0 where
@@ -192,17 +204,19 @@ pub record Frees (s : Bridge) (b : Buffers) (t : ℕ) (r : Result) : Type 0 wher
   pub others : OthersSame s (r .state) k
   pub numbers : SameNumbers s (r .state)
   pub last : r .state .last ≡ s .last
+  pub rests : r .state .rests ≡ s .rests
   pub buffers : r .buffers ≡ b
 
 abbrev pub CloseChanges : Type 0
 CloseChanges = (s : Bridge) (b : Buffers) (t : ℕ) → step s b (close t) .answer .number ≡ 0 → Frees s b t (step s b (close t))
 
--- "reset turns any state into the fresh bridge of a given own number": no slot is held, no ticket was given, and slot 0 comes first
+-- "reset turns any state into the fresh bridge of a given own number": no slot is held or rests, no ticket was given, and slot 0 comes first
 pub record Fresh (own : ℕ) (t : Bridge) : Type 0 where
   pub number : t .own ≡ own
   pub slots : (k : ℕ) → AllZero (slot t k)
   pub issued : t .issued ≡ 0
   pub last : t .last ≡ 3
+  pub rests : (k : ℕ) → rest t k ≡ 0
 
 -- nothing of the state before is kept
 pub record Restarts (s : Bridge) (b : Buffers) (own : ℕ) (r : Result) : Type 0 where

@@ -12,7 +12,7 @@ use Rattle.bridge_rules.specs.Opening.{isRead, isWrite, isCheck, askCoun
 use Rattle.bridge_rules.specs.Call.{itsOwn, Call, opening, turn, frame, status, bytes, close, reset}
 use Rattle.bridge_rules.specs.Run.{Run, answerTo, answer, Shaped, Transfer, ticket, slotOf, Stands, chunks, turns, statusAt, shownAt, Done, GivenUp}
 use Rattle.bridge_rules.specs.Run.{Different, turnsEach, lenOf}
-use Rattle.bridge_rules.specs.Replies.{given, AllWritten, Sent, Replied, ThreeFailed}
+use Rattle.bridge_rules.specs.Replies.{given, AllWritten, Sent, Resting, Replied, ThreeFailed}
 use Rattle.bridge_rules.specs.Device.{Timeline, NotAfter, Meanwhile, range, Arrivals, Premises}
 
 unfoldable pub join : (ℕ → List ℕ) → ℕ → List ℕ
@@ -33,11 +33,17 @@ brought (reset o) = []
 abbrev pub showing : List ℕ → Answer
 showing bs = record { number = 0; ticket = 0; sent = none; shown = bs }
 
--- the ledger's slots are the paper's: of the four, no transfer that stood at the opening had this one, and each lower one had one
+-- slot k is HELD after the first n calls, by a transfer that stands
+abbrev pub HeldAt : (r : Run) → ℕ → ℕ → Type 0
+HeldAt r k n = (y : Transfer r) × Stands r y n × (slotOf r y ≡ k)
+
+-- the ledger's slots are the paper's: of the four, this one was not held at the opening, nor did it rest (such a slot "is not given to a new
+-- transfer"), and each lower one was held or rested
 pub record Places (r : Run) (x : Transfer r) : Type 0 where
   pub bound : slotOf r x < 4
-  pub apart : (y : Transfer r) → Stands r y (x .at) → slotOf r y ≢ slotOf r x
-  pub lowest : (k : ℕ) → k < slotOf r x → (y : Transfer r) × Stands r y (x .at) × (slotOf r y ≡ k)
+  pub unheld : ¬ HeldAt r (slotOf r x) (x .at)
+  pub rested : ¬ Resting r (slotOf r x) (x .at)
+  pub lowest : (k : ℕ) → k < slotOf r x → HeldAt r k (x .at) ⊎ Resting r k (x .at)
 
 -- of a read's and of a checked write's replies: one is answered 0, a chunk has one only, and they come in the chunks' order
 pub record ReplyClaims (r : Run) (x : Transfer r) : Type 0 where

@@ -12,7 +12,7 @@ use Rattle.bus_rules.specs.declared.Frame.{Frame}
 use Rattle.bridge_rules.specs.Opening.{askDevice, askTable, askOffset, askCount}
 use Rattle.bridge_rules.specs.Incoming.{contentNumber}
 use Rattle.bridge_rules.specs.Call.{itsOwn, frame}
-use Rattle.bridge_rules.specs.Run.{Run, answer, ledger, Transfer, Stands, accepted}
+use Rattle.bridge_rules.specs.Run.{Run, answer, ledger, Transfer, Resetting, accepted, turns}
 use Rattle.bridge_rules.specs.Replies.{Sent, Replied}
 
 -- ── "A reply is the device's own if the holder's rules give it for a request sent earlier, from the device's memory when
@@ -78,15 +78,22 @@ pub record Meanwhile (r : Run) (x : Transfer r) (n : ℕ) (t : Timeline) (τ₀ 
 unfoldable pub range : (r : Run) → Transfer r → Device → List ℕ
 range r x d = rangeOf d (askTable (x .ask)) (askOffset (x .ask)) (askCount (x .ask))
 
--- "no reply to a closed or reset transfer arrives": the transfer whose request is answered still stands
-abbrev pub Current : (r : Run) → Transfer r → ℕ → Timeline → Type 0
-Current r x n t = (m : ℕ) (f : Frame) → Arrives r x n m f → (y : Transfer r) (c : ℕ) → Sent r y c (t .asked m) → Stands r y m
+-- C-19: the premise "no reply to a closed or reset transfer arrives" becomes "every reply arrives before the 60th turn after its
+-- request was sent, or never"
+abbrev pub Prompt : (r : Run) → Transfer r → ℕ → Timeline → Type 0
+Prompt r x n t = (m : ℕ) (f : Frame) → Arrives r x n m f → turns r (t .asked m) m < 60
 
--- what arrives: "each reply arriving under its number is its own, unaltered, to a request these calls sent, and no reply to a
--- closed or reset transfer arrives"
+-- "reset still clears it, so the premise also asks for no request in the last 60 turns before a reset": of a request at j, at least 60
+-- turns follow before a reset at q
+abbrev pub Quiet : Run → ℕ → Type 0
+Quiet r n = (q : ℕ) → q < n → Resetting r q → (y : Transfer r) (c j : ℕ) → j < q → Sent r y c j → 60 ≤ turns r j q
+
+-- what arrives: "each reply arriving under its number is its own, unaltered, to a request these calls sent", and C-19's two, on late replies
+-- and on resets
 pub record Arrivals (r : Run) (x : Transfer r) (n : ℕ) (t : Timeline) : Type 0 where
   pub own : (m : ℕ) (f : Frame) → Arrives r x n m f → Own r t m f
-  pub current : Current r x n t
+  pub prompt : Prompt r x n t
+  pub quiet : Quiet r n
 
 -- "its range isn't written" between any two moments of a set, and "a changed directory counts as a write". (The paper asks for
 -- `sameTables`; the proof does without it, for `range` speaks of the range where the directory puts it.)

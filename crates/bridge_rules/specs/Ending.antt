@@ -45,7 +45,7 @@ unfoldable pub bytesOf : Bridge → List ℕ → ℕ → Answer
 bytesOf s b t =
     record { number = spanOf s (length b) t .number; ticket = 0; sent = none; shown = partOf b (spanOf s (length b) t) }
 
--- closing (11, 14) frees the slot in any state, and freed slots are used again
+-- closing (11, 14) frees the slot in any state, and freed slots are used again, once they do not rest (C-19): its rest stays
 unfoldable pub closeNumber : Bridge → ℕ → ℕ
 closeNumber s t = 11 if not (sound s) else 14 if isNone (heldSlot s t) else 0
 

@@ -16,7 +16,7 @@ use Rattle.bridge_rules.specs.State.{blank, slot, moved, sound}
 use Rattle.bridge_rules.specs.Answers.{Buffers, Result, both, plain}
 use Rattle.bridge_rules.specs.Opening.{Ask, read, write, check}
 use Rattle.bridge_rules.specs.Call.{Call, Lent, itsOwn, other, opening, turn, frame, status, bytes, close, reset, step}
-use Rattle.bridge_rules.specs.Run.{Run, state, buffers, answer, answerTo, isTurn, turnsEach}
+use Rattle.bridge_rules.specs.Run.{Run, state, buffers, answer, answerTo, isTurn, turnsEach, Entry, ledger, firstGivable}
 use Rattle.bridge_rules.specs.Demand3.{runOf, showing}
 
 -- 512 bytes of 255, and of 254
@@ -330,6 +330,89 @@ pub record Ended : Type 0 where
       ∷ frameWith (idOf 16 req 3 5 7) (request 6 0 8)
       ∷ []
 
+-- ── Late answers ───────────────────────────────────────────────────────────────────────────────────────────────────
+
+-- each slot's turns left to rest after the first n calls
+abbrev pub restsAt : Run → ℕ → List ℕ
+restsAt r n = state r n .rests
+
+-- and, by the ledger, the accepted turns since its last request
+abbrev pub sinceAt : Run → ℕ → List (Option ℕ)
+sinceAt r n = map (λ e. e .turnsSince) (ledger r n .entries)
+
+-- "A slow box answered after its read was closed": 3 takes slot 1, and the late answers, 4 and 6, are 17. After the reset, 9 takes slot 0
+unfoldable pub answeredLate : List Call
+answeredLate =
+    opening itsOwn (read 5 7 0 8)
+    ∷ turn itsOwn
+    ∷ close 1
+    ∷ opening itsOwn (read 5 7 8 8)
+    ∷ frame itsOwn (reply 5 0 eight)
+    ∷ turn itsOwn
+    ∷ frame itsOwn (reply 5 0 eight)
+    ∷ frame itsOwn (reply 5 128 (replicate 8 77))
+    ∷ reset 0
+    ∷ opening itsOwn (read 5 7 8 8)
+    ∷ turn itsOwn
+    ∷ []
+
+pub record AnsweredLate : Type 0 where
+  pub numbers : numbersOf (run answeredLate) 11 ≡ 0 ∷ 0 ∷ 0 ∷ 0 ∷ 17 ∷ 0 ∷ 17 ∷ 0 ∷ 0 ∷ 0 ∷ 0 ∷ []
+  pub requests : framesOf (run answeredLate) 11
+      ≡ frameWith (idOf 0 req 0 5 7) (request 6 0 8)
+      ∷ frameWith (idOf 8 req 0 5 7) (request 6 128 8)
+      ∷ frameWith (idOf 8 req 0 5 7) (request 6 0 8)
+      ∷ []
+  pub shown : answerTo (run answeredLate) 8 (bytes itsOwn 2) ≡ showing (replicate 8 77)
+  -- a closing keeps the rest, and so does a reply, taken or not; a reset clears all
+  pub closed : restsAt (run answeredLate) 3 ≡ 60 ∷ 0 ∷ 0 ∷ 0 ∷ []
+  pub asked : restsAt (run answeredLate) 6 ≡ 59 ∷ 60 ∷ 0 ∷ 0 ∷ []
+  pub replied : restsAt (run answeredLate) 8 ≡ 59 ∷ 60 ∷ 0 ∷ 0 ∷ []
+  pub again : restsAt (run answeredLate) 9 ≡ replicate 4 0
+  -- and so says the ledger, by the calls alone
+  pub noted : sinceAt (run answeredLate) 8 ≡ some 1 ∷ some 0 ∷ none ∷ none ∷ []
+  pub renoted : sinceAt (run answeredLate) 9 ≡ replicate 4 none
+
+-- which turns begin a rest, and that it goes down while the slot is held
+pub record RestBegins : Type 0 where
+  -- a silent device: the request is sent on turns 1 and 21
+  pub asked : restsAt (run silence) 2 ≡ 60 ∷ 0 ∷ 0 ∷ 0 ∷ []
+  pub held : restsAt (run silence) 3 ≡ 59 ∷ 0 ∷ 0 ∷ 0 ∷ []
+  pub waited : restsAt (run silence) 21 ≡ 41 ∷ 0 ∷ 0 ∷ 0 ∷ []
+  pub again : restsAt (run silence) 22 ≡ 60 ∷ 0 ∷ 0 ∷ 0 ∷ []
+  -- two writes' CMDs, and a checked write's CMDs and its first REQ
+  pub written : restsAt (run taking) 4 ≡ replicate 4 0
+  pub sending : restsAt (run readingBack) 3 ≡ replicate 4 0
+  pub readsBack : restsAt (run readingBack) 4 ≡ 60 ∷ 0 ∷ 0 ∷ 0 ∷ []
+  -- and so says the ledger
+  pub noted : sinceAt (run silence) 22 ≡ some 0 ∷ none ∷ none ∷ none ∷ []
+  pub writeNoted : sinceAt (run taking) 4 ≡ replicate 4 none
+
+-- four reads send their requests, 4 to 7, and are closed; then come n turns
+unfoldable pub fourClosed : ℕ → List Call
+fourClosed n =
+    replicate 4 (opening itsOwn (read 5 7 0 8)) ++ replicate 4 (turn itsOwn) ++ close 1 ∷ close 2 ∷ close 3 ∷ close 4 ∷ replicate n (turn itsOwn)
+
+abbrev pub opensThen : ℕ → Ask → ℕ
+opensThen n a = answerTo (run (fourClosed 57)) n (opening itsOwn a) .number
+
+-- an entry of the ledger
+abbrev pub noting : ℕ → Option ℕ → Entry
+noting ticket since = record { ticket = ticket; turnsSince = since }
+
+pub record AllRest : Type 0 where
+  -- all slots are held, though they rest
+  pub held : opensThen 8 (read 5 7 0 8) ≡ 12
+  -- 59 turns after the first request all rest
+  pub reads : opensThen 68 (read 5 7 0 8) ≡ 19
+  pub writes : opensThen 68 (write 5 7 0 eight) ≡ 19
+  pub checks : opensThen 68 (check 5 7 0 eight) ≡ 19
+  -- one turn more, and slot 0 is given
+  pub rests : restsAt (run (fourClosed 57)) 69 ≡ 0 ∷ 1 ∷ 2 ∷ 3 ∷ []
+  pub given : opensThen 69 (read 5 7 0 8) ≡ 0
+  -- by the ledger too: it takes neither a held slot, nor one 59 turns after its request
+  pub found : firstGivable (noting 1 none ∷ noting 0 (some 59) ∷ noting 2 (some 60) ∷ noting 0 (some 60) ∷ []) ≡ 3
+
 -- ── Sound states ───────────────────────────────────────────────────────────────────────────────────────────────────
 
 -- a slot of 128 bytes
@@ -357,7 +440,13 @@ held = holding 2 15 31 1920
 
 -- a state with slot x beside that of ticket 1, the last ticket given being 2
 abbrev pub besideOne : (own last : ℕ) → Slot → Bridge
-besideOne own last x = record { slots = asking 1 15 31 1920 ∷ x ∷ blank ∷ blank ∷ []; issued = 2; own = own; last = last }
+besideOne own last x = record {
+  slots = asking 1 15 31 1920 ∷ x ∷ blank ∷ blank ∷ [];
+  issued = 2;
+  own = own;
+  last = last;
+  rests = replicate 4 0;
+}
 
 -- whether it is sound
 abbrev pub soundWith : Slot → Bool
@@ -425,6 +514,25 @@ pub record CheckedLimits : Type 0 where
   pub differsWhole : soundWith (held different readsBack 128 0 0) ≡ false
   pub differsWithin : soundWith (held different readsBack 124 0 0) ≡ false
 
+-- whether a state of two held slots and two free ones is sound with these turns left to rest
+abbrev pub soundRested : List ℕ → Bool
+soundRested rests = sound (record {
+  slots = asking 1 15 31 1920 ∷ held ready writes 120 0 0 ∷ blank ∷ blank ∷ [];
+  issued = 2;
+  own = 15;
+  last = 3;
+  rests = rests;
+})
+
+-- C-19: "each slot's turns left to rest, sound from 0 to 60"
+pub record RestLimits : Type 0 where
+  pub none : soundRested (replicate 4 0) ≡ true
+  pub most : soundRested (replicate 4 60) ≡ true
+  pub first : soundRested (61 ∷ 0 ∷ 0 ∷ 0 ∷ []) ≡ false
+  pub second : soundRested (0 ∷ 61 ∷ 0 ∷ 0 ∷ []) ≡ false
+  pub third : soundRested (0 ∷ 0 ∷ 61 ∷ 0 ∷ []) ≡ false
+  pub fourth : soundRested (0 ∷ 0 ∷ 0 ∷ 61 ∷ []) ≡ false
+
 -- ── An opening's numbers ───────────────────────────────────────────────────────────────────────────────────────────
 
 -- what an opening answers
@@ -438,11 +546,12 @@ full own = record {
   issued = 4294967295;
   own = own;
   last = 3;
+  rests = replicate 4 60;
 }
 
--- no slot held
-abbrev pub given : (issued : ℕ) → Bridge
-given issued = record { slots = replicate 4 blank; issued = issued; own = 15; last = 3 }
+-- no slot held, slots 0 and 2 with so many turns left to rest, the others with 60
+abbrev pub given : (issued rest : ℕ) → Bridge
+given issued rest = record { slots = replicate 4 blank; issued = issued; own = 15; last = 3; rests = rest ∷ 60 ∷ rest ∷ 60 ∷ [] }
 
 -- buffers, one of which is a byte too short
 abbrev pub shortFirst : Buffers
@@ -451,7 +560,7 @@ shortFirst = both (replicate 511 255) (replicate 512 254)
 abbrev pub shortSecond : Buffers
 shortSecond = both (replicate 512 255) (replicate 511 254)
 
--- 11, 10, 7, 9, 8, 12, 13, 0: where one is answered, the causes of all that come after it are there too
+-- 11, 10, 7, 9, 8, 12, 19, 13, 0: where one is answered, the causes of all that come after it are there too
 unfoldable pub inOrder : ((device table offset count : ℕ) → Ask) → List ℕ
 inOrder ask =
     opens (full 16) (other shortSecond) (ask 16 32 2048 129)
@@ -464,16 +573,17 @@ inOrder ask =
     -- too many bytes, past the table
     ∷ opens (full 15) itsOwn (ask 15 31 2048 129)
     ∷ opens (full 15) itsOwn (ask 15 31 1921 128)
-    -- no slot, no ticket
+    -- no slot, none that does not rest, no ticket
     ∷ opens (full 15) itsOwn (ask 15 31 1920 128)
-    ∷ opens (given 4294967295) itsOwn (ask 15 31 1920 128)
-    ∷ opens (given 4294967294) itsOwn (ask 15 31 1920 128)
+    ∷ opens (given 4294967295 1) itsOwn (ask 15 31 1920 128)
+    ∷ opens (given 4294967295 0) itsOwn (ask 15 31 1920 128)
+    ∷ opens (given 4294967294 0) itsOwn (ask 15 31 1920 128)
     ∷ []
 
 pub record Openings : Type 0 where
-  pub reads : inOrder read ≡ 11 ∷ 10 ∷ 10 ∷ 7 ∷ 7 ∷ 9 ∷ 8 ∷ 12 ∷ 13 ∷ 0 ∷ []
-  pub writes : inOrder (λ d t o n. write d t o (replicate n 0)) ≡ 11 ∷ 10 ∷ 10 ∷ 7 ∷ 7 ∷ 9 ∷ 8 ∷ 12 ∷ 13 ∷ 0 ∷ []
-  pub checks : inOrder (λ d t o n. check d t o (replicate n 0)) ≡ 11 ∷ 10 ∷ 10 ∷ 7 ∷ 7 ∷ 9 ∷ 8 ∷ 12 ∷ 13 ∷ 0 ∷ []
+  pub reads : inOrder read ≡ 11 ∷ 10 ∷ 10 ∷ 7 ∷ 7 ∷ 9 ∷ 8 ∷ 12 ∷ 19 ∷ 13 ∷ 0 ∷ []
+  pub writes : inOrder (λ d t o n. write d t o (replicate n 0)) ≡ 11 ∷ 10 ∷ 10 ∷ 7 ∷ 7 ∷ 9 ∷ 8 ∷ 12 ∷ 19 ∷ 13 ∷ 0 ∷ []
+  pub checks : inOrder (λ d t o n. check d t o (replicate n 0)) ≡ 11 ∷ 10 ∷ 10 ∷ 7 ∷ 7 ∷ 9 ∷ 8 ∷ 12 ∷ 19 ∷ 13 ∷ 0 ∷ []
 
 -- ── A buffer that is too short ─────────────────────────────────────────────────────────────────────────────────────
 
@@ -516,7 +626,11 @@ pub record Examples : Type 0 where
   pub slowCheck : SlowCheck
   pub ownBuffers : OwnBuffers
   pub ended : Ended
+  pub answeredLate : AnsweredLate
+  pub restBegins : RestBegins
+  pub allRest : AllRest
   pub limits : Limits
   pub checkedLimits : CheckedLimits
+  pub restLimits : RestLimits
   pub openings : Openings
   pub shortBuffers : ShortBuffers

@@ -9,7 +9,7 @@ use lib.Dec.{leb}
 use Rattle.wire.specs.Order.{_if_else_, _orElse_}
 use Rattle.bridge_rules.specs.declared.Bridge.{Bridge}
 use Rattle.bridge_rules.specs.declared.Slot.{Slot}
-use Rattle.bridge_rules.specs.State.{ready, reads, writes, checks, askNumber, lowestFree, isNone, orZero}
+use Rattle.bridge_rules.specs.State.{ready, reads, writes, checks, askNumber, lowestFree, lowestGivable, isNone, orZero}
 use Rattle.bridge_rules.specs.Answers.{Buffers, Result, unless, lentNumber, rightLengths}
 
 -- ── What an opening asks for ───────────────────────────────────────────────────────────────────────────────────────
@@ -75,11 +75,15 @@ toSecond a = cond (isCheck a) (askGiven a) []
 
 -- ── Opening ────────────────────────────────────────────────────────────────────────────────────────────────────────
 
--- 12 / 13: no free slot / tickets used up
+-- 12 / 13: no free slot / tickets used up; C-19: "19 in 12's place where slots are free but all resting"
 unfoldable pub roomNumber : Bridge → ℕ
-roomNumber s = 12 if isNone (lowestFree s) else 13 if leb 4294967295 (s .issued) else 0
+roomNumber s =
+    12 if isNone (lowestFree s)
+    else 19 if isNone (lowestGivable s)
+    else 13 if leb 4294967295 (s .issued)
+    else 0
 
--- Order: 11, 10, 7, 9, 8, 12, 13
+-- Order: 11, 10, 7, 9, 8, 12 or 19, 13
 unfoldable pub openNumber : Bridge → Bool → Ask → ℕ
 openNumber s ok a =
     lentNumber s ok orElse askNumber (askDevice a) (askTable a) (askOffset a) (askCount a) orElse roomNumber s
@@ -104,13 +108,19 @@ opened a ticket = record {
 abbrev pub withGiven : Buffers → ℕ → Ask → Buffers
 withGiven b k a = record { first = sets (b .first) (128 * k) (toFirst a); second = sets (b .second) (128 * k) (toSecond a) }
 
--- it takes the lowest free slot and the next ticket, from 1 to 4,294,967,295
+-- it takes the lowest free slot that does not rest, and the next ticket, from 1 to 4,294,967,295
 unfoldable pub openOf : Bridge → Buffers → Ask → Result
 openOf s b a = unless (openNumber s (rightLengths b) a) (record {
   answer = record { number = 0; ticket = suc (s .issued); sent = none; shown = [] };
-  state = record { slots = set (s .slots) k (opened a (suc (s .issued))); issued = suc (s .issued); own = s .own; last = s .last };
+  state = record {
+    slots = set (s .slots) k (opened a (suc (s .issued)));
+    issued = suc (s .issued);
+    own = s .own;
+    last = s .last;
+    rests = s .rests;
+  };
   buffers = withGiven b k a;
 }) s b
   where
     k : ℕ
-    k = orZero (lowestFree s)
+    k = orZero (lowestGivable s)

@@ -13,7 +13,7 @@ use Rattle.bus_rules.specs.declared.Frame.{Frame}
 use Rattle.bridge_rules.specs.Opening.{isWrite, askDevice, askTable, askOffset, askGiven}
 use Rattle.bridge_rules.specs.Incoming.{contentNumber}
 use Rattle.bridge_rules.specs.Call.{itsOwn, other, Call, opening, turn, frame, status, bytes, close, reset}
-use Rattle.bridge_rules.specs.Run.{Run, state, answer, ledger, Transfer, slotOf, Stands, chunks, lenOf, accepted, turns}
+use Rattle.bridge_rules.specs.Run.{Run, state, answer, ledger, Transfer, slotOf, Resetting, Stands, chunks, lenOf, accepted, turns}
 
 -- ── "A standing write is done exactly when turns that served its slot since its opening have yielded its CMD for every
 -- started eight bytes that it was given, in order." ──────────────────────────────────────────────────────────────────
@@ -69,6 +69,18 @@ pub record Sent (r : Run) (x : Transfer r) (c j : ℕ) : Type 0 where
   pub chunk : c < chunks r x
   pub turned : accepted r j ≡ true
   pub yields : answer r j .sent ≡ some (requestFrame r x c j)
+
+-- C-19: slot k RESTS after the first n calls: a request for it, and so its last one, "went out fewer than 60 turns ago", and no reset was
+-- answered 0 since
+pub record Resting (r : Run) (k n : ℕ) : Type 0 where
+  pub y : Transfer r
+  pub its : slotOf r y ≡ k
+  pub c : ℕ
+  pub j : ℕ
+  pub sent : Sent r y c j
+  pub before : j < n
+  pub soon : turns r j n < 60
+  pub kept : (q : ℕ) → j < q → q < n → ¬ Resetting r q
 
 -- a frame that 1 to 5 do not refuse matches if its table is 6 and it has the device, reply offset and length of chunk c
 unfoldable pub matchesFrame : (r : Run) → Transfer r → ℕ → ℕ → Frame → Bool

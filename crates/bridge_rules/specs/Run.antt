@@ -4,11 +4,16 @@
 -- before it alone. All that follows goes by the calls, their answers and what the bridge handed back names as last served.
 use Prim.Native.Nat.{ℕ, zero, suc, _+_, _*_, _/_, _≤_, _<_}
 use mathlib.Core.List.{List, [], _∷_, map}
-use mathlib.Core.Bool.{Bool, true, false, cond, _&&_}
-use lib.ListN.{length, set, replicate}
+use mathlib.Core.Option.{Option, none, some}
+use mathlib.Core.Bool.{Bool, true, false, cond, not, _&&_}
+use lib.ListN.{length, getD, set, replicate}
 use lib.Dec.{ltb, eqb}
 use mathlib.Core.Path.{_≡_}
 use mathlib.Core.Logic.{_⊎_, _≢_}
+use Rattle.bus_rules.specs.Ident.{idKind}
+use Rattle.bus_rules.specs.Frames.{req}
+use Rattle.bus_rules.specs.Holder.{requestAt}
+use Rattle.bus_rules.specs.declared.Frame.{Frame}
 use Rattle.bridge_rules.specs.declared.Bridge.{Bridge}
 use Rattle.bridge_rules.specs.State.{fresh}
 use Rattle.bridge_rules.specs.Answers.{Answer, Buffers, Result}
@@ -76,33 +81,79 @@ pub record Lawful (r : Run) : Type 0 where
 -- It uses the calls and their answers, never the bridge, and so do `slotOf` and the frames below; `Places` says that its slots are
 -- the paper's.
 
--- the own number, the last ticket given, and the ticket of each slot (0: free)
+-- a slot's ticket (0: free), and the accepted turns since its last request, if one went out since the last reset
+pub record Entry : Type 0 where
+  pub ticket : ℕ
+  pub turnsSince : Option ℕ
+
+abbrev pub noEntry : Entry
+noEntry = record { ticket = 0; turnsSince = none }
+
+-- the own number, the last ticket given, and each slot's entry
 pub record Ledger : Type 0 where
   pub own : ℕ
   pub issued : ℕ
-  pub tickets : List ℕ
+  pub entries : List Entry
 
 abbrev pub newLedger : ℕ → Ledger
-newLedger own = record { own = own; issued = 0; tickets = replicate 4 0 }
+newLedger own = record { own = own; issued = 0; entries = replicate 4 noEntry }
+
+abbrev pub withEntries : Ledger → List Entry → Ledger
+withEntries g es = record { own = g .own; issued = g .issued; entries = es }
+
+-- "A slot whose last request went out fewer than 60 turns ago is not given to a new transfer." (C-19)
+abbrev pub resting : Option ℕ → Bool
+resting none = false
+resting (some n) = ltb n 60
 
 -- a slot that an opening may take
-abbrev pub givableEntry : ℕ → Bool
-givableEntry t = eqb t 0
+abbrev pub givableEntry : Entry → Bool
+givableEntry e = eqb (e .ticket) 0 && not (resting (e .turnsSince))
 
 -- the first such slot; the number of slots if there is none
-unfoldable pub firstGivable : List ℕ → ℕ
+unfoldable pub firstGivable : List Entry → ℕ
 firstGivable [] = 0
-firstGivable (t ∷ ts) = cond (givableEntry t) 0 (suc (firstGivable ts))
+firstGivable (e ∷ es) = cond (givableEntry e) 0 (suc (firstGivable es))
 
--- a call answered 0, and its answer: an opening takes the lowest free slot, a closing frees its slot, a reset all
+-- an entry with another ticket; without ticket u; a turn later; of a slot whose request has just gone out
+abbrev pub ticketed : ℕ → Entry → Entry
+ticketed t e = record { ticket = t; turnsSince = e .turnsSince }
+
+abbrev pub freed : ℕ → Entry → Entry
+freed u e = ticketed (cond (eqb (e .ticket) u) 0 (e .ticket)) e
+
+abbrev pub later : Option ℕ → Option ℕ
+later none = none
+later (some n) = some (suc n)
+
+abbrev pub turnLater : Entry → Entry
+turnLater e = record { ticket = e .ticket; turnsSince = later (e .turnsSince) }
+
+abbrev pub justAsked : Entry → Entry
+justAsked e = record { ticket = e .ticket; turnsSince = some 0 }
+
+-- entry k changed
+abbrev pub changeAt : List Entry → ℕ → (Entry → Entry) → List Entry
+changeAt es k g = set es k (g (getD es k noEntry))
+
+-- what a turn yields: a REQ tells its slot by its reply offset, of which each slot has 128
+unfoldable pub slotAsked : Frame → ℕ
+slotAsked f = requestAt f 0 .offset / 128
+
+abbrev pub notedSend : Option Frame → List Entry → List Entry
+notedSend none es = es
+notedSend (some f) es = cond (eqb (idKind (f .id)) req) (changeAt es (slotAsked f) justAsked) es
+
+-- a call answered 0, and its answer: an opening takes the first slot that it may take, a closing frees its slot, a reset all; a turn
+-- counts, and its REQ starts the count anew
 abbrev pub noted : Ledger → Answer → Call → Ledger
 noted g y (opening l a) =
-    record { own = g .own; issued = y .ticket; tickets = set (g .tickets) (firstGivable (g .tickets)) (y .ticket) }
-noted g y (turn l) = g
+    record { own = g .own; issued = y .ticket; entries = changeAt (g .entries) (firstGivable (g .entries)) (ticketed (y .ticket)) }
+noted g y (turn l) = withEntries g (notedSend (y .sent) (map turnLater (g .entries)))
 noted g y (frame l f) = g
 noted g y (status u) = g
 noted g y (bytes l u) = g
-noted g y (close u) = record { own = g .own; issued = g .issued; tickets = map (λ v. cond (eqb v u) 0 v) (g .tickets) }
+noted g y (close u) = withEntries g (map (freed u) (g .entries))
 noted g y (reset o) = newLedger o
 
 -- after the first n calls
@@ -123,13 +174,17 @@ pub record Transfer (r : Run) : Type 0 where
 abbrev pub ticket : (r : Run) → Transfer r → ℕ
 ticket r x = answer r (x .at) .ticket
 
--- its slot: the lowest that was free at its opening
+-- its slot: the lowest that was free and did not rest at its opening
 unfoldable pub slotOf : (r : Run) → Transfer r → ℕ
-slotOf r x = firstGivable (ledger r (x .at) .tickets)
+slotOf r x = firstGivable (ledger r (x .at) .entries)
 
 -- event m is its closing, or a reset, answered 0
 abbrev pub Closing : (r : Run) → Transfer r → ℕ → Type 0
 Closing r x m = (answer r m .number ≡ 0) × ((r .calls m ≡ close (ticket r x)) ⊎ ((o : ℕ) × (r .calls m ≡ reset o)))
+
+-- event m is a reset answered 0
+abbrev pub Resetting : Run → ℕ → Type 0
+Resetting r m = (answer r m .number ≡ 0) × ((o : ℕ) × (r .calls m ≡ reset o))
 
 -- it STANDS after the first n calls
 abbrev pub Stands : (r : Run) → Transfer r → ℕ → Type 0

@@ -1,11 +1,11 @@
--- 01's paragraph "A sound state", and what C-17 adds to it, part by part, as facts about the state's numbers. `Calls.soundExactly`: the
+-- 01's paragraph "A sound state", and what C-17 and C-19 add to it, part by part, as facts about the state's numbers. `Calls.soundExactly`: the
 -- calls' test passes exactly where they hold.
 use Prim.Native.Nat.{ℕ, _+_, _*_, _≤_, _<_}
 use mathlib.Core.Path.{_≡_}
 use mathlib.Core.Logic.{_↔_, _⊎_, _≢_}
 use mathlib.Core.Bool.{true}
 use lib.ListN.{length}
-use Rattle.bridge_rules.specs.State.{Bridge, Slot, free, ready, waiting, done, gaveUp, different, reads, writes, checks, readsBack, slot, sound}
+use Rattle.bridge_rules.specs.State.{Bridge, Slot, free, ready, waiting, done, gaveUp, different, reads, writes, checks, readsBack, slot, rest, sound}
 
 -- every number of a slot is 0
 abbrev pub AllZero : Slot → Type 0
@@ -54,8 +54,11 @@ pub record SoundState (s : Bridge) : Type 0 where
       slot s k .ticket ≢ slot s j .ticket
   -- "numbers that a slot doesn't use are 0": all of a free one
   pub unheld : (k : ℕ) → k < 4 → slot s k .phase ≡ free → AllZero (slot s k)
-  -- the declared types': four slots, and tickets of 32 bits
+  -- C-19: "each slot's turns left to rest, sound from 0 to 60"
+  pub rests : (k : ℕ) → k < 4 → rest s k ≤ 60
+  -- the declared types': four slots, four rests, and tickets of 32 bits
   pub four : length (s .slots) ≡ 4
+  pub fourRests : length (s .rests) ≡ 4
   pub issued : s .issued ≤ 4294967295
 
 abbrev pub SoundExactly : Type 0

@@ -86,10 +86,18 @@ slot s k = getD (s .slots) k blank
 
 -- the FRESH bridge of an own number. Its search starts at slot 0, so slot 3 counts as last served
 unfoldable pub fresh : ℕ → Bridge
-fresh own = record { slots = replicate 4 blank; issued = 0; own = own; last = 3 }
+fresh own = record { slots = replicate 4 blank; issued = 0; own = own; last = 3; rests = replicate 4 0 }
 
 abbrev pub withSlots : Bridge → List Slot → Bridge
-withSlots s xs = record { slots = xs; issued = s .issued; own = s .own; last = s .last }
+withSlots s xs = record { slots = xs; issued = s .issued; own = s .own; last = s .last; rests = s .rests }
+
+-- "each slot's turns left to rest" (02, C-19), whether it is free or held
+unfoldable pub rest : Bridge → ℕ → ℕ
+rest s k = getD (s .rests) k 0
+
+-- the turns that a slot rests after a request: "A slot whose last request went out fewer than 60 turns ago is not given to a new transfer"
+abbrev pub restTurns : ℕ
+restTurns = 60
 
 -- a slot of another kind
 abbrev pub ofKind : ℕ → Slot → Slot
@@ -106,7 +114,7 @@ ofKind kind x = record {
   left = x .left;
 }
 
--- a slot moved on: what may change, and the rest kept
+-- a slot moved on: what may change, and the other numbers kept
 abbrev pub moved : Slot → (phase progress sends left : ℕ) → Slot
 moved x phase progress sends left = record {
   ticket = x .ticket;
@@ -177,11 +185,16 @@ unfoldable pub distinct : List Slot → Bool
 distinct [] = true
 distinct (x ∷ xs) = absent (x .ticket) xs && distinct xs
 
--- own number 0..15, last served 0..3 (and, as the declared types have it: tickets to 4,294,967,295, four slots)
+-- each slot's turns left to rest, "sound from 0 to 60"
+unfoldable pub soundRests : List ℕ → Bool
+soundRests [] = true
+soundRests (n ∷ ns) = leb n 60 && soundRests ns
+
+-- own number 0..15, last served 0..3 (and, as the declared types have it: tickets to 4,294,967,295, four slots and rests)
 unfoldable pub sound : Bridge → Bool
 sound s =
-    leb (s .own) 15 && leb (s .last) 3 && leb (s .issued) 4294967295 && eqb (length (s .slots)) 4
-    && soundSlots (s .issued) (s .slots) && distinct (s .slots)
+    leb (s .own) 15 && leb (s .last) 3 && leb (s .issued) 4294967295 && eqb (length (s .slots)) 4 && eqb (length (s .rests)) 4
+    && soundRests (s .rests) && soundSlots (s .issued) (s .slots) && distinct (s .slots)
 
 -- ── Searches ───────────────────────────────────────────────────────────────────────────────────────────────────────
 
@@ -190,13 +203,17 @@ unfoldable pub firstSlot : (ℕ → Bool) → ℕ → ℕ → Option ℕ
 firstSlot p start zero = none
 firstSlot p start (suc n) = cond (p (start % 4)) (some (start % 4)) (firstSlot p (suc start) n)
 
--- a slot that an opening may take
-abbrev pub givable : Slot → Bool
-givable x = isFree (x .phase)
-
--- the lowest free slot
+-- the lowest free slot, whether it rests or not
 unfoldable pub lowestFree : Bridge → Option ℕ
-lowestFree s = firstSlot (λ k. givable (slot s k)) 0 4
+lowestFree s = firstSlot (λ k. isFree (slot s k .phase)) 0 4
+
+-- a slot that an opening may take: it is free and does not rest
+abbrev pub givable : Bridge → ℕ → Bool
+givable s k = isFree (slot s k .phase) && isZero (rest s k)
+
+-- the lowest such slot
+unfoldable pub lowestGivable : Bridge → Option ℕ
+lowestGivable s = firstSlot (givable s) 0 4
 
 -- the slot that a ticket's transfer holds
 unfoldable pub heldSlot : Bridge → ℕ → Option ℕ

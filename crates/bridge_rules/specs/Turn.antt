@@ -12,7 +12,7 @@ use Rattle.bus_rules.specs.declared.Frame.{Frame}
 use Rattle.bridge_rules.specs.declared.Bridge.{Bridge}
 use Rattle.bridge_rules.specs.declared.Slot.{Slot}
 use Rattle.bridge_rules.specs.State.{ready, waiting, done, gaveUp, readsBack, isWaiting, asks, carries, checking}
-use Rattle.bridge_rules.specs.State.{slot, withSlots, ofKind, moved, nextReady}
+use Rattle.bridge_rules.specs.State.{slot, ofKind, moved, nextReady, restTurns}
 use Rattle.bridge_rules.specs.Answers.{Buffers, Result, plain, unless, lentNumber, rightLengths}
 
 -- a waiting read one turn on: 20 turns after a send it is ready again, or after its third send has given up
@@ -23,9 +23,19 @@ ticked x =
 unfoldable pub aged : Slot → Slot
 aged x = cond (isWaiting (x .phase)) (ticked x) x
 
--- of all slots: waiting ones alone change
+-- a slot's turns left to rest, one turn on
+abbrev pub lowered : ℕ → ℕ
+lowered n = n - 1
+
+-- of all slots: waiting ones alone change. Every rest above 0 goes down by one, of free and of held slots
 unfoldable pub agedBridge : Bridge → Bridge
-agedBridge s = withSlots s (map aged (s .slots))
+agedBridge s = record {
+  slots = map aged (s .slots);
+  issued = s .issued;
+  own = s .own;
+  last = s .last;
+  rests = map lowered (s .rests);
+}
 
 -- a transfer goes in order, eight bytes a frame, the last shorter: the length of the part that starts at `progress`
 unfoldable pub chunkLen : ℕ → ℕ → ℕ
@@ -70,15 +80,25 @@ carried x = cond (checking (x .kind) && leb (x .count) (x .progress + 8)) (readB
 unfoldable pub sentSlot : Slot → Slot
 sentSlot x = cond (asks (x .kind)) (requested x) (carried x)
 
+-- a slot that sent REQ, for the first time or again, rests 60 turns; CMD leaves its rest
+unfoldable pub sentRests : List ℕ → ℕ → Slot → List ℕ
+sentRests rests k x = cond (asks (x .kind)) (set rests k restTurns) rests
+
 -- it sends for one ready slot, or answers 0 with no frame if none is ready
 unfoldable pub sendFor : Bridge → Buffers → Option ℕ → Result
 sendFor s b none = record { answer = plain 0; state = s; buffers = b }
 sendFor s b (some k) = record {
   answer = record { number = 0; ticket = 0; sent = some (sentFrame (s .own) k (slot s k) b); shown = [] };
-  state = record { slots = set (s .slots) k (sentSlot (slot s k)); issued = s .issued; own = s .own; last = k };
+  state = record {
+    slots = set (s .slots) k (sentSlot (slot s k));
+    issued = s .issued;
+    own = s .own;
+    last = k;
+    rests = sentRests (s .rests) k (slot s k);
+  };
   buffers = b;
 }
 
--- a turn (refusals 11, 10) first ages each waiting read, then sends
+-- a turn (refusals 11, 10) first ages each waiting read and each rest, then sends
 unfoldable pub turnOf : Bridge → Buffers → Result
 turnOf s b = unless (lentNumber s (rightLengths b)) (sendFor (agedBridge s) b (nextReady (agedBridge s))) s b

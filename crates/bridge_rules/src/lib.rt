@@ -37,13 +37,14 @@ pub struct Slot {
     pub left: u8,
 }
 
-// The bridge: its slots, the last ticket given, its own number, and the slot last served.
+// The bridge: its slots, the last ticket given, its own number, the slot last served, and each slot's turns left to rest.
 #[repr(C)]
 pub struct Bridge {
     pub slots: [Slot; 4],
     pub issued: u32,
     pub own: u8,
     pub last: u8,
+    pub rests: [u8; 4],
 }
 
 // What an opening hands back.
