@@ -1,7 +1,7 @@
--- A bridge has four slots: the code's tests of them, one by one, are those of a sound state.
+-- A bridge has four slots and four rests: the code's tests of them, one by one, are those of a sound state.
 use Prim.Native.Nat.{ℕ, _+_, _≤_, _<_}
 use mathlib.Core.Path.{_≡_, refl, sym, _∙_, ap}
-use mathlib.Core.Bool.{Bool, true, false, not, _&&_, _||_, and-true}
+use mathlib.Core.Bool.{Bool, true, false, not, _&&_, _||_, and-true, and-assoc}
 use mathlib.Core.List.{List, [], _∷_, map}
 use native.Mathlib.Omega.{arith}
 use native.Mathlib.Numerals.{add-one}
@@ -11,7 +11,7 @@ use lib.Dec.{eqb, leb}
 use borrow.Author.Tests.{le-leb, eq-eqb}
 use Rattle.bridge_rules.specs.declared.Bridge.{Bridge}
 use Rattle.bridge_rules.specs.declared.Slot.{Slot}
-use Rattle.bridge_rules.specs.State.{blank, soundSlot, soundSlots, absent, distinct, sound}
+use Rattle.bridge_rules.specs.State.{blank, soundSlot, soundSlots, absent, distinct, soundRests, sound}
 
 pub four : {A : Type 0} (d : A) (l : List A) → length l ≡ 4 → l ≡ getD l 0 d ∷ getD l 1 d ∷ getD l 2 d ∷ getD l 3 d ∷ []
 four d [] h = absurd (omega arith)
@@ -20,6 +20,10 @@ four d (a ∷ b ∷ []) h = absurd (omega arith)
 four d (a ∷ b ∷ c ∷ []) h = absurd (omega arith)
 four d (a ∷ b ∷ c ∷ e ∷ []) h = refl
 four d (a ∷ b ∷ c ∷ e ∷ f ∷ l) h = absurd (omega arith)
+
+pub map-four : {A B : Type 0} (f : A → B) (d : A) (l : List A) → length l ≡ 4
+    → f (getD l 0 d) ∷ f (getD l 1 d) ∷ f (getD l 2 d) ∷ f (getD l 3 d) ∷ [] ≡ map f l
+map-four f d l h = ap (map f) (sym (four d l h))
 
 -- a bridge has four slots, as its declared type says it
 pub four-slots : {B : Type 0} (s : Bridge) (f : Slot → B) → length (map f (s .slots)) ≡ 4 → length (s .slots) ≡ 4
@@ -57,13 +61,17 @@ module _ (t : ℕ) (l : List Slot) (i : ℕ) where
   unfolding soundSlots
   slots-end h = rw (drop-of-length-le l h)
 
-pub sound-parts : (s : Bridge) → s .issued ≤ 4294967295 → length (s .slots) ≡ 4
-    → (leb (s .own) 15 && leb (s .last) 3 && soundSlots (s .issued) (s .slots) && distinct (s .slots)) ≡ sound s
+-- the test of the rests
+rests-of : (a b c d : ℕ) → (leb a 60 && leb b 60 && leb c 60 && leb d 60) ≡ soundRests (a ∷ b ∷ c ∷ d ∷ [])
+unfolding soundRests
+rests-of a b c d = simp (and-assoc, and-true)
+
+pub rests-four : (l : List ℕ) → length l ≡ 4
+    → (leb (getD l 0 0) 60 && leb (getD l 1 0) 60 && leb (getD l 2 0) 60 && leb (getD l 3 0) 60) ≡ soundRests l
+rests-four l h = rests-of _ _ _ _ ∙ ap soundRests (sym (four 0 l h))
+
+pub sound-parts : (s : Bridge) → s .issued ≤ 4294967295 → length (s .slots) ≡ 4 → length (s .rests) ≡ 4
+    → (leb (s .own) 15 && leb (s .last) 3 && soundRests (s .rests) && soundSlots (s .issued) (s .slots) && distinct (s .slots)) ≡ sound s
 unfolding sound
-sound-parts s t h = rw (le-leb (s .issued) 4294967295 t, eq-eqb (length (s .slots)) 4 h) (go (leb (s .own) 15) (leb (s .last) 3))
-  where
-    go : (a b : Bool) → (a && b && soundSlots (s .issued) (s .slots) && distinct (s .slots))
-        ≡ (a && b && true && true && soundSlots (s .issued) (s .slots) && distinct (s .slots))
-    go true true = refl
-    go true false = refl
-    go false b = refl
+sound-parts s t h r =
+    rw (le-leb (s .issued) 4294967295 t, eq-eqb (length (s .slots)) 4 h, eq-eqb (length (s .rests)) 4 r) (simp and-true)

@@ -63,9 +63,9 @@ module _ (s i : ℕ) (l : List Slot) where
   pub stays : i < 4 → isWaiting (getD l ((s + i) % 4) blank .phase) ≡ false → agedOn (4 - i) (s + i) l ≡ agedOn (4 - (i + 1)) (s + (i + 1)) l
   stays h e = ages h _ (age-none _ e) ∙ ap (agedOn (4 - (i + 1)) (s + (i + 1))) (set-getD l ((s + i) % 4) blank)
 
-  pub rests : 4 ≤ i → agedOn (4 - i) (s + i) l ≡ l
+  pub none-left : 4 ≤ i → agedOn (4 - i) (s + i) l ≡ l
   unfolding agedOn
-  rests h = let z : 4 - i ≡ 0 = omega arith in ap (λ (n : ℕ). agedOn n (s + i) l) z
+  none-left h = let z : 4 - i ≡ 0 = omega arith in ap (λ (n : ℕ). agedOn n (s + i) l) z
 
 -- four slots aged in any order that a start gives
 module _ (s : ℕ) (l : List Slot) where

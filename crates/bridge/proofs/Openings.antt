@@ -14,15 +14,15 @@ use Rattle.wire.proofs.Puts.{put-sets}
 use Rattle.bridge_rules.specs.declared.Bridge.{Bridge}
 use Rattle.bridge_rules.specs.declared.Slot.{Slot}
 use Rattle.bridge_rules.specs.declared.Opened.{Opened}
-use Rattle.bridge_rules.specs.State.{lowestFree, isNone, orZero}
+use Rattle.bridge_rules.specs.State.{lowestGivable, isNone, orZero}
 use Rattle.bridge_rules.specs.Answers.{Buffers, Result, rightLengths, openedOf}
 use Rattle.bridge_rules.specs.Opening.{Ask, askCount, withGiven, opened, openNumber, openOf}
 use Rattle.bridge_rules.proofs.NumberLaws.{RightLengths, open-facts, open-lent}
-use Rattle.bridge.proofs.Searches.{free-small, orZero-four}
+use Rattle.bridge.proofs.Searches.{givable-small, orZero-four}
 
 -- what the number 0 says
 pub open-allowed : (s : Bridge) (ok : Bool) (a : Ask) (n : ℕ) → n ≡ openNumber s ok a → n ≡ 0
-    → (isNone (lowestFree s) ≡ false) × (s .issued < 4294967295) × (askCount a ≤ 128)
+    → (isNone (lowestGivable s) ≡ false) × (s .issued < 4294967295) × (askCount a ≤ 128)
 open-allowed s ok a n e z = let f = open-facts s ok a (sym e ∙ z) in (f .slotted, f .ticketed, f .law .few)
 
 -- a part of one of two
@@ -39,7 +39,13 @@ module _ (s : Bridge) (b : Buffers) (a : Ask) (n : ℕ) (e : n ≡ openNumber s 
   -- its answer
   pub open-answer : (r : Opened) (x : Slot)
       → r ≡ cond (eqb n 0) (record {
-        bridge = record { slots = set (s .slots) (orZero (lowestFree s)) x; issued = s .issued + 1; own = s .own; last = s .last };
+        bridge = record {
+          slots = set (s .slots) (orZero (lowestGivable s)) x;
+          issued = s .issued + 1;
+          own = s .own;
+          last = s .last;
+          rests = s .rests;
+        };
         ticket = s .issued + 1;
         number = 0;
       }) (record { bridge = s; ticket = 0; number = n })
@@ -49,16 +55,16 @@ module _ (s : Bridge) (b : Buffers) (a : Ask) (n : ℕ) (e : n ≡ openNumber s 
 
   -- the bytes that it was given, in the one of the buffers that takes them
   pub open-copied : (part : Buffers → List ℕ) (m bs : List ℕ)
-      → m ≡ cond (eqb n 0) (putOf (part b) (128 * orZero (lowestFree s)) bs) (part b)
+      → m ≡ cond (eqb n 0) (putOf (part b) (128 * orZero (lowestGivable s)) bs) (part b)
       → (RightLengths b → length (part b) ≡ 512) → length bs ≡ askCount a
-      → part (withGiven b (orZero (lowestFree s)) a) ≡ sets (part b) (128 * orZero (lowestFree s)) bs → m ≡ part (openOf s b a .buffers)
+      → part (withGiven b (orZero (lowestGivable s)) a) ≡ sets (part b) (128 * orZero (lowestGivable s)) bs → m ≡ part (openOf s b a .buffers)
   unfolding openOf
   open-copied part m bs h right l w =
       h ∙ taken-cond (eqb n 0) _ _ _ fits ∙ rw (← w, ← e) (part-cond (λ (r : Result). part (r .buffers)) (eqb n 0) _ _)
     where
-      fits : eqb n 0 ≡ true → putOf (part b) (128 * orZero (lowestFree s)) bs ≡ sets (part b) (128 * orZero (lowestFree s)) bs
+      fits : eqb n 0 ≡ true → putOf (part b) (128 * orZero (lowestGivable s)) bs ≡ sets (part b) (128 * orZero (lowestGivable s)) bs
       fits t =
           let z = eqb-true n 0 t in
           let few = open-allowed s (rightLengths b) a n e z .2 in
-          put-sets (part b) (128 * orZero (lowestFree s)) bs
-          (omega (arith, right (open-lent s b a (sym e ∙ z) .1), l, few, orZero-four (lowestFree s) (free-small s)))
+          put-sets (part b) (128 * orZero (lowestGivable s)) bs
+          (omega (arith, right (open-lent s b a (sym e ∙ z) .1), l, few, orZero-four (lowestGivable s) (givable-small s)))

@@ -9,7 +9,7 @@ use native.Mathlib.Numerals.{add-one}
 use lib.ListN.{getD}
 use Rattle.bridge_rules.specs.declared.Bridge.{Bridge}
 use Rattle.bridge_rules.specs.declared.Slot.{Slot}
-use Rattle.bridge_rules.specs.State.{isReady, blank, slot, firstSlot, nextReady, lowestFree, heldSlot, orFour, Frame, isNone, orZero}
+use Rattle.bridge_rules.specs.State.{isReady, blank, slot, firstSlot, nextReady, lowestFree, lowestGivable, heldSlot, orFour, Frame, isNone, orZero}
 use Rattle.bridge_rules.specs.Incoming.{awaiting}
 
 abbrev pub readyIn : List Slot → ℕ → Bool
@@ -56,6 +56,10 @@ small-first p start (suc fuel) = go (p (start % 4)) (small-first p (suc start) f
 pub free-small : (s : Bridge) → Small (lowestFree s)
 unfolding lowestFree
 free-small s = small-first _ 0 4
+
+pub givable-small : (s : Bridge) → Small (lowestGivable s)
+unfolding lowestGivable
+givable-small s = small-first _ 0 4
 
 pub held-small : (s : Bridge) (t : ℕ) → Small (heldSlot s t)
 unfolding heldSlot

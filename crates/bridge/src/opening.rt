@@ -8,6 +8,7 @@ use crate::Slot;
 use crate::WRITE;
 use crate::answers::lent_number;
 use crate::search::lowest_free;
+use crate::search::lowest_givable;
 use crate::soundness::ask_number;
 ghost use Prim.Native.Nat.{_+_, _*_, _≤_, _<_};
 ghost use mathlib.Core.Path.{_≡_};
@@ -15,16 +16,19 @@ ghost use mathlib.Core.Bool.{false, cond, _&&_};
 ghost use lib.ListN.{set};
 ghost use lib.Dec.{eqb};
 ghost use Rattle.wire.specs.Put.{putOf};
-ghost use Rattle.bridge_rules.specs.State.{ready, ofKind, lowestFree, orZero, isNone};
+ghost use Rattle.bridge_rules.specs.State.{ready, ofKind, lowestGivable, orZero, isNone};
 ghost use Rattle.bridge_rules.specs.Answers.{both, openedOf};
 ghost use Rattle.bridge_rules.specs.Opening.{read, write, check, roomNumber, openNumber, opened, openOf};
 
-// 12 and 13: no free slot, and tickets used up; else 0.
+// 12, 19 and 13: no free slot, free slots that all rest, and tickets used up; else 0.
 fn room_number(b: Bridge) -> u8
     ensures { λ r. ⌜ r ≡ roomNumber b ⌝ }
 {
     if lowest_free(b) == 4 {
         return 12;
+    }
+    if lowest_givable(b) == 4 {
+        return 19;
     }
     if 4294967295 <= b.issued {
         return 13;
@@ -32,7 +36,7 @@ fn room_number(b: Bridge) -> u8
     0
 }
 
-// 11, 10, 7, 9, 8, 12, 13, by which an opening judges the bridge, buffers of lengths n and m, and its arguments; else 0.
+// 11, 10, 7, 9, 8, 12, 19, 13, by which an opening judges the bridge, buffers of lengths n and m, and its arguments; else 0.
 fn open_number(
     b: Bridge,
     n: usize,
@@ -96,21 +100,22 @@ fn begun(b: Bridge, kind: u8, device: u8, table: u8, offset: u16, count: usize) 
     }
 }
 
-// The lowest free slot holds x, and its ticket is the last given.
+// The lowest slot that an opening may take holds x, and its ticket is the last given.
 fn hold(b: Bridge, x: Slot) -> Opened
-    requires { ⌜ isNone (lowestFree b) ≡ false ⌝ }
+    requires { ⌜ isNone (lowestGivable b) ≡ false ⌝ }
     ensures { λ r. ⌜ r ≡ record {
       bridge = record {
-        slots = set (b .slots) (orZero (lowestFree b)) x;
+        slots = set (b .slots) (orZero (lowestGivable b)) x;
         issued = x .ticket;
         own = b .own;
         last = b .last;
+        rests = b .rests;
       };
       ticket = x .ticket;
       number = 0;
     } ⌝ }
 {
-    let k = lowest_free(b);
+    let k = lowest_givable(b);
     let mut t = b;
     t.slots[k] = x;
     t.issued = x.ticket;
@@ -121,15 +126,16 @@ fn hold(b: Bridge, x: Slot) -> Opened
     }
 }
 
-// Opens a transfer of this kind in the lowest free slot, where its number n is 0; else refuses it with n.
+// Opens a transfer of this kind in the lowest slot that it may take, where its number n is 0; else refuses it with n.
 fn open_slot(b: Bridge, n: u8, kind: u8, device: u8, table: u8, offset: u16, count: usize) -> Opened
-    requires { ⌜ (n ≡ 0 → (isNone (lowestFree b) ≡ false) × (b .issued < 4294967295) × (count ≤ 128)) ⌝ }
+    requires { ⌜ (n ≡ 0 → (isNone (lowestGivable b) ≡ false) × (b .issued < 4294967295) × (count ≤ 128)) ⌝ }
     ensures { λ r. ⌜ r ≡ cond (eqb n 0) (record {
       bridge = record {
-        slots = set (b .slots) (orZero (lowestFree b)) (ofKind kind (opened (read device table offset count) (b .issued + 1)));
+        slots = set (b .slots) (orZero (lowestGivable b)) (ofKind kind (opened (read device table offset count) (b .issued + 1)));
         issued = b .issued + 1;
         own = b .own;
         last = b .last;
+        rests = b .rests;
       };
       ticket = b .issued + 1;
       number = 0;
@@ -142,15 +148,15 @@ fn open_slot(b: Bridge, n: u8, kind: u8, device: u8, table: u8, offset: u16, cou
     hold(b, x)
 }
 
-// Copies bytes into the lowest free slot's part of a buffer, where the opening's number n is 0.
+// Copies bytes into a buffer, to the part of the slot that an opening takes, where its number n is 0.
 fn copy(b: Bridge, n: u8, buffer: &mut [u8], bytes: &[u8])
-    requires { ⌜ (n ≡ 0 → isNone (lowestFree b) ≡ false) ⌝ }
+    requires { ⌜ (n ≡ 0 → isNone (lowestGivable b) ≡ false) ⌝ }
     ensures { λ _. ⌜ now (buffer .exit) ≡ cond (eqb n 0)
-        (putOf (now (buffer .entry)) (128 * orZero (lowestFree b)) (now (bytes .entry)))
+        (putOf (now (buffer .entry)) (128 * orZero (lowestGivable b)) (now (bytes .entry)))
         (now (buffer .entry)) ⌝ }
 {
     if n == 0 {
-        wire::put(buffer, 128 * lowest_free(b), bytes);
+        wire::put(buffer, 128 * lowest_givable(b), bytes);
     }
 }
 

@@ -8,7 +8,7 @@ ghost use mathlib.Core.Bool.{false, not, _&&_};
 ghost use mathlib.Core.List.{[], _∷_};
 ghost use lib.ListN.{getD};
 ghost use lib.Dec.{eqb};
-ghost use Rattle.bridge_rules.specs.State.{isFree, givable, firstSlot, orFour, lowestFree, heldSlot, nextReady};
+ghost use Rattle.bridge_rules.specs.State.{isFree, isZero, firstSlot, orFour, lowestFree, lowestGivable, heldSlot, nextReady};
 
 // The first of four tests that holds, or 4.
 fn first_slot(a: bool, b: bool, c: bool, d: bool) -> usize
@@ -29,23 +29,43 @@ fn first_slot(a: bool, b: bool, c: bool, d: bool) -> usize
     4
 }
 
-// A slot that an opening may take.
-fn givable(x: Slot) -> bool
-    ensures { λ r. ⌜ r ≡ givable x ⌝ }
+fn is_free(x: Slot) -> bool
+    ensures { λ r. ⌜ r ≡ isFree (x .phase) ⌝ }
 {
     x.phase == FREE
 }
 
-// The lowest free slot, or 4.
+// A slot that an opening may take: it is free, and has no turns left to rest.
+fn givable(x: Slot, rest: u8) -> bool
+    ensures { λ r. ⌜ r ≡ (isFree (x .phase) && isZero rest) ⌝ }
+{
+    (x.phase == FREE) & (rest == 0)
+}
+
+// The lowest free slot, whether it rests or not, or 4.
 pub(crate) fn lowest_free(b: Bridge) -> usize
     ensures { λ r. ⌜ r ≡ orFour (lowestFree b) ⌝ }
 {
     let slots = b.slots;
     first_slot(
-        givable(slots[0]),
-        givable(slots[1]),
-        givable(slots[2]),
-        givable(slots[3]),
+        is_free(slots[0]),
+        is_free(slots[1]),
+        is_free(slots[2]),
+        is_free(slots[3]),
+    )
+}
+
+// The lowest slot that an opening may take, or 4.
+pub(crate) fn lowest_givable(b: Bridge) -> usize
+    ensures { λ r. ⌜ r ≡ orFour (lowestGivable b) ⌝ }
+{
+    let slots = b.slots;
+    let rests = b.rests;
+    first_slot(
+        givable(slots[0], rests[0]),
+        givable(slots[1], rests[1]),
+        givable(slots[2], rests[2]),
+        givable(slots[3], rests[3]),
     )
 }
 

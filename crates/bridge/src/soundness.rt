@@ -15,7 +15,7 @@ ghost use mathlib.Core.Path.{_≡_};
 ghost use Prim.Native.Nat.{ℕ};
 ghost use mathlib.Core.Bool.{cond, not, _&&_, _||_};
 ghost use lib.Dec.{leb, ltb, eqb};
-ghost use Rattle.bridge_rules.specs.State.{free, asks, checking, askNumber, soundPhase, soundSlot, soundSlots, distinct, sound};
+ghost use Rattle.bridge_rules.specs.State.{free, asks, checking, askNumber, soundPhase, soundSlot, soundSlots, soundRests, distinct, sound};
 
 // 7, 9 and 8, by which an opening judges its arguments; else 0.
 pub(crate) fn ask_number(device: u8, table: u8, offset: u16, count: usize) -> u8
@@ -191,11 +191,19 @@ fn sound_slots(slots: [Slot; 4], issued: u32) -> bool
     distinct(slots)
 }
 
+// Whether each slot has at most 60 turns left to rest.
+fn sound_rests(rests: [u8; 4]) -> bool
+    ensures { λ r. ⌜ r ≡ soundRests rests ⌝ }
+{
+    (rests[0] <= 60) & (rests[1] <= 60) & (rests[2] <= 60) & (rests[3] <= 60)
+}
+
 // Whether a bridge is in a sound state.
 pub(crate) fn sound(b: Bridge) -> bool
     ensures { λ r. ⌜ r ≡ sound b ⌝ }
 {
-    let numbers = (b.own <= 15) & (b.last <= 3);
+    let rests = b.rests;
+    let numbers = (b.own <= 15) & (b.last <= 3) & sound_rests(rests);
     if !numbers {
         return false;
     }

@@ -75,11 +75,13 @@ pub(crate) fn fresh(own: u8) -> Bridge
 {
     let x = blank();
     let slots = [x, x, x, x];
+    let rests = [0u8; 4];
     Bridge {
         slots: slots,
         issued: 0,
         own: own,
         last: 3,
+        rests: rests,
     }
 }
 
@@ -87,11 +89,13 @@ pub(crate) fn fresh(own: u8) -> Bridge
 pub(crate) fn with_slots(b: Bridge, slots: [Slot; 4]) -> Bridge
     ensures { λ r. ⌜ r ≡ withSlots b slots ⌝ }
 {
+    let rests = b.rests;
     Bridge {
         slots: slots,
         issued: b.issued,
         own: b.own,
         last: b.last,
+        rests: rests,
     }
 }
 
@@ -113,7 +117,7 @@ pub(crate) fn of_kind(x: Slot, kind: u8) -> Slot
     }
 }
 
-// A slot moved on: what may change, and the rest kept.
+// A slot moved on: what may change; all else is kept.
 pub(crate) fn moved(x: Slot, phase: u8, progress: u8, sends: u8, left: u8) -> Slot
     ensures { λ r. ⌜ r ≡ moved x phase progress sends left ⌝ }
 {

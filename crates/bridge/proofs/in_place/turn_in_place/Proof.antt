@@ -1,5 +1,5 @@
 -- `bridge::in_place::turn_in_place` meets its contract: a walk of its MIR, by hand. The borrow is opened, the bridge is copied out,
--- `turn` is called on the copy and the slices, its bridge is stored, and the borrow is closed there. The rest of the result is the answer.
+-- `turn` is called on the copy and the slices, its bridge is stored, and the borrow is closed there. The other part of the result is the answer.
 -- All that the proof knows of `turn` is that it meets its contract.
 -- Assumes nothing.
 use mathlib.Core.Path.{_≡_, refl, ap}

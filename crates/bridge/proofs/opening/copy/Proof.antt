@@ -5,21 +5,21 @@ use Prim.Native.Nat.{_<_}
 use mathlib.Core.Path.{_≡_, _∙_}
 use native.Mathlib.Omega.{arith}
 use borrow.Author.Tests.{eq-eqb, ne-eqb}
-use Rattle.bridge_rules.specs.State.{lowestFree, orZero}
-use Rattle.bridge.proofs.Searches.{free-small, slot-found}
+use Rattle.bridge_rules.specs.State.{lowestGivable, orZero}
+use Rattle.bridge.proofs.Searches.{givable-small, slot-found}
 
 -- the slot that is found
-free : (c : tie.After-lowest-free)
-    → let b = c .before .before .before .before .before .args .b in (c .lowest-free .result ≡ orZero (lowestFree b)) × (c .lowest-free .result < 4)
-free c =
+found : (c : tie.After-lowest-givable)
+    → let b = c .before .before .before .before .before .args .b in (c .lowest-givable .result ≡ orZero (lowestGivable b)) × (c .lowest-givable .result < 4)
+found c =
     let s = c .before .before .before .before .before in
-    slot-found (lowestFree (s .args .b)) (free-small (s .args .b)) (c .lowest-free .ensures) (s .pre (c .before .before .if1 .taken))
+    slot-found (lowestGivable (s .args .b)) (givable-small (s .args .b)) (c .lowest-givable .ensures) (s .pre (c .before .before .if1 .taken))
 
-lowest-free-requires : tie.Need-lowest-free-requires
-lowest-free-requires c κs = search needs
+lowest-givable-requires : tie.Need-lowest-givable-requires
+lowest-givable-requires c κs = search needs
 
 mul-put : tie.Need-mul-put
-mul-put c = omega (arith, free c .1)
+mul-put c = omega (arith, found c .1)
 
 put-requires : tie.Need-put-requires
 put-requires c κs = search needs
@@ -30,10 +30,10 @@ same-length c = search needs
 returns : tie.Need-returns
 returns c =
     let t = c .before .before .before .before .before in
-    c .before .before .put .ensures ∙ rw (← free (c .before .before .before) .0, eq-eqb (t .before .before .before .args .n) 0 (t .if1 .taken))
+    c .before .before .put .ensures ∙ rw (← found (c .before .before .before) .0, eq-eqb (t .before .before .before .args .n) 0 (t .if1 .taken))
 
 returns-2 : tie.Need-returns-2
 returns-2 c = rw (ne-eqb (c .before .before .before .args .n) 0 (c .if1 .left))
 
 pub copy-spec : {M : Type 1} → statement M
-copy-spec = tie.close (tie.spec lowest-free-requires mul-put put-requires same-length returns returns-2)
+copy-spec = tie.close (tie.spec lowest-givable-requires mul-put put-requires same-length returns returns-2)

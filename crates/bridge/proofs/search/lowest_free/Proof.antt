@@ -4,29 +4,29 @@ use Rattle.bridge.proofs.search.lowest_free.Tie as tie
 use mathlib.Core.Path.{_∙_}
 use Rattle.bridge_rules.specs.State.{lowestFree, slot, firstSlot}
 
-array-copy-out-givable : tie.Need-array-copy-out-givable
-array-copy-out-givable c = search needs
+array-copy-out-is-free : tie.Need-array-copy-out-is-free
+array-copy-out-is-free c = search needs
 
-givable-requires : tie.Need-givable-requires
-givable-requires c κs = search needs
+is-free-requires : tie.Need-is-free-requires
+is-free-requires c κs = search needs
 
-array-copy-out-givable-2 : tie.Need-array-copy-out-givable-2
-array-copy-out-givable-2 c = search needs
+array-copy-out-is-free-2 : tie.Need-array-copy-out-is-free-2
+array-copy-out-is-free-2 c = search needs
 
-givable-requires-2 : tie.Need-givable-requires-2
-givable-requires-2 c κs = search needs
+is-free-requires-2 : tie.Need-is-free-requires-2
+is-free-requires-2 c κs = search needs
 
-array-copy-out-givable-3 : tie.Need-array-copy-out-givable-3
-array-copy-out-givable-3 c = search needs
+array-copy-out-is-free-3 : tie.Need-array-copy-out-is-free-3
+array-copy-out-is-free-3 c = search needs
 
-givable-requires-3 : tie.Need-givable-requires-3
-givable-requires-3 c κs = search needs
+is-free-requires-3 : tie.Need-is-free-requires-3
+is-free-requires-3 c κs = search needs
 
-array-copy-out-givable-4 : tie.Need-array-copy-out-givable-4
-array-copy-out-givable-4 c = search needs
+array-copy-out-is-free-4 : tie.Need-array-copy-out-is-free-4
+array-copy-out-is-free-4 c = search needs
 
-givable-requires-4 : tie.Need-givable-requires-4
-givable-requires-4 c κs = search needs
+is-free-requires-4 : tie.Need-is-free-requires-4
+is-free-requires-4 c κs = search needs
 
 first-slot-requires : tie.Need-first-slot-requires
 first-slot-requires c κs = search needs
@@ -38,19 +38,19 @@ returns c =
     let third = fourth .before .before in
     let second = third .before .before in
     let first = second .before .before in
-    c .first-slot .ensures ∙ rw (first .givable .ensures, second .givable2 .ensures, third .givable3 .ensures, fourth .givable4 .ensures)
+    c .first-slot .ensures ∙ rw (first .is-free .ensures, second .is-free2 .ensures, third .is-free3 .ensures, fourth .is-free4 .ensures)
 
 pub lowest-free-spec : {M : Type 1} → statement M
 lowest-free-spec =
     tie.close
     (tie.spec
-    array-copy-out-givable
-    givable-requires
-    array-copy-out-givable-2
-    givable-requires-2
-    array-copy-out-givable-3
-    givable-requires-3
-    array-copy-out-givable-4
-    givable-requires-4
+    array-copy-out-is-free
+    is-free-requires
+    array-copy-out-is-free-2
+    is-free-requires-2
+    array-copy-out-is-free-3
+    is-free-requires-3
+    array-copy-out-is-free-4
+    is-free-requires-4
     first-slot-requires
     returns)

@@ -52,9 +52,9 @@ returns-6 : tie.Need-returns-6
 returns-6 c = sym (turns-left _ _ _ _ _ _ (c .before .before .if5 .left) (c .if6 .taken))
 
 -- with no turns left
-rests : (c : tie.Else6) → let x = c .before .before .before .before .before .before .before .before .before .before .before .before .args .x in
+no-turns : (c : tie.Else6) → let x = c .before .before .before .before .before .before .before .before .before .before .before .before .args .x in
     (partway (x .count) (x .progress) ≡ true) × (eqb (x .left) 0 ≡ true)
-rests c = (goes-on (c .before .before .before .before .before .before), eq-eqb _ 0 (c .if6 .left))
+no-turns c = (goes-on (c .before .before .before .before .before .before), eq-eqb _ 0 (c .if6 .left))
 
 asks-requires : tie.Need-asks-requires
 asks-requires c κs = search needs
@@ -62,7 +62,7 @@ asks-requires c κs = search needs
 returns-7 : tie.Need-returns-7
 unfolding soundPhase
 returns-7 c =
-    let sixth = rests (c .before .before .before .before) in
+    let sixth = no-turns (c .before .before .before .before) in
     rw (c .before .asks .ensures, sixth .0, sixth .1, c .before .before .if7 .taken, and-true)
 
 compares-requires : tie.Need-compares-requires
@@ -71,7 +71,7 @@ compares-requires c κs = search needs
 returns-8 : tie.Need-returns-8
 unfolding soundPhase
 returns-8 c =
-    let sixth = rests (c .before .before .before .before .before .before) in
+    let sixth = no-turns (c .before .before .before .before .before .before) in
     rw (c .before .compares .ensures, sixth .0, sixth .1, c .before .before .if8 .taken, and-true)
 
 returns-9 : tie.Need-returns-9

@@ -6,10 +6,9 @@ use mathlib.Core.Path.{_≡_, sym, _∙_, ap}
 use mathlib.Core.Logic.{⊎-elim}
 use native.Mathlib.Omega.{arith}
 use borrow.Author.Tests.{ne-eqb}
-use Rattle.bridge_rules.specs.State.{withSlots}
 use Rattle.bridge_rules.specs.Turn.{agedBridge}
 use Rattle.bridge.proofs.FourSlots.{four-slots}
-use Rattle.bridge.proofs.MovedSlots.{agedOn, ages, stays, rests, aged-four}
+use Rattle.bridge.proofs.MovedSlots.{agedOn, ages, stays, none-left, aged-four}
 
 abbrev Inv-loop : tie.InvT-loop
 Inv-loop b start slots₀ i₀ slots i = (i ≤ 4) × (agedOn 4 start slots₀ ≡ agedOn (4 - i) (start + i) slots)
@@ -57,18 +56,18 @@ loop-again c =
           (c .if1 .came),
     )
 
-with-slots-requires : tie.Need-with-slots-requires Inv-loop μ-loop
-with-slots-requires c κs = search needs
+lowered-requires : tie.Need-lowered-requires Inv-loop μ-loop
+lowered-requires c κs = search needs
 
 returns : tie.Need-returns Inv-loop μ-loop
 unfolding agedBridge
 returns c =
-    let s = c .before .before .before .before .before in
+    let s = c .before .before .before .before .before .before in
     let b = s .args .b in
-    let l = c .before .before .loop in
-    let none = l .inv .1 ∙ rests _ (l .i) (l .slots) (omega arith) in
+    let l = c .before .before .before .loop in
+    let none = l .inv .1 ∙ none-left _ (l .i) (l .slots) (omega arith) in
     let all = aged-four (b .last) (b .slots) (four-slots b _ (s .good .0 .1 .1 .0 .1 .0 .1)) in
-    c .with-slots .ensures ∙ ap (withSlots b) (sym none ∙ all)
+    rw (c .lowered .ensures, sym none ∙ all)
 
 pub aged-bridge-spec : {M : Type 1} → statement M
 aged-bridge-spec =
@@ -87,5 +86,5 @@ aged-bridge-spec =
     add-i
     loop-less
     loop-again
-    with-slots-requires
+    lowered-requires
     returns)

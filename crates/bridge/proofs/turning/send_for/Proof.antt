@@ -34,12 +34,17 @@ mul-slots c = search needs
 array-set-from-slots : tie.Need-array-set-from-slots
 array-set-from-slots c = search needs
 
-cast-t18 : tie.Need-cast-t18
-cast-t18 c = search needs
+sent-rests-requires : tie.Need-sent-rests-requires
+sent-rests-requires c κs = search needs
+
+cast-t20 : tie.Need-cast-t20
+cast-t20 c = search needs
 
 returns : tie.Need-returns
 unfolding sendFor slot steppedOf
-returns c = rw (c .before .sent-frame .ensures, c .sent-slot .ensures)
+returns c =
+    let sent = c .before .before in
+    rw (sent .before .sent-frame .ensures, sent .sent-slot .ensures, c .sent-rests .ensures)
 
 pub send-for-spec : {M : Type 1} → statement M
 send-for-spec =
@@ -51,5 +56,6 @@ send-for-spec =
     sent-slot-requires
     mul-slots
     array-set-from-slots
-    cast-t18
+    sent-rests-requires
+    cast-t20
     returns)
