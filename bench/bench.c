@@ -60,7 +60,7 @@ static uint64_t bridge_digest(uint64_t h, const hg_bridge *b)
 {
     for (int i = 0; i < 4; i++)
         h = slot_digest(h, &b->slots[i]);
-    return mixed(mixed(mixed(h, b->issued), b->own), b->last);
+    return mixed_bytes(mixed(mixed(mixed(h, b->issued), b->own), b->last), b->rests, sizeof b->rests);
 }
 
 static uint64_t block_digest(uint64_t h, const hg_mlg_block *b)
@@ -168,14 +168,22 @@ static hg_frame awaited(const hg_bridge *b)
     return f;
 }
 
+/* Closes what has ended, and sets the slots' rests to 0, which no host does: so four transfers are held before every turn. */
+static void close_ended(hg_bridge *b)
+{
+    for (int i = 0; i < 4; i++)
+        if (b->slots[i].phase >= HG_PHASE_DONE) {
+            *b = hg_bridge_close(*b, b->slots[i].ticket).bridge;
+            b->rests[i] = 0;
+        }
+}
+
 static void make_busy(busy *out, bool checked)
 {
     hg_bridge b = hg_bridge_reset((hg_bridge){0}, 0).bridge;
     int turns = 0, frames = 0;
     while (turns < BRIDGES || frames < BRIDGES) {
-        for (int i = 0; i < 4; i++)
-            if (b.slots[i].phase >= HG_PHASE_DONE)
-                b = hg_bridge_close(b, b.slots[i].ticket).bridge;
+        close_ended(&b);
         open_some(&b, checked);
         if (turns < BRIDGES)
             out->before_turn[turns++] = b;

@@ -160,6 +160,9 @@ void PLAIN(serve)(const hg_directory *d, uint8_t *memory, size_t len, const hg_f
 
 /* ---- Bridge ---- */
 
+/* The turns that a slot rests after a REQ. */
+enum { REST = 60 };
+
 /* A read, or a checked write that reads back. */
 static bool asks(const hg_slot *s) { return s->kind % 2 == 0; }
 
@@ -195,7 +198,7 @@ static uint8_t bridge_number(const hg_bridge *b, size_t first_len, size_t second
     if (b->own > 15 || b->last > 3)
         return 11;
     for (int i = 0; i < 4; i++)
-        if (!sound_slot(&b->slots[i], b->issued))
+        if (!sound_slot(&b->slots[i], b->issued) || b->rests[i] > REST)
             return 11;
     for (int i = 0; i < 3; i++)
         for (int j = i + 1; j < 4; j++)
@@ -272,6 +275,7 @@ static void send(hg_bridge *b, unsigned k, const uint8_t *first, const uint8_t *
         s->phase = HG_PHASE_WAITING;
         s->sends++;
         s->left = 20;
+        b->rests[k] = REST;
     }
 }
 
@@ -282,8 +286,11 @@ void PLAIN(turn)(hg_bridge *b, const uint8_t *first, size_t first_len, const uin
         no_yield(out, number);
         return;
     }
-    for (int i = 0; i < 4; i++)
+    for (int i = 0; i < 4; i++) {
         age(&b->slots[i]);
+        if (b->rests[i] > 0)
+            b->rests[i]--;
+    }
     for (unsigned i = 1; i <= 4; i++) {
         unsigned k = (b->last + i) % 4;
         if (b->slots[k].phase == HG_PHASE_READY) {

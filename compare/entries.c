@@ -107,7 +107,7 @@ static void fill_both(buffers *lent) {
 /* A write of ten bytes in slot 0, ticket 1; a read of twelve in slot 1, ticket 2; a checked write of ten in slot 2, ticket 3. */
 static hg_bridge openings(buffers *lent) {
     uint8_t bytes[10];
-    hg_changed fresh = CALL(hg_bridge_reset, .b = {.issued = 7, .own = 8, .last = 2}, .own = 9);
+    hg_changed fresh = CALL(hg_bridge_reset, .b = {.issued = 7, .own = 8, .last = 2, .rests = {60, 0, 61, 7}}, .own = 9);
     hg_bridge one, two, three;
     CALL(hg_bridge_reset, .b = fresh.bridge, .own = 16);
     fill(bytes, 10, 200);
@@ -183,6 +183,29 @@ static void bridge_in_place(void) {
     CALL(hg_bridge_span, .b = b, .first = lent->first, .first_len = HG_BUFFER, .ticket = 3);
     CALL(hg_bridge_close_in_place, .b = &b, .ticket = 1);
     CALL(hg_bridge_close_in_place, .b = &b, .ticket = 1);
+}
+
+/* Slots that rest: an opening takes the lowest that does not, or is refused with 19; 61 turns left are unsound. */
+static void bridge_rests(void) {
+    buffers both, *lent = &both;
+    hg_bridge b = {.issued = 7, .own = 9, .last = 3, .rests = {60, 0, 1, 0}}, resting = b, unsound = b;
+    uint8_t bytes[10];
+    resting.rests[1] = 2, resting.rests[3] = 59;
+    unsound.rests[2] = 61;
+    fill_both(lent);
+    fill(bytes, 10, 200);
+    CALL(hg_bridge_open_write, .b = b, BOTH, .device = 4, .table = 21, .offset = 300, .bytes = bytes, .count = 10);
+    CALL(hg_bridge_open_write, .b = resting, BOTH, .device = 4, .table = 21, .offset = 300, .bytes = bytes, .count = 10);
+    CALL(hg_bridge_open_check, .b = b, BOTH, .device = 5, .table = 23, .offset = 200, .bytes = bytes, .count = 10);
+    CALL(hg_bridge_open_check, .b = resting, BOTH, .device = 5, .table = 23, .offset = 200, .bytes = bytes, .count = 10);
+    CALL(hg_bridge_open_read, .b = resting, BOTH, .device = 5, .table = 22, .offset = 100, .count = 12);
+    CALL(hg_bridge_open_read, .b = unsound, BOTH, .device = 5, .table = 22, .offset = 100, .count = 12);
+    b = CALL(hg_bridge_open_read, .b = b, BOTH, .device = 5, .table = 22, .offset = 100, .count = 12).bridge;
+    b = CALL(hg_bridge_turn, .b = b, BOTH).bridge;
+    b = CALL(hg_bridge_close, .b = b, .ticket = 8).bridge;
+    CALL(hg_bridge_frame, .b = b, BOTH, .frame = reply(128, "too late", 8));
+    b = CALL(hg_bridge_open_read, .b = b, BOTH, .device = 5, .table = 22, .offset = 100, .count = 12).bridge;
+    CALL(hg_bridge_turn_in_place, .b = &b, BOTH);
 }
 
 /* A field with its type and name. */
@@ -291,6 +314,7 @@ int main(void) {
     holder();
     bridge_by_value();
     bridge_in_place();
+    bridge_rests();
     mlg();
     frd();
     return 0;

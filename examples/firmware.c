@@ -4,8 +4,11 @@
  * The dash (number 0) reads 128 bytes of table 7 of a device (number 5) and writes 20 bytes into its table 3. The bus loses
  * one reply, delivers another late, and carries frames of a third device (number 9). Then the bytes that the
  * bridge shows are compared with the device's tables; the program exits 1 where they differ.
- * Last come three checked writes: the device takes what it is sent, is unplugged, and misses a CMD. A plain write would be done in all
+ * Then come three checked writes: the device takes what it is sent, is unplugged, and misses a CMD. A plain write would be done in all
  * three, since that means sent, no more.
+ * Last comes a slow answer to a read that was closed meanwhile, which no other read may take for its own: a slot rests for 60 turns after
+ * each REQ, so the next reads get other slots. Once all free slots rest an opening is refused with number 19; the dash takes turns and tries
+ * again.
  *
  *     gcc -std=c11 -Iinclude examples/firmware.c target/staticlib/libhoneygimlet.a -o target/firmware
  */
@@ -75,6 +78,7 @@ static void device_start(void)
 
 static bool unplugged;  /* nothing reaches the device */
 static unsigned missed; /* which CMD from now on the device misses, counted from 1; 0: none */
+static unsigned slow;   /* how many turns late its next reply is */
 
 /* Serves a frame. The third reply is lost, the sixth arrives 25 turns late. */
 static void device_frame(unsigned turn, hg_frame frame)
@@ -93,7 +97,8 @@ static void device_frame(unsigned turn, hg_frame frame)
     if (replies == 3)
         printf("turn %3u  bus     loses the reply 0x%08" PRIX32 "\n", turn, served.frame.id);
     else
-        bus_send(turn + (replies == 6 ? 25 : 1), DEVICE, served.frame);
+        bus_send(turn + (replies == 6 ? 25 : 1) + slow, DEVICE, served.frame);
+    slow = 0;
 }
 
 /* ---- The third device ---- */
@@ -124,6 +129,25 @@ static hg_bridge bridge;
 static uint8_t first[HG_BUFFER], second[HG_BUFFER]; /* the second has what checked writes send */
 static unsigned turn;
 
+static void reset(void)
+{
+    hg_changed fresh = hg_bridge_reset(bridge, DASH);
+    if (fresh.number != 0) {
+        printf("reset refused with number %u\n", fresh.number);
+        exit(1);
+    }
+    bridge = fresh.bridge;
+}
+
+/* The slot that a ticket's transfer holds. */
+static unsigned slot_of(uint32_t ticket)
+{
+    unsigned k = 0;
+    while (k < 3 && bridge.slots[k].ticket != ticket)
+        k++;
+    return k;
+}
+
 static uint32_t opened(const char *what, hg_opened answer)
 {
     if (answer.number != 0) {
@@ -131,8 +155,15 @@ static uint32_t opened(const char *what, hg_opened answer)
         exit(1);
     }
     bridge = answer.bridge;
-    printf("          dash    opens a %s, ticket %" PRIu32 "\n", what, answer.ticket);
+    printf("          dash    opens a %s, ticket %" PRIu32 ", slot %u\n", what, answer.ticket, slot_of(answer.ticket));
     return answer.ticket;
+}
+
+static bool closed(uint32_t ticket)
+{
+    uint8_t number = hg_bridge_close_in_place(&bridge, ticket);
+    printf("          dash    closes ticket %" PRIu32 ", number %u\n", ticket, number);
+    return number == 0;
 }
 
 static void dash_turn(void)
@@ -175,6 +206,19 @@ static void loop_turn(void)
     }
 }
 
+/* Whether a read is done and shows the device's bytes of table 7. */
+static bool read_done(uint32_t ticket, size_t offset, size_t count)
+{
+    hg_span shown = hg_bridge_span(bridge, first, sizeof first, ticket);
+    if (shown.number != 0) {
+        printf("turn %3u  dash    the read ended with number %u\n", turn, shown.number);
+        return false;
+    }
+    bool same = shown.len == count && memcmp(first + shown.start, read_table + offset, count) == 0;
+    printf("turn %3u  dash    the read is done: %zu bytes, %s\n", turn, shown.len, same ? "the table's" : "NOT the table's");
+    return same;
+}
+
 /* A read and a write at the same time; false where the device's tables are not what they should be. */
 static bool read_and_write(void)
 {
@@ -194,19 +238,10 @@ static bool read_and_write(void)
         }
     }
 
-    hg_span shown = hg_bridge_span(bridge, first, sizeof first, read);
-    if (shown.number != 0) {
-        printf("turn %3u  dash    the read ended with number %u\n", turn, shown.number);
-        return false;
-    }
-    bool same = shown.len == READ_COUNT && memcmp(first + shown.start, read_table + READ_OFFSET, READ_COUNT) == 0;
+    bool same = read_done(read, READ_OFFSET, READ_COUNT);
     bool stored = memcmp(write_table + WRITE_OFFSET, text, sizeof text) == 0;
-    printf("turn %3u  dash    the read is done: %zu bytes, %s\n", turn, shown.len, same ? "the table's" : "NOT the table's");
     printf("          device  has %s\n", stored ? "the bytes written" : "NOT the bytes written");
-
-    uint8_t closed = hg_bridge_close_in_place(&bridge, read) | hg_bridge_close_in_place(&bridge, write);
-    printf("          dash    closes both, number %u\n", closed);
-    return same && stored && closed == 0;
+    return same && stored && closed(read) && closed(write);
 }
 
 /* How a checked write ended, by its status. */
@@ -233,18 +268,70 @@ static bool check(const char *text, uint8_t expected)
     bool stored = memcmp(write_table + WRITE_OFFSET, bytes, sizeof bytes) == 0;
     printf("turn %3u  dash    the checked write %s: number %u\n", turn, ending(number), number);
     printf("          device  has %s\n", stored ? "the bytes" : "other bytes");
-    return number == expected && stored == (number == HG_DONE) && hg_bridge_close_in_place(&bridge, ticket) == 0;
+    return number == expected && stored == (number == HG_DONE) && closed(ticket);
+}
+
+/* A reset clears the rests: the dash lets them run out first, so that no request went out in the last 60 turns before it. */
+static void rested_reset(void)
+{
+    static const uint8_t none[4];
+    while (memcmp(bridge.rests, none, sizeof none) != 0)
+        loop_turn();
+    printf("turn %3u  dash    resets the bridge, of which no slot rests\n", turn);
+    reset();
+}
+
+static hg_opened open_eight(uint16_t offset)
+{
+    return hg_bridge_open_read(bridge, first, sizeof first, second, sizeof second, DEVICE, READ_TABLE, offset, 8);
+}
+
+/* Opens a read of eight bytes of table 7. While all free slots rest it takes turns and tries again, at most 60 turns. */
+static uint32_t open_rested(uint16_t offset)
+{
+    hg_opened answer = open_eight(offset);
+    if (answer.number == HG_RESTING) {
+        printf("turn %3u  dash    is refused a slot with number %u: all free ones rest\n", turn, answer.number);
+        do {
+            loop_turn();
+            answer = open_eight(offset);
+        } while (answer.number == HG_RESTING);
+        printf("turn %3u  dash    is given one\n", turn);
+    }
+    return opened("read", answer);
+}
+
+static bool read_eight(uint32_t ticket, uint16_t offset)
+{
+    while (hg_bridge_status(bridge, ticket) == HG_NOT_FINISHED)
+        loop_turn();
+    return read_done(ticket, offset, 8) && closed(ticket);
+}
+
+/* A read is closed before its answer, which comes 20 turns late; false where anybody gets its bytes. */
+static bool late_answer(void)
+{
+    uint8_t before[HG_BUFFER];
+    slow = 20;
+    uint32_t early = open_rested(0);
+    loop_turn();
+    if (!closed(early))
+        return false;
+    for (uint16_t offset = 100; offset <= 200; offset += 50)
+        if (!read_eight(open_rested(offset), offset))
+            return false;
+    memcpy(before, first, sizeof before);
+    uint32_t last = open_rested(250); /* the late answer comes while it waits for a slot */
+    if (memcmp(before, first, sizeof before) != 0)
+        return false;
+    puts("          dash    has stored nothing meanwhile");
+    return read_eight(last, 250);
 }
 
 int main(void)
 {
     device_start();
-    hg_changed fresh = hg_bridge_reset(bridge, DASH);
-    if (fresh.number != 0) {
-        printf("reset refused with number %u\n", fresh.number);
-        return 1;
-    }
-    bridge = fresh.bridge;
+    reset();
     if (!read_and_write() || !check("fuel map one", HG_DONE))
         return 1;
     puts("          device  is unplugged");
@@ -254,5 +341,8 @@ int main(void)
     puts("          device  is plugged in again");
     unplugged = false;
     missed = 2;
-    return check("fuel map six", HG_DIFFERENT) ? 0 : 1;
+    if (!check("fuel map six", HG_DIFFERENT))
+        return 1;
+    rested_reset();
+    return late_answer() ? 0 : 1;
 }

@@ -14,7 +14,7 @@
  * that a call takes at most, beside its arguments, its answer and what memcpy takes (the first row that fits):
  *
  *   hg_bus_*                                  nothing                               180
- *   hg_bridge_*                               nothing                               669
+ *   hg_bridge_*                               nothing                               733
  *   hg_mlg_read_block                         record length                          88
  *   hg_mlg_write_data                         record length                          16
  *   hg_mlg_write_mark, hg_mlg_*_value         nothing                                88
@@ -63,6 +63,7 @@ enum {
     HG_GAVE_UP = 16,         /* gave up */
     HG_NO_MATCH = 17,        /* reply matches no waiting read, nor a checked write that reads back */
     HG_DIFFERENT = 18,       /* read back different */
+    HG_RESTING = 19,         /* slots are free, but all rest */
     HG_CUT_SHORT = 20,       /* file or block cut short */
     HG_WRONG_NAME = 21,      /* wrong name */
     HG_VERSION = 22,         /* version not served */
@@ -212,16 +213,26 @@ HG_SIZE(hg_slot, 16);
  * equal; as given up (HG_GAVE_UP) when one of its requests had no reply three times; as different (HG_DIFFERENT) at the first reply
  * that brings another byte. Till then it is HG_NOT_FINISHED. Given up or different, the box may have taken all, some or none of it.
  * A transfer ends within 72 turns answered 0 for each started eight bytes, a checked write within 76.
- * A reply to a transfer that was closed or reset, arriving late, counts for the one that now holds its slot and awaits the same device,
- * place and length: close only what has ended, or let late replies pass first.
+ *
+ * A slot rests for 60 turns answered 0 after each REQ that it sent, whether its transfer goes on, has ended or is closed; a CMD makes no
+ * slot rest. A slot that rests is not given to a new transfer, so a reply to a closed transfer that comes late, but before the 60th turn
+ * after its REQ, finds no transfer that awaits it: it is refused with HG_NO_MATCH. An opening takes the lowest slot that is free and does
+ * not rest. Where slots are free but all rest it answers HG_RESTING: take turns and open again; at most 60 turns answered 0 later a slot can
+ * be taken. HG_NO_SLOT, on the other hand, lasts until a transfer is closed or the bridge is reset.
+ * A reset clears the rests too. So a host resets only while all four of `rests` are 0, each time; then no REQ went out in the last 60 turns
+ * before any reset. A host that starts anew does not know which REQs went out before, and first lets late replies pass. Else, or where a
+ * reply does not come before the 60th turn after its REQ, it may be taken for that of a later transfer in the same slot, of the same device,
+ * place and length.
  */
 typedef struct {
     hg_slot slots[4];
     uint32_t issued;  /* the last ticket given */
     uint8_t own;
     uint8_t last;     /* the slot last served */
+    uint8_t rests[4]; /* each slot's turns left to rest, free or held: 0..60, else 11. A REQ sets its slot's to 60, each turn answered 0
+                         lowers those above 0 by one; a host never sets them */
 } hg_bridge;
-HG_SIZE(hg_bridge, 72);
+HG_SIZE(hg_bridge, 76);
 
 /* Bytes of a buffer, and the most bytes of a transfer. */
 enum { HG_BUFFER = 512, HG_MOST = 128 };
@@ -231,7 +242,7 @@ typedef struct {
     uint32_t ticket;
     uint8_t number;
 } hg_opened;
-HG_SIZE(hg_opened, 80);
+HG_SIZE(hg_opened, 84);
 
 /* What a turn or an incoming frame answers: a number, how many frames it yields (0 or 1), and the frame, all 0 where there is none. */
 typedef struct {
@@ -245,13 +256,13 @@ typedef struct {
     hg_bridge bridge;
     hg_yielded answer;
 } hg_stepped;
-HG_SIZE(hg_stepped, 92);
+HG_SIZE(hg_stepped, 96);
 
 typedef struct {
     hg_bridge bridge;
     uint8_t number;
 } hg_changed;
-HG_SIZE(hg_changed, 76);
+HG_SIZE(hg_changed, 80);
 
 /* A part of a buffer or of a file: where it starts and how many bytes it has, both 0 where the number is not 0. */
 typedef struct {
@@ -263,13 +274,14 @@ HG_SIZE(hg_span, 24);
 
 /* Calls by value hand back the bridge as they leave it; a refusal hands back the bridge that it was given. */
 
-/* The fresh bridge of an own number, whatever b is. Number: 11 (own over 15). */
+/* The fresh bridge of an own number, whatever b is: every slot is free and none rests. Number: 11 (own over 15). */
 hg_changed hg_bridge_reset(hg_bridge b, uint8_t own);
 
 /*
- * Opens a read of `count` bytes at an offset of a device's table. Takes the lowest free slot and the next ticket.
- * Numbers: 11, 10 (either buffer), 7 (device over 15, table over 31), 9 (count not 1..128), 8 (offset + count over 2,048), 12, 13.
- * Neither buffer is changed.
+ * Opens a read of `count` bytes at an offset of a device's table. Takes the lowest slot that is free and does not rest, and the next
+ * ticket.
+ * Numbers: 11, 10 (either buffer), 7 (device over 15, table over 31), 9 (count not 1..128), 8 (offset + count over 2,048), 12 (no slot is
+ * free), 19 (slots are free, but all rest), 13. Neither buffer is changed.
  */
 hg_opened hg_bridge_open_read(hg_bridge b, const uint8_t *first, size_t first_len, const uint8_t *second, size_t second_len, uint8_t device, uint8_t table, uint16_t offset, size_t count);
 
@@ -287,7 +299,8 @@ hg_opened hg_bridge_open_check(hg_bridge b, const uint8_t *first, size_t first_l
 
 /*
  * A turn: every waiting slot gets one turn older (20 turns after a send it is ready again, or after its third send has
- * given up); then the first ready slot after the one last served sends its next frame. `frames` is 0 where none is ready.
+ * given up), and every slot that rests has one turn less to rest; then the first ready slot after the one last served sends its next
+ * frame, and rests for 60 turns if that is a REQ. `frames` is 0 where none is ready.
  * Numbers: 11, 10 (either buffer). Neither buffer is changed.
  */
 hg_stepped hg_bridge_turn(hg_bridge b, const uint8_t *first, size_t first_len, const uint8_t *second, size_t second_len);
@@ -311,7 +324,7 @@ uint8_t hg_bridge_status(hg_bridge b, uint32_t ticket);
  */
 hg_span hg_bridge_span(hg_bridge b, const uint8_t *first, size_t first_len, uint32_t ticket);
 
-/* Frees the slot of a ticket, in any phase. Numbers: 11, 14. */
+/* Frees the slot of a ticket, in any phase; a slot that rests goes on resting. Numbers: 11, 14. */
 hg_changed hg_bridge_close(hg_bridge b, uint32_t ticket);
 
 /* The same turn, incoming frame and closing, which change the bridge where it stands; a refusal leaves it as it was. */

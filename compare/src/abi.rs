@@ -125,6 +125,8 @@ pub struct Bridge {
     pub issued: u32,
     pub own: u8,
     pub last: u8,
+    /// Each slot's turns left to rest.
+    pub rests: [u8; 4],
 }
 
 #[repr(C)]
@@ -266,10 +268,10 @@ const _: () = {
     assert!(size_of::<Served>() == 20);
     assert!(size_of::<Yielded>() == 20);
     assert!(size_of::<Slot>() == 16);
-    assert!(size_of::<Bridge>() == 72);
-    assert!(size_of::<Opened>() == 80);
-    assert!(size_of::<Stepped>() == 92);
-    assert!(size_of::<Changed>() == 76);
+    assert!(size_of::<Bridge>() == 76);
+    assert!(size_of::<Opened>() == 84);
+    assert!(size_of::<Stepped>() == 96);
+    assert!(size_of::<Changed>() == 80);
     assert!(size_of::<Span>() == 24);
     assert!(size_of::<MlgHeader>() == 20);
     assert!(size_of::<MlgBlock>() == 32);

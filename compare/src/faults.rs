@@ -38,7 +38,7 @@ faults! {
     RspServed,
     XtndLength0Is5,
     GarbagePastReply,
-    CmdClearsRest,
+    CmdClearsLastByte,
     // bridge
     BufferBeforeState,
     OpensWithTicket0AtEnd,
@@ -97,6 +97,38 @@ faults! {
     DifferenceWithOddProgress,
     Kind4Taken,
     Phase6Taken,
+    // slots that rest
+    RestsFor58Turns,
+    RestsFor59Turns, // as where a turn is taken off after the send
+    CmdRests,
+    FirstSendAloneRests,
+    ReadingBackDoesNotRest,
+    OnlyFreeSlotsRestLess,
+    OnlyHeldSlotsRestLess,
+    SilentTurnKeepsRests,
+    RefusedTurnLowersRests,
+    TurnInPlaceKeepsRests,
+    TakenReplyClearsRest,
+    ClosingClearsRest,
+    RestsFromItsClosing,
+    ResetKeepsRests,
+    RestingSlotGivenToRead,
+    RestingSlotGivenToWrite,
+    RestingSlotGivenToCheck,
+    GivenATurnEarly,
+    LowestFreeTakenThoughItRests,
+    HighestFreeTakenThoughItRests,
+    AllRestingIs12,
+    AllHeldIs19,
+    AllHeldIs19WhereOneRests,
+    OneRestingIs19,
+    TicketsBeforeRest,
+    RestBeforeRange,
+    Rest61Taken,
+    LastRestUnjudged,
+    Rest60Refused,
+    RestOfFreeSlotRefused,
+    RestOfHeldSlotRefused,
     // MLG
     BeginAtEndRefused,
     InfoAtBeginTaken,
@@ -191,6 +223,94 @@ impl Faulty {
             _ => lent.second.to_vec(),
         }
     }
+}
+
+/// The rests after a turn answered 0, of this side: `b` is the state before it, `after` the model's, `sent` whether it yielded a frame.
+fn rests_after(fault: Fault, b: &Bridge, after: &Bridge, sent: bool) -> [u8; 4] {
+    let last = after.last as usize;
+    let slot = &after.slots[last];
+    let asked = sent && slot.phase == WAITING; // after a CMD it is ready or done
+    let mut rests = after.rests;
+    rests[last] = match fault {
+        RestsFor58Turns if asked => 58,
+        RestsFor59Turns if asked => 59,
+        CmdRests if sent => bridge::REST,
+        FirstSendAloneRests if asked && slot.sends > 1 => b.rests[last].saturating_sub(1),
+        ReadingBackDoesNotRest if asked && slot.kind == READ_BACK => b.rests[last].saturating_sub(1),
+        _ => rests[last],
+    };
+    for index in (0..4).filter(|index| !asked || *index != last) {
+        let free = b.slots[index].phase == FREE;
+        let kept = match fault {
+            OnlyFreeSlotsRestLess => !free,
+            OnlyHeldSlotsRestLess => free,
+            SilentTurnKeepsRests => !sent,
+            _ => false,
+        };
+        if kept {
+            rests[index] = b.rests[index];
+        }
+    }
+    rests
+}
+
+/// The rests with which the model opens a read as this side would, where the model's own number is `number`.
+fn rests_for_opening(fault: Fault, b: &Bridge, number: u8) -> [u8; 4] {
+    match (fault, number) {
+        (RestingSlotGivenToRead, 19) | (LowestFreeTakenThoughItRests, 0) => [0; 4],
+        (HighestFreeTakenThoughItRests, 0) => {
+            let mut rests = [1; 4];
+            rests[b.slots.iter().rposition(|slot| slot.phase == FREE).unwrap()] = 0;
+            rests
+        }
+        (GivenATurnEarly, 0 | 19) => b.rests.map(|rest| if rest == 1 { 0 } else { rest }),
+        _ => b.rests,
+    }
+}
+
+/// An opening that sees other rests than the state's, and leaves those.
+fn opened_with(b: Bridge, rests: [u8; 4], open: impl FnOnce(Bridge) -> Opened) -> Opened {
+    let mut answer = open(Bridge { rests, ..b });
+    answer.bridge.rests = b.rests;
+    answer
+}
+
+/// The number of this side's opening of a read; `number` is the model's.
+fn opening_number(fault: Fault, b: &Bridge, number: u8) -> u8 {
+    let free: Vec<usize> = (0..4).filter(|index| b.slots[*index].phase == FREE).collect();
+    let resting = free.iter().filter(|index| b.rests[**index] > 0).count();
+    match (fault, number) {
+        (AllRestingIs12, 19) => 12,
+        (AllHeldIs19, 12) => 19,
+        (AllHeldIs19WhereOneRests, 12) if b.rests != [0; 4] => 19,
+        (OneRestingIs19, 0) if resting > 0 => 19,
+        (TicketsBeforeRest, 19) if b.issued == u32::MAX => 13,
+        (RestBeforeRange, 7..=9) if !free.is_empty() && resting == free.len() => 19,
+        _ => number,
+    }
+}
+
+/// Rests that the model judges as this side judges the state's.
+fn judged_rests(fault: Fault, b: &Bridge) -> [u8; 4] {
+    let mut rests = b.rests;
+    for (rest, slot) in rests.iter_mut().zip(&b.slots) {
+        *rest = match fault {
+            Rest61Taken if *rest == 61 => 60,
+            Rest60Refused if *rest == 60 => 61,
+            RestOfFreeSlotRefused if *rest > 0 && slot.phase == FREE => 61,
+            RestOfHeldSlotRefused if *rest > 0 && slot.phase != FREE => 61,
+            _ => *rest,
+        };
+    }
+    if fault == LastRestUnjudged {
+        rests[3] = 0;
+    }
+    rests
+}
+
+/// The slot that a ticket's transfer holds.
+fn holder_of(b: &Bridge, ticket: u32) -> Option<usize> {
+    b.slots.iter().position(|slot| slot.phase != FREE && slot.ticket == ticket)
 }
 
 /// The slot that a frame's offset points into.
@@ -299,7 +419,7 @@ impl Side for Faulty {
         if self.has(GarbagePastReply) && answer.frames == 1 && answer.frame.len < 8 {
             answer.frame.bytes[7] = 1;
         }
-        if self.has(CmdClearsRest) && *memory != before[..] {
+        if self.has(CmdClearsLastByte) && *memory != before[..] {
             let parts = identifier::unpack(frame.id).unwrap();
             let end: usize = directory.sizes[..=parts.table as usize].iter().map(|size| *size as usize).sum();
             memory[end - 1] = 0;
@@ -325,17 +445,26 @@ impl Side for Faulty {
             answer.number = 0;
         }
         if self.has(TakesHighestFreeSlot) && answer.number == 0 {
-            let lowest = b.slots.iter().position(|slot| slot.phase == FREE).unwrap();
-            let highest = b.slots.iter().rposition(|slot| slot.phase == FREE).unwrap();
-            answer.bridge.slots.swap(lowest, highest);
+            let givable = |index: &usize| b.slots[*index].phase == FREE && b.rests[*index] == 0;
+            answer.bridge.slots.swap((0..4).find(givable).unwrap(), (0..4).rfind(givable).unwrap());
         }
-        answer
+        let rests = rests_for_opening(self.0, &b, answer.number);
+        if rests != b.rests {
+            answer = opened_with(b, rests, |b| Model.open_read(b, lent, device, table, offset, count));
+        }
+        match opening_number(self.0, &b, answer.number) {
+            number if number == answer.number => answer,
+            number => Opened { bridge: b, ticket: 0, number },
+        }
     }
 
     fn open_write(&self, b: Bridge, lent: BuffersMut, device: u8, table: u8, offset: u16, bytes: &[u8]) -> Opened {
         let mut spare = [0; 512];
         let mut lent = self.unjudged(SecondUnjudgedByOpenWrite, lent, &mut spare);
         let answer = Model.open_write(b, again(&mut lent), device, table, offset, bytes);
+        if self.has(RestingSlotGivenToWrite) && answer.number == 19 {
+            return opened_with(b, [0; 4], |b| Model.open_write(b, lent, device, table, offset, bytes));
+        }
         if self.has(WriteCopiedIntoBoth) && answer.number == 0 {
             Model.open_check(b, lent, device, table, offset, bytes);
         }
@@ -347,6 +476,9 @@ impl Side for Faulty {
         let mut lent = self.unjudged(SecondUnjudgedByOpenCheck, lent, &mut spare);
         let second = lent.second.to_vec();
         let answer = Model.open_check(b, again(&mut lent), device, table, offset, bytes);
+        if self.has(RestingSlotGivenToCheck) && answer.number == 19 {
+            return opened_with(b, [0; 4], |b| Model.open_check(b, lent, device, table, offset, bytes));
+        }
         if (self.has(CheckCopiedIntoFirst) || self.has(CheckCopiedIntoBoth)) && answer.number == 0 {
             Model.open_write(b, again(&mut lent), device, table, offset, bytes);
         }
@@ -368,6 +500,11 @@ impl Side for Faulty {
             lent.second = lent.first;
         }
         let mut answer = Model.turn(b, lent);
+        if answer.answer.number == 0 {
+            answer.bridge.rests = rests_after(self.0, &b, &answer.bridge, answer.answer.frames == 1);
+        } else if self.has(RefusedTurnLowersRests) {
+            answer.bridge.rests = b.rests.map(|rest| rest.saturating_sub(1));
+        }
         if answer.answer.frames == 1 {
             let last = answer.bridge.last as usize;
             let (before, slot) = (b.slots[last], answer.bridge.slots[last]);
@@ -419,6 +556,9 @@ impl Side for Faulty {
         let (index, _) = awaited(&b, &frame).unwrap();
         let (given, slot) = (b.slots[index], answer.bridge.slots[index]);
         let (place, len) = (bridge::place(&given, index), frame.len as usize);
+        if self.has(TakenReplyClearsRest) {
+            answer.bridge.rests[index] = 0;
+        }
         if self.has(SendsKeptAfterReply) && slot.phase == READY {
             answer.bridge.slots[index].sends = given.sends;
         }
@@ -436,7 +576,7 @@ impl Side for Faulty {
 
     fn status(&self, b: Bridge, ticket: u32) -> u8 {
         let slots = b.slots.map(|slot| looser(self.0, &slot));
-        let number = Model.status(Bridge { slots, ..b }, ticket);
+        let number = Model.status(Bridge { slots, rests: judged_rests(self.0, &b), ..b }, ticket);
         if self.has(DifferentIs16) && number == 18 {
             return 16;
         }
@@ -462,7 +602,7 @@ impl Side for Faulty {
 
     fn span(&self, b: Bridge, first: &[u8], ticket: u32) -> Span {
         let mut span = Model.span(b, first, ticket);
-        let held = (0..4).find(|index| b.slots[*index].phase != FREE && b.slots[*index].ticket == ticket);
+        let held = holder_of(&b, ticket);
         let kind = held.map(|index| b.slots[index].kind);
         if self.has(BytesOfDoneWrite) && span.number == 0 && kind == Some(WRITE) {
             span.len = 8;
@@ -476,9 +616,16 @@ impl Side for Faulty {
 
     fn close(&self, b: Bridge, ticket: u32) -> Changed {
         let mut changed = Model.close(b, ticket);
-        if self.has(FreedSlotKeepsTicket) && changed.number == 0 {
-            let index = b.slots.iter().position(|slot| slot.phase != FREE && slot.ticket == ticket).unwrap();
+        let Some(index) = holder_of(&b, ticket).filter(|_| changed.number == 0) else {
+            return changed;
+        };
+        if self.has(FreedSlotKeepsTicket) {
             changed.bridge.slots[index].ticket = ticket;
+        }
+        match self.0 {
+            ClosingClearsRest => changed.bridge.rests[index] = 0,
+            RestsFromItsClosing => changed.bridge.rests[index] = bridge::REST,
+            _ => {}
         }
         changed
     }
@@ -487,6 +634,9 @@ impl Side for Faulty {
         let mut changed = Model.reset(b, own);
         if self.has(ResetKeepsTickets) && changed.number == 0 {
             changed.bridge.issued = b.issued;
+        }
+        if self.has(ResetKeepsRests) && changed.number == 0 {
+            changed.bridge.rests = b.rests;
         }
         changed
     }
@@ -499,6 +649,9 @@ impl Side for Faulty {
         let answer = Model.turn_in_place(b, lent);
         if self.has(TurnInPlaceForgets) && answer.frames == 0 {
             *b = before;
+        }
+        if self.has(TurnInPlaceKeepsRests) {
+            b.rests = before.rests;
         }
         answer
     }

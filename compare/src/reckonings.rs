@@ -27,6 +27,8 @@ pub fn all(side: &dyn Side) -> Vec<Reckoning> {
     bridge_read(side, &mut list);
     silent_device(side, &mut list);
     checked_write(side, &mut list);
+    late_answers(side, &mut list);
+    resting_slots(side, &mut list);
     values(side, &mut list);
     listing(side, &mut list);
     list.0
@@ -218,6 +220,73 @@ fn checked_write(side: &dyn Side, list: &mut List) {
         list.add("its part of the buffer", side.span(bridge, &first, 1), Span { number, start: 0, len: 0 });
     }
     list.add("what was read back", first[..11].to_vec(), vec![1, 2, 3, 4, 5, 6, 7, 8, 9, 10, 0xFF]);
+}
+
+/// 02, C-19: four reads, each closed once it has asked; the state in which all four slots rest.
+fn four_closed(side: &dyn Side, list: &mut List, lent: Buffers) -> Bridge {
+    let mut bridge = fresh(0);
+    let rests = [[60, 0, 0, 0], [59, 60, 0, 0], [58, 59, 60, 0], [57, 58, 59, 60]];
+    for (slot, rests) in rests.into_iter().enumerate() {
+        let opened = side.open_read(bridge, lent, 5, 7, 6, 8);
+        let ticket = slot as u32 + 1;
+        list.add(&format!("slot {slot} is given"), (opened.number, opened.bridge.slots[slot].ticket), (0, ticket));
+        let asked = side.turn(opened.bridge, lent);
+        list.add("its request", asked.answer.frame, frame(0x1882B8, &[0x06, 16 * slot as u8, 0x08]));
+        list.add("turns left to rest", asked.bridge.rests, rests);
+        let closed = side.close(asked.bridge, ticket);
+        list.add("closing leaves them", (closed.number, closed.bridge.rests), (0, rests));
+        bridge = closed.bridge;
+    }
+    bridge
+}
+
+/// The number of an opening, and the lowest slot held after it.
+fn opening(side: &dyn Side, bridge: Bridge, lent: Buffers) -> (u8, Option<usize>) {
+    let opened = side.open_read(bridge, lent, 5, 7, 6, 8);
+    (opened.number, opened.bridge.slots.iter().position(|slot| slot.phase != FREE))
+}
+
+/// 02, C-19: the late answer to a closed read, and when its slot is given again; its request went out on turn 1 of 4.
+fn late_answers(side: &dyn Side, list: &mut List) {
+    let (mut first, mut second) = ([0; 512], [0; 512]);
+    let mut bridge = four_closed(side, list, Buffers { first: &first, second: &second });
+    let lent = BuffersMut { first: &mut first, second: &mut second };
+    let late = side.frame(bridge, lent, frame(0x12830, &[1, 2, 3, 4, 5, 6, 7, 8]));
+    list.add("a late answer", (late.answer.number, late.bridge, first), (17, bridge, [0; 512]));
+
+    let lent = Buffers { first: &first, second: &second };
+    list.add("an opening while all rest", opening(side, bridge, lent), (19, None));
+    for _ in 5..=60 {
+        bridge = side.turn(bridge, lent).bridge;
+    }
+    list.add("59 turns after its request", (bridge.rests, opening(side, bridge, lent)), ([1, 2, 3, 4], (19, None)));
+    bridge = side.turn(bridge, lent).bridge;
+    list.add("60 turns after it", (bridge.rests, opening(side, bridge, lent)), ([0, 1, 2, 3], (0, Some(0))));
+}
+
+/// 02, C-19: 19 to each opening, 12 where all slots are held, though they rest, and a reset.
+fn resting_slots(side: &dyn Side, list: &mut List) {
+    let (mut first, mut second) = ([0; 512], [0; 512]);
+    let resting = Bridge { rests: [1, 2, 59, 60], ..fresh(0) };
+    let lent = BuffersMut { first: &mut first, second: &mut second };
+    let opened = side.open_write(resting, lent, 5, 7, 6, &[1; 8]);
+    list.add("opening a write while all rest", opened, Opened { bridge: resting, ticket: 0, number: 19 });
+    let lent = BuffersMut { first: &mut first, second: &mut second };
+    let opened = side.open_check(resting, lent, 5, 7, 6, &[1; 8]);
+    list.add("opening a checked write while all rest", opened, Opened { bridge: resting, ticket: 0, number: 19 });
+    list.add("both buffers", (first, second), ([0; 512], [0; 512]));
+
+    let lent = Buffers { first: &first, second: &second };
+    let mut held = fresh(0);
+    for _ in 0..4 {
+        held = side.turn(side.open_read(held, lent, 5, 7, 6, 8).bridge, lent).bridge;
+    }
+    list.add("four held slots rest", (held.rests, opening(side, held, lent).0), ([57, 58, 59, 60], 12));
+    let unsound = Bridge { rests: [0, 0, 0, 61], ..fresh(0) };
+    list.add("61 turns left to rest", side.status(unsound, 1), 11);
+    let reset = side.reset(unsound, 0);
+    list.add("a reset clears them", reset, Changed { bridge: fresh(0), number: 0 });
+    list.add("and its slots are given", opening(side, side.reset(resting, 0).bridge, lent), (0, Some(0)));
 }
 
 /// A scalar field with all else 0.

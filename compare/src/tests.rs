@@ -98,24 +98,56 @@ impl Dash {
         }
     }
 
+    /// A frame that is taken.
     fn frame(&mut self, frame: &Frame) {
-        (self.state, self.first) = bridge::frame(&self.state, self.lent(), frame).unwrap();
+        assert_eq!(self.arrives(frame), 0);
+    }
+
+    /// A frame that may be refused; its number.
+    fn arrives(&mut self, frame: &Frame) -> Number {
+        match bridge::frame(&self.state, self.lent(), frame) {
+            Ok(after) => {
+                (self.state, self.first) = after;
+                0
+            }
+            Err(number) => number,
+        }
     }
 
     fn close(&mut self, ticket: u32) {
         self.state = bridge::close(&self.state, ticket).unwrap();
     }
 
+    fn reset(&mut self, own: u8) {
+        self.state = bridge::reset(own).unwrap();
+    }
+
     fn status(&self, ticket: u32) -> Number {
         bridge::status(&self.state, ticket).err().unwrap_or(0)
     }
+
+    /// The slot that a ticket's transfer holds.
+    fn slot(&self, ticket: u32) -> usize {
+        self.state.slots.iter().position(|slot| slot.phase != FREE && slot.ticket == ticket).unwrap()
+    }
+
+    /// The bytes that a done read shows.
+    fn shown(&self, ticket: u32) -> &[u8] {
+        let (start, length) = bridge::bytes(&self.state, &self.first, ticket).unwrap();
+        &self.first[start..start + length]
+    }
+}
+
+fn is_request(frame: &Frame) -> bool {
+    identifier::unpack(frame.id).unwrap().kind == REQ
 }
 
 /// A turn, and a reply to what it asks in `replies` of a hundred; `equal` of a hundred bring what the second buffer has.
-fn turn_with_replies(dash: &mut Dash, rng: &mut Rng, replies: usize, equal: usize) {
-    let asked = dash.turn().filter(|frame| identifier::unpack(frame.id).unwrap().kind == REQ);
+/// Hands back the request.
+fn turn_with_replies(dash: &mut Dash, rng: &mut Rng, replies: usize, equal: usize) -> Option<Frame> {
+    let asked = dash.turn().filter(is_request);
     let Some(frame) = asked.filter(|_| rng.percent(replies)) else {
-        return;
+        return asked;
     };
     let index = dash.state.last as usize;
     let place = bridge::place(&dash.state.slots[index], index);
@@ -124,6 +156,7 @@ fn turn_with_replies(dash: &mut Dash, rng: &mut Rng, replies: usize, equal: usiz
         bytes = dash.second[place..place + 8].to_vec();
     }
     dash.frame(&reply_to(&frame, &bytes));
+    asked
 }
 
 /// Every state that lists of calls reach from a fresh bridge is sound, and every transfer
@@ -266,6 +299,158 @@ fn soundness_of_checked_writes() {
     assert!(!alone(Slot { kind: WRITE, ..different }));
     assert!(!alone(Slot { kind: 4, ..slot }));
     assert!(!alone(Slot { phase: 6, ..back }));
+}
+
+/// The ticket that each slot holds, and the turns since its last request, both by the calls and their answers alone.
+#[derive(Default)]
+struct Record {
+    held: [Option<u32>; 4],
+    since: [Option<u8>; 4],
+}
+
+impl Record {
+    fn turned(&mut self, asked: Option<Frame>) {
+        self.since = self.since.map(|turns| turns.map(|turns| turns.saturating_add(1)));
+        if let Some(Frame { bytes: [a, b, c, ..], .. }) = asked {
+            self.since[request::read(a, b, c).unwrap().offset as usize / bridge::PART] = Some(0);
+        }
+    }
+
+    /// The slot that an opening is to take, or its number.
+    fn opening(&self) -> Result<usize, Number> {
+        let free: Vec<usize> = (0..4).filter(|index| self.held[*index].is_none()).collect();
+        let rested = free.iter().find(|index| self.since[**index].is_none_or(|turns| turns >= 60));
+        rested.copied().ok_or(if free.is_empty() { 12 } else { 19 })
+    }
+
+    /// Opens a transfer as it is to be, and notes it; what came of it.
+    fn opens(&mut self, dash: &mut Dash, rng: &mut Rng) -> Result<usize, Number> {
+        let (kind, count) = (rng.pick(&[READ, READ, WRITE, CHECK]), rng.within(1, 24));
+        let opened = dash.open(kind, 7, 0, &rng.bytes(count)).map(|ticket| (dash.slot(ticket), ticket));
+        let slot = opened.map(|(slot, _)| slot);
+        assert_eq!(slot, self.opening());
+        opened.iter().for_each(|(slot, ticket)| self.held[*slot] = Some(*ticket));
+        slot
+    }
+
+    fn closes(&mut self, dash: &mut Dash, index: usize) {
+        self.held[index].take().into_iter().for_each(|ticket| dash.close(ticket));
+    }
+}
+
+/// 02, C-19: "A slot whose last request went out fewer than 60 turns ago is not given to a new transfer."; "19 in 12's place where slots
+/// are free but all resting"; "The bridge's record gains each slot's turns left to rest", and "reset still clears it".
+#[test]
+fn slots_rest_after_their_requests() {
+    let mut rng = Rng::new(1, 103, 0);
+    let (mut taken, mut refused) = ([0; 4], [0; 20]);
+    for _ in 0..300 {
+        let (mut dash, mut record) = (Dash::new(3, &mut rng), Record::default());
+        let (openings, replies) = (rng.pick(&[4, 12, 30]), rng.pick(&[10, 50, 95]));
+        for _ in 0..1000 {
+            match rng.below(200) {
+                0 => {
+                    dash.reset(3);
+                    record = Record::default();
+                }
+                chance if chance <= openings => match record.opens(&mut dash, &mut rng) {
+                    Ok(slot) => taken[slot] += 1,
+                    Err(number) => refused[number as usize] += 1,
+                },
+                chance if chance <= openings + 24 => record.closes(&mut dash, rng.below(4)),
+                _ => record.turned(turn_with_replies(&mut dash, &mut rng, replies, 90)),
+            }
+            let left = record.since.map(|turns| turns.map_or(0, |turns| 60 - turns.min(60)));
+            assert_eq!(dash.state.rests, left);
+        }
+    }
+    assert!(taken.iter().all(|count| *count > 100) && refused[12] > 100 && refused[19] > 100, "{taken:?} {refused:?}");
+}
+
+/// Asks of a dash, at times, a read of a random place of table 7: ticket, place and bytes.
+fn random_read(dash: &mut Dash, rng: &mut Rng) -> Option<(u32, usize, usize)> {
+    let (place, count) = (rng.below(1900), rng.within(1, 12));
+    let ticket = rng.percent(40).then(|| dash.open(READ, 7, place as u16, &vec![0; count]).ok())??;
+    Some((ticket, place, count))
+}
+
+/// 02, C-19, under demand 3's premise "every reply arrives before the 60th turn after its request was sent, or never": a done read shows
+/// its range of the table, whatever was closed before it.
+#[test]
+fn late_replies_bring_no_old_bytes() {
+    let mut rng = Rng::new(1, 104, 0);
+    let mut directory = Directory { own: 5, ..Directory::default() };
+    (directory.sizes[7], directory.rights[7]) = (2000, 1);
+    let table = rng.bytes(2000);
+    let (mut done, mut refused) = (0, 0);
+    for _ in 0..300 {
+        let mut dash = Dash::new(0, &mut rng);
+        let (mut open, mut replies) = (Vec::new(), Vec::new());
+        let slowest = rng.pick(&[2, 15, 60]);
+        for turn in 0..1000 {
+            open.extend(random_read(&mut dash, &mut rng));
+            if let Some(asked) = dash.turn() {
+                let reply = holder::serve(&directory, &table, &asked).unwrap().1.unwrap();
+                replies.push((turn + rng.below(slowest), reply)); // the turn after which it arrives
+            }
+            let (due, later): (Vec<_>, Vec<_>) = replies.into_iter().partition(|(due, _)| *due <= turn);
+            replies = later;
+            refused += due.iter().filter(|(_, reply)| dash.arrives(reply) == 17).count();
+            open.retain(|(ticket, place, count)| {
+                let status = dash.status(*ticket);
+                if status == 0 {
+                    assert_eq!(dash.shown(*ticket), &table[*place..*place + *count]);
+                    done += 1;
+                }
+                let stays = status == 15 && rng.percent(95);
+                if !stays {
+                    dash.close(*ticket);
+                }
+                stays
+            });
+        }
+    }
+    assert!(done > 1000 && refused > 1000, "{done} done, {refused} refused");
+}
+
+/// Why that premise, and why "no request in the last 60 turns before a reset": a reply to a closed read that comes later, or after a
+/// reset, is taken for the read that now has its slot.
+#[test]
+fn replies_that_come_too_late() {
+    let asked = |dash: &mut Dash, table| {
+        let ticket = dash.open(READ, table, 0, &[0; 8]).unwrap();
+        (ticket, dash.turn().unwrap())
+    };
+    for (turns, slot, number) in [(59, 1, 17), (60, 0, 0)] {
+        let mut dash = Dash { state: fresh(3), first: vec![0; 512], second: vec![0; 512] };
+        let (ticket, old) = asked(&mut dash, 7);
+        dash.close(ticket);
+        dash.turns(turns);
+        let (next, _) = asked(&mut dash, 8);
+        assert_eq!(dash.slot(next), slot);
+        assert_eq!(dash.arrives(&reply_to(&old, &[1; 8])), number);
+    }
+    let mut dash = Dash { state: fresh(3), first: vec![0; 512], second: vec![0; 512] };
+    let (_, old) = asked(&mut dash, 7);
+    dash.reset(3);
+    assert_eq!(dash.state.rests, [0; 4]);
+    let (next, _) = asked(&mut dash, 8);
+    dash.frame(&reply_to(&old, &[1; 8]));
+    assert_eq!(dash.shown(next), [1; 8]);
+}
+
+/// 02, C-19: "each slot's turns left to rest, sound from 0 to 60", of free and of held slots.
+#[test]
+fn soundness_of_rests() {
+    let slot = Slot { ticket: 1, phase: READY, kind: WRITE, count: 20, progress: 8, ..Slot::default() };
+    for (index, held) in [(0, false), (1, true), (2, false), (3, true)] {
+        let mut bridge = Bridge { issued: 1, ..fresh(0) };
+        bridge.slots[index] = if held { slot } else { Slot::default() };
+        for rest in 0..=255 {
+            bridge.rests[index] = rest;
+            assert_eq!(bridge::sound(&bridge), rest <= 60);
+        }
+    }
 }
 
 /// The header's judgements one by one, in 01's order.

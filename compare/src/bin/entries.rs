@@ -77,7 +77,7 @@ structs! {
     "hg_directory" Directory { sizes, rights, table_blocking, write_blocking, own }
     "hg_served" Served { number, frames, frame }
     "hg_slot" Slot { ticket, offset, phase, kind, device, table, count, progress, sends, left }
-    "hg_bridge" Bridge { slots, issued, own, last }
+    "hg_bridge" Bridge { slots, issued, own, last, rests }
     "hg_opened" Opened { bridge, ticket, number }
     "hg_yielded" Yielded { number, frames, frame }
     "hg_stepped" Stepped { bridge, answer }
@@ -93,12 +93,12 @@ structs! {
     "hg_frd_block" FrdBlock { place, start, len, time, number, kind, counter, as_expected }
 }
 
-/// The constants of the header: 01's numbers, types, places and lengths, and the model's.
+/// The constants of the header: 01's and 02's numbers, types, places and lengths, and the model's.
 #[rustfmt::skip]
-const CONSTANTS: [(&str, usize); 85] = [
+const CONSTANTS: [(&str, usize); 86] = [
     ("DONE", 0), ("ID_TOO_LARGE", 1), ("SPARE_BITS", 2), ("FRAME_TOO_LONG", 3), ("OTHER_DEVICE", 4), ("TYPE", 5), ("REQUEST_BITS", 6),
     ("NO_RIGHT", 7), ("RANGE", 8), ("COUNT", 9), ("MEMORY_LENGTH", 10), ("UNSOUND", 11), ("NO_SLOT", 12), ("NO_TICKET", 13),
-    ("UNKNOWN_TICKET", 14), ("NOT_FINISHED", 15), ("GAVE_UP", 16), ("NO_MATCH", 17), ("DIFFERENT", 18), ("CUT_SHORT", 20),
+    ("UNKNOWN_TICKET", 14), ("NOT_FINISHED", 15), ("GAVE_UP", 16), ("NO_MATCH", 17), ("DIFFERENT", 18), ("RESTING", 19), ("CUT_SHORT", 20),
     ("WRONG_NAME", 21), ("VERSION", 22), ("DISAGREE", 23), ("FIELD_TYPE", 24), ("BLOCK_TYPE", 25), ("SUM", 26), ("OUTPUT_TOO_SMALL", 27), ("TEXT", 28),
     ("NO_SHOWN_VALUE", 30),
 
@@ -203,7 +203,7 @@ impl Both {
 
 /// A write of ten bytes in slot 0, ticket 1; a read of twelve in slot 1, ticket 2; a checked write of ten in slot 2, ticket 3.
 fn openings(both: &mut Both) -> Bridge {
-    let dirty = Bridge { issued: 7, own: 8, last: 2, ..Bridge::default() };
+    let dirty = Bridge { issued: 7, own: 8, last: 2, rests: [60, 0, 61, 7], ..Bridge::default() };
     let fresh = call("hg_bridge_reset", Model.reset(dirty, 9)).bridge;
     call("hg_bridge_reset", Model.reset(fresh, 16));
     let mut write = |b, second_len, offset| {
@@ -305,6 +305,36 @@ fn bridge_in_place() {
         call("hg_bridge_close_in_place", Model.close_in_place(&mut b, 1));
         call("hg_bridge_close_in_place b", b);
     }
+}
+
+/// Slots that rest: an opening takes the lowest that does not, or is refused with 19; 61 turns left are unsound.
+fn bridge_rests() {
+    let mut both = Both::new();
+    let b = Bridge { issued: 7, own: 9, last: 3, rests: [60, 0, 1, 0], ..Bridge::default() };
+    let resting = Bridge { rests: [60, 2, 1, 59], ..b };
+    let bytes: [u8; 10] = pattern(200);
+    for b in [b, resting] {
+        call("hg_bridge_open_write", Model.open_write(b, both.lent_mut(512, 512), 4, 21, 300, &bytes));
+        changed("hg_bridge_open_write", "first", &both.first);
+    }
+    for b in [b, resting] {
+        call("hg_bridge_open_check", Model.open_check(b, both.lent_mut(512, 512), 5, 23, 200, &bytes));
+        changed("hg_bridge_open_check", "second", &both.second);
+    }
+    let read = |b, both: &Both| {
+        let lent = both.lent(512, 512);
+        call("hg_bridge_open_read", Model.open_read(b, lent, 5, 22, 100, 12)).bridge
+    };
+    read(resting, &both);
+    read(Bridge { rests: [60, 0, 61, 0], ..b }, &both);
+    let b = read(b, &both);
+    let b = call("hg_bridge_turn", Model.turn(b, both.lent(512, 512))).bridge;
+    let b = call("hg_bridge_close", Model.close(b, 8)).bridge;
+    call("hg_bridge_frame", Model.frame(b, both.lent_mut(512, 512), reply(128, b"too late")));
+    changed("hg_bridge_frame", "first", &both.first);
+    let mut b = read(b, &both);
+    call("hg_bridge_turn_in_place", Model.turn_in_place(&mut b, both.lent(512, 512)));
+    call("hg_bridge_turn_in_place b", b);
 }
 
 /// A field with its type, its name, and the eight bytes from 46 on: scale and transform, or styles, names index and bits.
@@ -425,6 +455,7 @@ fn main() {
     holder();
     bridge_by_value();
     bridge_in_place();
+    bridge_rests();
     mlg_calls();
     frd_calls();
 }

@@ -1,6 +1,7 @@
 //! Lists of up to 400 bridge calls: all calls, all kinds of transfers, wrong buffers, unsound states, tickets near
-//! their end, replies right, late, doubled, foreign, damaged, and equal or other than what a checked write sent. State,
-//! both buffers and answer are compared after every call; turn, frame and close also in place.
+//! their end, slots that rest, some or all of the free ones, and lists long enough that their rests run out, replies right,
+//! late, doubled, foreign, damaged, and equal or other than what a checked write sent. State, both buffers and answer are
+//! compared after every call; turn, frame and close also in place.
 
 use super::Outcome;
 use crate::abi::*;
@@ -110,6 +111,11 @@ pub fn run(rng: &mut Rng, judge: &mut Judge) -> Outcome {
         };
         let own = step.state.is_none() && step.first.is_none() && step.second.is_none();
         let given = step.state.unwrap_or(state);
+        if step.state.is_some() {
+            // whatever the call, a damaged state is judged by status too
+            let ticket = random_ticket(rng, &given, &past);
+            judge.answer("status", Model.status(given, ticket), judge.library.status(given, ticket), &input)?;
+        }
         let now = Both {
             first: step.first.unwrap_or_else(|| lent.first.clone()),
             second: step.second.unwrap_or_else(|| lent.second.clone()),
@@ -376,7 +382,8 @@ fn random_sound(rng: &mut Rng) -> Bridge {
         2 => u32::MAX,
         _ => u32::MAX - rng.below(5) as u32,
     };
-    let mut state = Bridge { slots: [Slot::default(); 4], issued, own: rng.below(16) as u8, last: rng.below(4) as u8 };
+    let (own, last, rests) = (rng.below(16) as u8, rng.below(4) as u8, random_rests(rng));
+    let mut state = Bridge { slots: [Slot::default(); 4], issued, own, last, rests };
     // four different tickets: the last given, less four different steps back
     let mut steps: Vec<u32> = (0..4).collect();
     for index in 0..4 {
@@ -388,6 +395,16 @@ fn random_sound(rng: &mut Rng) -> Bridge {
         }
     }
     state
+}
+
+/// Each slot's turns left to rest: none, some or all of the slots rest, free or held.
+fn random_rests(rng: &mut Rng) -> [u8; 4] {
+    let some: &[u8] = match rng.below(4) {
+        0 => &[0],
+        1 => &[1, 2, 59, 60],
+        _ => &[0, 0, 0, 1, 2, 3, 20, 59, 60],
+    };
+    [(); 4].map(|_| rng.pick(some))
 }
 
 fn random_slot(rng: &mut Rng, ticket: u32) -> Slot {
@@ -479,13 +496,17 @@ fn damaged(rng: &mut Rng, state: &Bridge) -> Bridge {
     let other = state.slots[(index + rng.within(1, 3)) % 4].ticket;
     let issued = state.issued;
     let (byte, word, long) = (rng.byte(), rng.u16(), rng.u32());
-    let choice = rng.below(13);
+    let choice = rng.below(15);
     if choice == 0 {
         state.own = rng.pick(&[16, 17, 255, byte]);
     } else if choice == 1 {
         state.last = rng.pick(&[4, 5, 255, byte]);
     } else if choice == 2 {
         state.issued = rng.pick(&[0, issued.wrapping_sub(1), issued / 2, long]);
+    } else if choice == 13 {
+        state.rests[index] = rng.pick(&[61, 61, 62, 128, 255, byte]);
+    } else if choice == 14 {
+        state.rests = random_rests(rng);
     }
     let slot = &mut state.slots[index];
     match choice {

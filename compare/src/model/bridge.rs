@@ -1,4 +1,4 @@
-//! 01 "Bridge": the state, its soundness and the seven calls; 02, C-17: the third kind of transfer.
+//! 01 "Bridge": the state, its soundness and the seven calls; 02, C-17: the third kind of transfer; C-19: slots that rest.
 
 use super::holder::{addressed, frame as frame_of};
 use super::{request, Number, CMD, REQ, RSP};
@@ -8,6 +8,9 @@ use crate::abi::{DIFFERENT, DONE, FREE, GAVE_UP, READY, WAITING};
 pub const BUFFER: usize = 512;
 pub const PART: usize = 128;
 
+/// 02, C-19: "A slot whose last request went out fewer than 60 turns ago is not given to a new transfer."
+pub const REST: u8 = 60;
+
 /// The two lent buffers. The second has what checked writes send, to compare with what they read back.
 #[derive(Clone, Copy)]
 pub struct Buffers<'a> {
@@ -15,15 +18,16 @@ pub struct Buffers<'a> {
     pub second: &'a [u8],
 }
 
-/// The fresh bridge: the search starts at slot 0, so slot 3 counts as last served.
+/// The fresh bridge: the search starts at slot 0, so slot 3 counts as last served; no slot rests.
 pub fn fresh(own: u8) -> Bridge {
-    Bridge { slots: [Slot::default(); 4], issued: 0, own, last: 3 }
+    Bridge { slots: [Slot::default(); 4], issued: 0, own, last: 3, rests: [0; 4] }
 }
 
 pub fn sound(bridge: &Bridge) -> bool {
     let held: Vec<&Slot> = bridge.slots.iter().filter(|slot| slot.phase != FREE).collect();
     bridge.own <= 15
         && bridge.last <= 3
+        && bridge.rests.iter().all(|rest| *rest <= REST)
         && bridge.slots.iter().all(|slot| sound_slot(slot, bridge.issued))
         && (0..held.len()).all(|i| (0..i).all(|j| held[i].ticket != held[j].ticket))
 }
@@ -85,19 +89,26 @@ fn judge_with(bridge: &Bridge, lent: &[&[u8]]) -> Result<(), Number> {
     }
 }
 
-/// Order: 11, 10, 7, 9, 8, 12, 13. Hands back the bridge and the slot taken.
+/// The lowest free slot that does not rest: 12 without a free slot, "19 in 12's place where slots are free but all resting".
+fn slot_to_take(bridge: &Bridge) -> Result<usize, Number> {
+    let free: Vec<usize> = (0..4).filter(|index| bridge.slots[*index].phase == FREE).collect();
+    let rested = free.iter().copied().find(|index| bridge.rests[*index] == 0);
+    rested.ok_or(if free.is_empty() { 12 } else { 19 })
+}
+
+/// Order: 11, 10, 7, 9, 8, 12 or 19, 13. Hands back the bridge and the slot taken.
 fn open(
     bridge: &Bridge, lent: Buffers, kind: u8, device: u8, table: u8, offset: u16, count: usize,
 ) -> Result<(Bridge, usize), Number> {
     judge_with(bridge, &[lent.first, lent.second])?;
     opening(device, table, offset, count)?;
-    let lowest_free = bridge.slots.iter().position(|slot| slot.phase == FREE).ok_or(12)?;
+    let taken = slot_to_take(bridge)?;
     let ticket = bridge.issued.checked_add(1).ok_or(13)?;
     let mut after = *bridge;
     after.issued = ticket;
-    after.slots[lowest_free] =
+    after.slots[taken] =
         Slot { ticket, offset, phase: READY, kind, device, table, count: count as u8, progress: 0, sends: 0, left: 0 };
-    Ok((after, lowest_free))
+    Ok((after, taken))
 }
 
 pub fn open_read(
@@ -155,14 +166,15 @@ fn aged(slot: Slot) -> Slot {
     Slot { left, phase, ..slot }
 }
 
-/// A turn (refusals 11, 10): ages, then sends for one ready slot; the search starts at
-/// the slot after the one last served.
+/// A turn (refusals 11, 10): ages, and takes a turn off every rest; then sends for one ready slot, and the search
+/// starts at the slot after the one last served. A slot that sent a request has all its turns left to rest.
 pub fn turn(bridge: &Bridge, lent: Buffers) -> Result<(Bridge, Option<Frame>), Number> {
     judge_with(bridge, &[lent.first, lent.second])?;
     let mut after = *bridge;
     for slot in after.slots.iter_mut() {
         *slot = aged(*slot);
     }
+    after.rests = bridge.rests.map(|rest| rest.saturating_sub(1));
     let order = (1..=4).map(|step| (bridge.last as usize + step) % 4);
     let ready = order.into_iter().find(|index| after.slots[*index].phase == READY);
     let Some(index) = ready else {
@@ -174,7 +186,10 @@ pub fn turn(bridge: &Bridge, lent: Buffers) -> Result<(Bridge, Option<Frame>), N
     after.slots[index] = match slot.kind {
         WRITE => advanced(&slot),
         CHECK => sent_to_check(&slot),
-        _ => Slot { phase: WAITING, sends: slot.sends + 1, left: 20, ..slot },
+        _ => {
+            after.rests[index] = REST;
+            Slot { phase: WAITING, sends: slot.sends + 1, left: 20, ..slot }
+        }
     };
     Ok((after, Some(frame)))
 }
@@ -267,7 +282,7 @@ pub fn bytes(bridge: &Bridge, first: &[u8], ticket: u32) -> Result<(usize, usize
     Ok(if slot.kind == READ { (index * PART, slot.count as usize) } else { (0, 0) })
 }
 
-/// Closing (11, 14) frees the slot in any state.
+/// Closing (11, 14) frees the slot in any state; a slot that rests goes on resting.
 pub fn close(bridge: &Bridge, ticket: u32) -> Result<Bridge, Number> {
     judge(bridge)?;
     let index = holder_of(bridge, ticket)?;

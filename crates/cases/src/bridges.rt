@@ -48,6 +48,7 @@ fn unmade() -> Bridge {
         issued: 0,
         own: 200,
         last: 9,
+        rests: [99; 4],
     }
 }
 
@@ -171,6 +172,13 @@ const CLOSE: u64 = 0x636c6f7365;
 
 const SECOND: u64 = 0x7365636f6e64;
 
+const RESTS: u64 = 0x7265737473;
+
+fn rests_of(b: Bridge) -> Answer {
+    let rests = b.rests;
+    with_bytes(number(0), part(&rests, 0, 4))
+}
+
 // What leaves the bridge as it is.
 fn look(w: World, memory: &[u8], a: Words) -> Answer {
     let n = a.n;
@@ -182,6 +190,8 @@ fn look(w: World, memory: &[u8], a: Words) -> Answer {
         BYTES => bytes(w.bridge, memory, x[3]),
         // second PLACE LENGTH: bytes of the second buffer.
         SECOND => with_bytes(number(0), part(&second, n[3], n[4])),
+        // rests: each slot's turns left to rest.
+        RESTS => rests_of(w.bridge),
         _ => unknown(),
     }
 }
