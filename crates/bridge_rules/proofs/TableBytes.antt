@@ -26,7 +26,7 @@ use Rattle.bridge_rules.specs.Replies.{given, Sent, Replied}
 use Rattle.bridge_rules.specs.Device.{Arrives, Timeline, range, Own, Prompt, NotAfter, Meanwhile, Arrivals, Unwritten, Premises}
 use Rattle.bridge_rules.specs.Demand3.{join, brought, showing}
 use Rattle.bridge_rules.specs.Corollaries.{SinceTaken}
-use Rattle.bus_rules.proofs.IdentLaws.{offset-of-id, table-of-id}
+use Rattle.bus_rules.proofs.IdentLaws.{offset-of-id, table-of-id, from-small}
 use Rattle.bus_rules.proofs.Ranges.{range-part, range-whole, range-short}
 use Rattle.bus_rules.proofs.Replies.{command-unanswered, request-answered, answerer-own, answerer-unchanged, request-read}
 use Rattle.bridge_rules.proofs.FrameLaws.{len-eight, len-inside, id-of, content-of, read-is}
@@ -50,10 +50,6 @@ use Rattle.bridge_rules.proofs.AskTests.{given-count, check-not-read}
 opening-no-turn : (r : Run) (x : Transfer r) → ¬ (accepted r (x .at) ≡ true)
 unfolding accepted
 opening-no-turn r x a = contradiction (and-true _ _ a .0) (ap isTurn (x .call))
-
-from-small : (id : ℕ) → idFrom id ≤ 15
-unfolding idFrom
-from-small id = omega arith
 
 -- the frame that a request for a slot's chunk gets
 record Answered (d : Device) (own k : ℕ) (y : Slot) (g : Frame) : Type 0 where

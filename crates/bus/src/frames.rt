@@ -10,8 +10,8 @@ ghost use Rattle.wire.specs.Put.{putOf};
 ghost use Rattle.bus_rules.specs.Frames.{padded, buildOf, content};
 ghost use Rattle.bus_rules.specs.Rows.{Built};
 
-// The frame of these parts, each modulo its row's width, and of the first eight bytes: of parts that pack and at most eight bytes the
-// frame that they make. One loop copies and counts: so it is short enough to be inlined.
+// The frame of these parts, each modulo 2 to the width of its row (the table: of both), and of the first eight bytes: of parts that pack
+// and at most eight bytes the frame that they make. One loop copies and counts: so it is short enough to be inlined.
 pub fn build(p: Parts, bytes: &[u8]) -> Frame
     ensures { λ r. ⌜ r ≡ buildOf p (now (bytes .entry)) ⌝ }
     ensures built { λ r. ⌜ Built p (now (bytes .entry)) r ⌝ }

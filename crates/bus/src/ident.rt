@@ -6,10 +6,13 @@ use crate::Unpacked;
 use crate::rows::id_in_rows;
 use crate::rows::parts_of;
 ghost use mathlib.Core.Path.{_≡_};
+ghost use Prim.Native.Nat.{ℕ};
 ghost use Rattle.wire.specs.Answer.{result};
 ghost use Rattle.bus_rules.specs.Ident.{idTo, idIn, packNumber, packOf, packedAnswer, noParts, partsOf, unpackNumber, unpackOf, unpackedAnswer};
 ghost use Rattle.bus_rules.specs.Frames.{headNumber, receiveNumber, readHeadOf};
-ghost use Rattle.bus_rules.specs.Rows.{UnpackAfterPack, PackAfterUnpack, RowLaw};
+ghost use Rattle.bus_rules.specs.Rows.{UnpackAfterPack, PackAfterUnpack, RowByRow, LawfulIds};
+ghost use Rattle.bus_rules.specs.declared.Packed.the-variants as P;
+ghost use Rattle.bus_rules.specs.declared.Unpacked.the-variants as U;
 
 fn pack_number(p: Parts) -> u8
     ensures { λ r. ⌜ r ≡ packNumber p ⌝ }
@@ -36,6 +39,8 @@ fn pack_number(p: Parts) -> u8
 pub fn pack(p: Parts) -> Packed
     ensures { λ r. ⌜ (r ≡ packOf p) × (packedAnswer r ≡ result 0 (packNumber p) (idIn p)) ⌝ }
     ensures back { λ r. ⌜ UnpackAfterPack p r ⌝ }
+    ensures rows { λ r. ⌜ ((id : ℕ) → r ≡ P.Is id → RowByRow id p) ⌝ }
+    ensures lawful { λ _. ⌜ LawfulIds ⌝ }
 {
     let number = pack_number(p);
     if number != 0 {
@@ -61,7 +66,8 @@ fn unpack_number(id: u32) -> u8
 pub fn unpack(id: u32) -> Unpacked
     ensures { λ r. ⌜ (r ≡ unpackOf id) × (unpackedAnswer r ≡ result noParts (unpackNumber id) (partsOf id)) ⌝ }
     ensures back { λ r. ⌜ PackAfterUnpack id r ⌝ }
-    ensures rows { λ r. ⌜ RowLaw id r ⌝ }
+    ensures rows { λ r. ⌜ ((p : Parts) → r ≡ U.Is p → RowByRow id p) ⌝ }
+    ensures lawful { λ _. ⌜ LawfulIds ⌝ }
 {
     let number = unpack_number(id);
     if number != 0 {

@@ -1,4 +1,4 @@
-// The parts of an identifier, by sums, quotients and remainders; of any numbers.
+// The parts of any identifier, and the identifier of any parts, by sums, products, quotients and remainders.
 use crate::Parts;
 ghost use mathlib.Core.Path.{_≡_};
 ghost use Rattle.bus_rules.specs.Ident.{idTable, idIn, inRows, partsOf};
@@ -21,7 +21,8 @@ pub(crate) fn parts_of(id: u32) -> Parts
     }
 }
 
-// The sum of the rows, each part modulo its row's width; sender and receiver make a byte together.
+// The sum of each row's part, modulo 2 to the row's width, times 2 to the row's lowest bit. Receiver and sender lie side by side, and make a
+// byte together, at bit 7: so the sum is short enough to be inlined.
 pub(crate) fn id_in_rows(p: Parts) -> u32
     ensures { λ r. ⌜ r ≡ idIn (inRows p) ⌝ }
 {

@@ -6,6 +6,11 @@ use Rattle.bus_rules.proofs.Computing.{bus}
 pub examples : Examples
 unfolding bus
 examples = record {
+  identifier = record { apart = refl; together = refl; unpacked = refl; packed = refl };
+  table20 = record { apart = refl; together = refl; unpacked = refl; packed = refl };
+  largest = record { apart = refl; together = refl; unpacked = refl; packed = refl };
+  spareOne = (refl, refl);
+  over29Bits = (refl, refl);
   signature = (refl, refl);
   rpm = (refl, refl);
   query = (refl, refl);
@@ -27,6 +32,5 @@ examples = record {
   nine = (refl, refl);
   five = (refl, refl);
   table32 = refl;
-  over29Bits = refl;
   count16 = refl;
 }

@@ -1,7 +1,7 @@
 -- A proof by computation says `unfolding bus`, and so opens every definition of the bus, and those of wire that they stand on.
 use Rattle.wire.specs.Order.{_if_else_, _orElse_}
 use Rattle.wire.specs.Answer.{answer, result}
-use Rattle.bus_rules.specs.Ident.{idSpare, idTable, idTo, idFrom, idKind, idOffset, idOf, partsOf, inRows, packNumber, packOf}
+use Rattle.bus_rules.specs.Ident.{idSpare, idTable, idTo, idFrom, idKind, idOffset, byRow, sumOfRows, idIn, partsOf, inRows, packNumber, packOf}
 use Rattle.bus_rules.specs.Ident.{unpackNumber, unpackOf}
 use Rattle.bus_rules.specs.Frames.{content, padded, frameWith, buildOf, noFrame, headNumber, receiveNumber, readHeadOf}
 use Rattle.bus_rules.specs.Request.{requestOf, reserved, readNumber, readRequestOf, request, requestBytesNumber, wroteRequest, requestBytesOf}
@@ -15,7 +15,7 @@ unfolding _if_else_ _orElse_ answer result
 orders = tt
 
 unfoldable pub identifiers : Unit {0}
-unfolding idSpare idTable idTo idFrom idKind idOffset idOf partsOf inRows packNumber packOf unpackNumber unpackOf
+unfolding idSpare idTable idTo idFrom idKind idOffset byRow sumOfRows idIn partsOf inRows packNumber packOf unpackNumber unpackOf
 identifiers = tt
 
 unfoldable pub frames : Unit {0}

@@ -1,5 +1,6 @@
--- Packing and unpacking undo each other, on lawful parts and lawful identifiers; the law of the rows.
+-- Packing and unpacking undo each other, on lawful parts and lawful identifiers; what the rows of an identifier hold.
 use mathlib.Core.Path.{_≡_, refl, sym, _∙_, ap}
+use mathlib.Core.List.{map}
 use Prim.Native.Nat.{ℕ, _+_, _*_, _/_, _%_, _^_, _≤_, _<_}
 use native.Mathlib.Nat.{mul-add-div-right, div-eq-of-lt, mul-add-mod-self-right, mod-eq-of-lt, mod-lt, div-add-mod', div-div-eq-div-mul}
 use native.Mathlib.Nat.{add-zero, zero-mul, zero-add, div-one}
@@ -11,10 +12,11 @@ use Rattle.wire.specs.Order.{_if_else_, _orElse_}
 use Rattle.wire.specs.Answer.{answer, result}
 use Rattle.wire.proofs.Answers.{answered, means}
 use Rattle.wire.proofs.Orders.{order, if-zero, if-orElse, zero-orElse}
-use Rattle.bus_rules.specs.Ident.{Parts, row, idSpare, idTable, idTo, idFrom, idKind, idOffset, idOf, idIn, inRows, partsOf}
+use Rattle.bus_rules.specs.Ident.{Parts, rows, part, partAt, byRow, sumOfRows, idOf, idIn, inRows}
+use Rattle.bus_rules.specs.Ident.{idSpare, idTable, idTo, idFrom, idKind, idOffset, partsOf}
 use Rattle.bus_rules.specs.Ident.{packNumber, packOf, packedAnswer, noParts, unpackNumber, unpackOf, unpackedAnswer}
 use Rattle.bus_rules.specs.Frames.{Frame, headNumber}
-use Rattle.bus_rules.specs.Rows.{Rows}
+use Rattle.bus_rules.specs.Rows.{RowByRow, IsLawful, LawfulIds}
 use Rattle.bus_rules.specs.declared.Packed.{Packed}
 use Rattle.bus_rules.specs.declared.Packed.the-variants as P
 use Rattle.bus_rules.specs.declared.Unpacked.{Unpacked}
@@ -36,37 +38,42 @@ spare-is id = rw (div-one id)
 
 -- ── The rows of a sum are its parts ────────────────────────────────────────────────────────────────────────────────
 
+-- the sum, written out
+pub id-is : (o k f t b : ℕ) → idOf o k f t b ≡ b / 16 * 4 + b % 16 * 8 + t * 128 + f * 2048 + k * 32768 + o * 262144
+unfolding idIn sumOfRows byRow
+id-is o k f t b = omega arith
+
 module _ (o k f t b : ℕ) (ho : o < 2048) (hk : k < 8) (hf : f < 16) (ht : t < 16) (hb : b < 32) where
   pub offset-of-id : idOffset (idOf o k f t b) ≡ o
-  unfolding idOf idOffset
-  offset-of-id = row-of-sum 0 o (b / 16 * 4 + b % 16 * 8 + t * 128 + f * 2048 + k * 32768) 262144 2048 _ (omega arith) ho (omega arith)
+  unfolding idOffset
+  offset-of-id = row-of-sum 0 o (b / 16 * 4 + b % 16 * 8 + t * 128 + f * 2048 + k * 32768) 262144 2048 _ (omega arith) ho (omega (arith, id-is o k f t b))
 
   pub kind-of-id : idKind (idOf o k f t b) ≡ k
-  unfolding idOf idKind
-  kind-of-id = row-of-sum o k (b / 16 * 4 + b % 16 * 8 + t * 128 + f * 2048) 32768 8 _ (omega arith) hk (omega arith)
+  unfolding idKind
+  kind-of-id = row-of-sum o k (b / 16 * 4 + b % 16 * 8 + t * 128 + f * 2048) 32768 8 _ (omega arith) hk (omega (arith, id-is o k f t b))
 
   pub from-of-id : idFrom (idOf o k f t b) ≡ f
-  unfolding idOf idFrom
-  from-of-id = row-of-sum (o * 8 + k) f (b / 16 * 4 + b % 16 * 8 + t * 128) 2048 16 _ (omega arith) hf (omega arith)
+  unfolding idFrom
+  from-of-id = row-of-sum (o * 8 + k) f (b / 16 * 4 + b % 16 * 8 + t * 128) 2048 16 _ (omega arith) hf (omega (arith, id-is o k f t b))
 
   pub to-of-id : idTo (idOf o k f t b) ≡ t
-  unfolding idOf idTo
-  to-of-id = row-of-sum (o * 128 + k * 16 + f) t (b / 16 * 4 + b % 16 * 8) 128 16 _ (omega arith) ht (omega arith)
+  unfolding idTo
+  to-of-id = row-of-sum (o * 128 + k * 16 + f) t (b / 16 * 4 + b % 16 * 8) 128 16 _ (omega arith) ht (omega (arith, id-is o k f t b))
 
   pub table-of-id : idTable (idOf o k f t b) ≡ b
-  unfolding idOf idTable
+  unfolding idTable
   table-of-id =
-      let high = row-of-sum (o * 32768 + k * 4096 + f * 256 + t * 16 + b % 16) (b / 16) 0 4 2 (idOf o k f t b) (omega arith) (omega arith) (omega arith) in
-      let low = row-of-sum (o * 2048 + k * 256 + f * 16 + t) (b % 16) (b / 16 * 4) 8 16 (idOf o k f t b) (omega arith) (omega arith) (omega arith) in
+      let n = idOf o k f t b in
+      let e = id-is o k f t b in
+      let high = row-of-sum (o * 32768 + k * 4096 + f * 256 + t * 16 + b % 16) (b / 16) 0 4 2 n (omega arith) (omega arith) (omega (arith, e)) in
+      let low = row-of-sum (o * 2048 + k * 256 + f * 16 + t) (b % 16) (b / 16 * 4) 8 16 n (omega arith) (omega arith) (omega (arith, e)) in
       rw (high, low) (omega arith)
 
   pub id-small : idOf o k f t b < 2 ^ 29
-  unfolding idOf
-  id-small = omega arith
+  id-small = omega (arith, id-is o k f t b)
 
   pub spare-of-id : idSpare (idOf o k f t b) ≡ 0
-  unfolding idOf
-  spare-of-id = rw (spare-is (idOf o k f t b)) (omega arith)
+  spare-of-id = rw (spare-is (idOf o k f t b)) (omega (arith, id-is o k f t b))
 
 -- parts that the rows hold
 pub record Lawful (p : Parts) : Type 0 where
@@ -167,7 +174,7 @@ unpack-after-pack p id e =
     let h = packed-is _ _ id e in
     rw (← h .1) (unpack-id p (zero-lawful p (h .0)))
 
--- seven rows, each the quotient above it times its width and its own value, add up
+-- seven rows, each the quotient above it times 2 to its width and its own value, add up
 rows-add-up : (n q4 q8 q128 q2048 q32768 q262144 high low to from kind offset : ℕ)
     → n ≡ q4 * 4 → q4 ≡ q8 * 2 + high → q8 ≡ q128 * 16 + low → q128 ≡ q2048 * 16 + to → q2048 ≡ q32768 * 16 + from
     → q32768 ≡ q262144 * 8 + kind → q262144 ≡ offset
@@ -175,55 +182,76 @@ rows-add-up : (n q4 q8 q128 q2048 q32768 q262144 high low to from kind offset : 
 rows-add-up n q4 q8 q128 q2048 q32768 q262144 high low to from kind offset e0 e1 e2 e3 e4 e5 e6 = omega arith
 
 module _ (id : ℕ) (small : id < 2 ^ 29) (spare : idSpare id ≡ 0) where
-  sum-of-rows : id ≡ row 2 1 id * 2 ^ 2 + row 3 4 id * 2 ^ 3 + row 7 4 id * 2 ^ 7 + row 11 4 id * 2 ^ 11 + row 15 3 id * 2 ^ 15
-      + row 18 11 id * 2 ^ 18
-  sum-of-rows =
+  sum-of-parts : id ≡ partAt id 1 * 4 + partAt id 2 * 8 + partAt id 3 * 128 + partAt id 4 * 2048 + partAt id 5 * 32768 + partAt id 6 * 262144
+  sum-of-parts =
       let top : id / 536870912 ≡ 0 = div-eq-of-lt small in
       let e0 : id ≡ id / 4 * 4 = sym (div-add-mod' id 4) ∙ rw (sym (spare-is id) ∙ spare, add-zero) in
       let e6 : id / 262144 ≡ id / 262144 % 2048 = row-and-above id 262144 2048 ∙ rw (top, zero-mul, zero-add) in
       rows-add-up id (id / 4) (id / 8) (id / 128) (id / 2048) (id / 32768) (id / 262144)
-      (row 2 1 id) (row 3 4 id) (row 7 4 id) (row 11 4 id) (row 15 3 id) (row 18 11 id)
+      (partAt id 1) (partAt id 2) (partAt id 3) (partAt id 4) (partAt id 5) (partAt id 6)
       e0 (row-and-above id 4 2) (row-and-above id 8 16) (row-and-above id 128 16) (row-and-above id 2048 16) (row-and-above id 32768 8) e6
 
-  table-high : idTable id / 16 ≡ row 2 1 id
+  table-high : idTable id / 16 ≡ partAt id 1
   unfolding idTable
   table-high = omega (arith, mod-lt (id / 8) {m = 16} (lit< tt))
 
-  table-low : idTable id % 16 ≡ row 3 4 id
+  table-low : idTable id % 16 ≡ partAt id 2
   unfolding idTable
   table-low = omega (arith, mod-lt (id / 8) {m = 16} (lit< tt))
 
-  pub rows-of : Rows id (partsOf id)
-  unfolding partsOf idTo idFrom idKind idOffset idSpare
-  rows-of =
-      record {
-        sum = rw (table-high, table-low) sum-of-rows;
-        tableHigh = table-high;
-        tableLow = table-low;
-        to = refl;
-        from = refl;
-        kind = refl;
-        offset = refl;
-        spare = spare;
-      }
+  each-part : byRow (partsOf id) ≡ map (part id) rows
+  unfolding byRow partsOf idTo idFrom idKind idOffset idSpare
+  each-part = rw (table-high, table-low, ← spare)
 
-pub row-law : (id : ℕ) (p : Parts) → unpackOf id ≡ U.Is p → Rows id p
+  sum-of-rows : id ≡ sumOfRows rows (byRow (partsOf id))
+  unfolding sumOfRows
+  sum-of-rows = rw each-part (omega (arith, sum-of-parts))
+
+  pub row-by-row : RowByRow id (partsOf id)
+  unfolding partsOf idTable
+  row-by-row = record { sum = sum-of-rows; each = each-part; table = refl }
+
+pub unpacked-by-row : (id : ℕ) (p : Parts) → unpackOf id ≡ U.Is p → RowByRow id p
 unfolding unpackOf
-row-law id p e =
+unpacked-by-row id p e =
     let h = unpacked-is _ _ p e in
     let l = unpack-lawful id (h .0) in
-    rw (← h .1) (rows-of id (l .0) (l .1))
+    rw (← h .1) (row-by-row id (l .0) (l .1))
+
+pub packed-by-row : (p : Parts) (id : ℕ) → packOf p ≡ P.Is id → RowByRow id p
+packed-by-row p id e = unpacked-by-row id p (unpack-after-pack p id e)
 
 pub parts-lawful : (id : ℕ) → Lawful (partsOf id)
 unfolding partsOf idTo idFrom idKind idOffset idTable
 parts-lawful id = record { offset = omega arith; kind = omega arith; from = omega arith; to = omega arith; table = omega arith }
 
 pub pack-after-unpack : (id : ℕ) (p : Parts) → unpackOf id ≡ U.Is p → packOf p ≡ P.Is id
-unfolding unpackOf packOf answer idOf
+unfolding unpackOf packOf answer idIn
 pack-after-unpack id p e =
     let h = unpacked-is (unpackNumber id) (partsOf id) p e in
     let l : Lawful p = rw (h .1) at (parts-lawful id) in
-    rw (lawful-zero p l) (ap P.Is (sym (row-law id p e .sum)))
+    rw (lawful-zero p l) (ap P.Is (sym (unpacked-by-row id p e .sum)))
+
+-- ── The lawful identifiers ─────────────────────────────────────────────────────────────────────────────────────────
+
+accepted-lawful : (id : ℕ) (p : Parts) → unpackOf id ≡ U.Is p → IsLawful id
+unfolding unpackOf idSpare
+accepted-lawful id p e = unpack-lawful id (unpacked-is _ _ p e .0)
+
+lawful-accepted : (id : ℕ) → IsLawful id → unpackOf id ≡ U.Is (partsOf id)
+unfolding unpackOf answer idSpare
+lawful-accepted id l = rw (unpack-zero id (l .0) (l .1))
+
+pub lawful-ids : LawfulIds
+unfolding idSpare
+lawful-ids = record {
+  every = λ id l. row-by-row id (l .0) (l .1);
+  yielded = λ id. (
+    λ y. accepted-lawful id (y .0) (unpack-after-pack (y .0) id (y .1)),
+    λ l. (partsOf id, pack-after-unpack id (partsOf id) (lawful-accepted id l)),
+  );
+  accepted = λ id. (λ y. accepted-lawful id (y .0) (y .1), λ l. (partsOf id, lawful-accepted id l));
+}
 
 -- 1 and 2, then 3 and 4
 pub head-is : (own : ℕ) (f : Frame)

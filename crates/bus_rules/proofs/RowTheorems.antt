@@ -1,4 +1,4 @@
--- Packing and unpacking, writing and reading request bytes undo each other; the law of the rows; what a built frame is.
+-- Packing and unpacking, writing and reading request bytes undo each other; what the rows of an identifier hold; what a built frame is.
 use Prim.Native.Nat.{ℕ, _≤_}
 use mathlib.Core.Path.{_≡_, _∙_, ap}
 use mathlib.Core.List.{List}
@@ -8,8 +8,8 @@ use Rattle.wire.proofs.Parts.{take-length-le}
 use Rattle.bus_rules.specs.Ident.{Parts, idIn, packOf}
 use Rattle.bus_rules.specs.Frames.{frameWith, buildOf}
 use Rattle.bus_rules.specs.Rows.{Built, RowTheorems}
-use Rattle.bus_rules.proofs.IdentLaws.{unpack-after-pack, pack-after-unpack, row-law, unpack-id, in-rows-lawful, same-in-rows}
-use Rattle.bus_rules.proofs.IdentLaws.{Lawful, zero-lawful, packed-is}
+use Rattle.bus_rules.proofs.IdentLaws.{unpack-after-pack, pack-after-unpack, lawful-ids, packed-by-row, unpacked-by-row}
+use Rattle.bus_rules.proofs.IdentLaws.{Lawful, zero-lawful, packed-is, unpack-id, in-rows-lawful, same-in-rows}
 use Rattle.bus_rules.proofs.RequestLaws.{read-after-write, write-after-read}
 use Rattle.bus_rules.proofs.FrameLaws.{content-of-frame, padded-length, padded-after}
 
@@ -29,7 +29,9 @@ pub row-theorems : RowTheorems
 row-theorems = record {
   unpackAfterPack = unpack-after-pack;
   packAfterUnpack = pack-after-unpack;
-  rowLaw = row-law;
+  lawfulIds = lawful-ids;
+  packedByRow = packed-by-row;
+  unpackedByRow = unpacked-by-row;
   readAfterWrite = read-after-write;
   writeAfterRead = write-after-read;
   built = built;

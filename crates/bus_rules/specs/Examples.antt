@@ -1,11 +1,11 @@
--- What the definitions make of 002's worked examples, and of other frames to a small device. All that is asked and answered is written out.
+-- What the definitions make of identifiers, of 002's worked examples, and of other frames to a small device. All that is asked and answered is written out.
 use Prim.Native.Nat.{ℕ, _-_}
 use mathlib.Core.Path.{_≡_}
-use mathlib.Core.List.{List, [], _∷_, _++_}
+use mathlib.Core.List.{List, [], _∷_, _++_, map}
 use lib.ListN.{length, replicate}
 use Rattle.bus_rules.specs.Device.{Directory, Device, device}
 use Rattle.bus_rules.specs.Frames.{Frame}
-use Rattle.bus_rules.specs.Ident.{packOf, unpackOf}
+use Rattle.bus_rules.specs.Ident.{Parts, rows, part, partAt, sumOfRows, packOf, unpackOf}
 use Rattle.bus_rules.specs.Request.{requestBytesOf}
 use Rattle.bus_rules.specs.declared.Packed.the-variants as P
 use Rattle.bus_rules.specs.declared.Unpacked.the-variants as U
@@ -32,6 +32,13 @@ holds last =
 abbrev pub holder : Device
 holder = holds (0x31 ∷ 0x34 ∷ 0x20 ∷ 0x00 ∷ [])
 
+-- an identifier by hand: taken apart, row by row from the low end, and put together; and what unpacking and packing answer
+pub record ByHand (id : ℕ) (parts : List ℕ) (p : Parts) : Type 0 where
+  pub apart : map (part id) rows ≡ parts
+  pub together : sumOfRows rows parts ≡ id
+  pub unpacked : unpackOf id ≡ U.Is p
+  pub packed : packOf p ≡ P.Is id
+
 -- a frame by its identifier, its length, and its bytes before zeros
 abbrev pub frame : (id len : ℕ) → List ℕ → Frame
 frame id len bytes = record { id = id; len = len; bytes = bytes ++ replicate (8 - length bytes) 0 }
@@ -48,8 +55,17 @@ alone n = record { number = n; frames = 0; frame = frame 0 0 [] }
 abbrev pub Refuses : Device → Frame → ℕ → Type 0
 Refuses e f n = (serveOf e f ≡ alone n) × (deviceAfter e f ≡ e)
 
--- frames from device 7, some with bytes past their length that say otherwise; then parts that neither an identifier nor request bytes hold
+-- identifiers by hand; frames from device 7, some with bytes past their length that say otherwise; then parts that neither an identifier nor
+-- request bytes hold
 pub record Examples : Type 0 where
+  -- 01: "offset 6, REQ, from 5 to 0, table 7: 0x18A838", "Table 20 alone: 0x24", "0x1FFFFFFC unpacks"; docs/PENCIL.md has them by hand
+  pub identifier : ByHand 0x18A838 (0 ∷ 0 ∷ 7 ∷ 0 ∷ 5 ∷ 1 ∷ 6 ∷ []) (record { offset = 6; kind = 1; from = 5; to = 0; table = 7 })
+  pub table20 : ByHand 0x24 (0 ∷ 1 ∷ 4 ∷ 0 ∷ 0 ∷ 0 ∷ 0 ∷ []) (record { offset = 0; kind = 0; from = 0; to = 0; table = 20 })
+  pub largest : ByHand 0x1FFFFFFC (0 ∷ 1 ∷ 15 ∷ 15 ∷ 15 ∷ 7 ∷ 2047 ∷ [])
+      (record { offset = 2047; kind = 7; from = 15; to = 15; table = 31 })
+  -- "0x1FFFFFFD is 2; 0x20000000 is 1"
+  pub spareOne : (partAt 0x1FFFFFFD 0 ≡ 1) × (unpackOf 0x1FFFFFFD ≡ U.Refused 2)
+  pub over29Bits : (map (part 0x20000000) rows ≡ replicate 7 0) × (unpackOf 0x20000000 ≡ U.Refused 1)
   -- 002, 4.1: "id=0x40b878, DLC=3, Data = 0x06 0x00 0x04" brings "id=0x103b0 .. 0x31 0x34 0x20 0x00"
   pub signature : Answers holder (frame 0x40B878 3 (0x06 ∷ 0x00 ∷ 0x04 ∷ 0xFF ∷ []))
       (frame 0x103B0 4 (0x31 ∷ 0x34 ∷ 0x20 ∷ 0x00 ∷ []))
@@ -84,7 +100,6 @@ pub record Examples : Type 0 where
   -- nine bytes of table 15 from offset 16: 9 before 8; five bytes are 8
   pub nine : Refuses holder (frame 0x40B878 3 (0x06 ∷ 0x00 ∷ 0x09 ∷ [])) 9
   pub five : Refuses holder (frame 0x403878 5 (0xB0 ∷ 0xB1 ∷ 0xB2 ∷ 0xB3 ∷ 0xB4 ∷ [])) 8
-  -- table 32, the identifier 2^29, a count of 16
+  -- table 32, a count of 16
   pub table32 : packOf (record { offset = 0; kind = 0; from = 0; to = 0; table = 32 }) ≡ P.Refused 7
-  pub over29Bits : unpackOf 0x20000000 ≡ U.Refused 1
   pub count16 : requestBytesOf (record { table = 0; offset = 0; count = 16 }) ≡ record { number = 9; bytes = replicate 3 0 }

@@ -1,7 +1,9 @@
--- 01 "Identifier and frame": the 29-bit identifier, by sums, quotients and remainders.
+-- 01 "Identifier and frame": the 29-bit identifier, by sums, products, quotients and remainders.
 use Prim.Native.Nat.{ℕ, _+_, _*_, _/_, _%_, _^_}
 use mathlib.Core.Bool.{not}
+use mathlib.Core.List.{List, [], _∷_}
 use lib.Dec.{leb, ltb, eqb}
+use lib.ListN.{getD}
 use Rattle.wire.specs.Order.{_if_else_}
 use Rattle.wire.specs.Answer.{answer}
 pub use Rattle.bus_rules.specs.declared.Parts.{Parts}
@@ -10,41 +12,74 @@ use Rattle.bus_rules.specs.declared.Packed.the-variants as P
 use Rattle.bus_rules.specs.declared.Unpacked.{Unpacked}
 use Rattle.bus_rules.specs.declared.Unpacked.the-variants as U
 
+-- 01's table from the low end, a row each: its lowest bit and its width
+abbrev pub rows : List (ℕ × ℕ)
+rows =
+    -- "0-1: spare, must be 0"
+    (0, 2)
+    -- "2: table, bit 4"
+    ∷ (2, 1)
+    -- "3-6: table, bits 0-3"
+    ∷ (3, 4)
+    -- "7-10: to"
+    ∷ (7, 4)
+    -- "11-14: from"
+    ∷ (11, 4)
+    -- "15-17: type"; `kind` is our name for it
+    ∷ (15, 3)
+    -- "18-28: offset"
+    ∷ (18, 11)
+    ∷ []
+
 -- a row's part of an identifier: it divided by 2 to the row's lowest bit, modulo 2 to the row's width
-abbrev pub row : ℕ → ℕ → ℕ → ℕ
-row low width id = id / 2 ^ low % 2 ^ width
+abbrev pub part : ℕ → ℕ × ℕ → ℕ
+part id (low, width) = id / 2 ^ low % 2 ^ width
 
--- bits 0-1: spare, must be 0
+-- row k, and its part of an identifier; the first is row 0
+abbrev pub row : ℕ → ℕ × ℕ
+row k = getD rows k (0, 0)
+
+abbrev pub partAt : (id k : ℕ) → ℕ
+partAt id k = part id (row k)
+
+-- 01's parts, each by the place of its row; the table has two rows, bit 4, and bits 0-3
 unfoldable pub idSpare : ℕ → ℕ
-idSpare id = row 0 2 id
+idSpare id = partAt id 0
 
--- bit 2: table, bit 4; bits 3-6: table, bits 0-3
 unfoldable pub idTable : ℕ → ℕ
-idTable id = row 2 1 id * 16 + row 3 4 id
+idTable id = partAt id 1 * 16 + partAt id 2
 
--- bits 7-10: to
 unfoldable pub idTo : ℕ → ℕ
-idTo id = row 7 4 id
+idTo id = partAt id 3
 
--- bits 11-14: from
 unfoldable pub idFrom : ℕ → ℕ
-idFrom id = row 11 4 id
+idFrom id = partAt id 4
 
--- bits 15-17: type; `kind` is our name for it
 unfoldable pub idKind : ℕ → ℕ
-idKind id = row 15 3 id
+idKind id = partAt id 5
 
--- bits 18-28: offset
 unfoldable pub idOffset : ℕ → ℕ
-idOffset id = row 18 11 id
+idOffset id = partAt id 6
 
 unfoldable pub partsOf : ℕ → Parts
 partsOf id = record { offset = idOffset id; kind = idKind id; from = idFrom id; to = idTo id; table = idTable id }
 
--- the identifier: the sum of each row's part times 2 to the row's lowest bit
-unfoldable pub idOf : (offset kind from to table : ℕ) → ℕ
-idOf offset kind from to table =
-    table / 16 * 2 ^ 2 + table % 16 * 2 ^ 3 + to * 2 ^ 7 + from * 2 ^ 11 + kind * 2 ^ 15 + offset * 2 ^ 18
+-- parts, row by row: spare is 0; bit 4 of the table, its bits 0-3; to; from; type; offset
+unfoldable pub byRow : Parts → List ℕ
+byRow p = 0 ∷ p .table / 16 ∷ p .table % 16 ∷ p .to ∷ p .from ∷ p .kind ∷ p .offset ∷ []
+
+-- the sum of each row's part times 2 to the row's lowest bit
+unfoldable pub sumOfRows : List (ℕ × ℕ) → List ℕ → ℕ
+sumOfRows [] vs = 0
+sumOfRows (r ∷ rs) [] = 0
+sumOfRows ((low, width) ∷ rs) (v ∷ vs) = v * 2 ^ low + sumOfRows rs vs
+
+-- the identifier of parts
+unfoldable pub idIn : Parts → ℕ
+idIn p = sumOfRows rows (byRow p)
+
+abbrev pub idOf : (offset kind from to table : ℕ) → ℕ
+idOf offset kind from to table = idIn (record { offset = offset; kind = kind; from = from; to = to; table = table })
 
 -- parts that no row holds. 01 gives no number for them; ours: 5 for a type over 7, then as in the bridge's opening 7 for a device or
 -- a table and 8 for the offset
@@ -57,21 +92,17 @@ packNumber p =
     else 8 if ltb 2047 (p .offset)
     else 0
 
--- the identifier of parts
-abbrev pub idIn : Parts → ℕ
-idIn p = idOf (p .offset) (p .kind) (p .from) (p .to) (p .table)
-
 unfoldable pub packOf : Parts → Packed
 packOf p = answer P.Is P.Refused (packNumber p) (idIn p)
 
--- parts as the rows hold them: each modulo 2 to its row's width
+-- parts as the rows hold them: each modulo 2 to its row's width, the table to those of its two rows together
 unfoldable pub inRows : Parts → Parts
 inRows p = record {
-  offset = p .offset % 2 ^ 11;
-  kind = p .kind % 2 ^ 3;
-  from = p .from % 2 ^ 4;
-  to = p .to % 2 ^ 4;
-  table = p .table % 2 ^ 5;
+  offset = p .offset % 2 ^ row 6 .1;
+  kind = p .kind % 2 ^ row 5 .1;
+  from = p .from % 2 ^ row 4 .1;
+  to = p .to % 2 ^ row 3 .1;
+  table = p .table % 2 ^ (row 1 .1 + row 2 .1);
 }
 
 -- 1: identifier 2^29 or more; 2: spare bits set

@@ -1,9 +1,10 @@
--- Theorems about identifiers, request bytes and built frames: reading and writing undo each other, and the law of the rows.
-use Prim.Native.Nat.{ℕ, _+_, _*_, _/_, _%_, _^_, _≤_, _<_}
+-- Theorems about identifiers, request bytes and built frames: reading and writing undo each other, and what the rows of an identifier hold.
+use Prim.Native.Nat.{ℕ, _+_, _*_, _^_, _≤_, _<_}
 use mathlib.Core.Path.{_≡_}
-use mathlib.Core.List.{List, [], _∷_}
+use mathlib.Core.Logic.{_↔_}
+use mathlib.Core.List.{List, [], _∷_, map}
 use lib.ListN.{length, getD, take}
-use Rattle.bus_rules.specs.Ident.{Parts, row, inRows, packOf, unpackOf}
+use Rattle.bus_rules.specs.Ident.{Parts, rows, part, partAt, partsOf, byRow, sumOfRows, inRows, packOf, unpackOf}
 use Rattle.bus_rules.specs.Frames.{Frame, content, frameWith, buildOf}
 use Rattle.bus_rules.specs.Request.{Request, readRequestOf, requestBytesOf}
 use Rattle.bus_rules.specs.declared.Packed.{Packed}
@@ -22,21 +23,22 @@ UnpackAfterPack p r = (id : ℕ) → r ≡ P.Is id → unpackOf id ≡ U.Is p
 abbrev pub PackAfterUnpack : ℕ → Unpacked → Type 0
 PackAfterUnpack id r = (p : Parts) → r ≡ U.Is p → packOf p ≡ P.Is id
 
--- the identifier is the sum of each row's part times 2 to the row's lowest bit, and each row's part is it divided by that, modulo
--- 2 to the row's width; the table has two rows, its bit 4 and its bits 0-3
-pub record Rows (id : ℕ) (p : Parts) : Type 0 where
-  pub sum : id ≡ p .table / 16 * 2 ^ 2 + p .table % 16 * 2 ^ 3 + p .to * 2 ^ 7 + p .from * 2 ^ 11 + p .kind * 2 ^ 15 + p .offset * 2 ^ 18
-  pub tableHigh : p .table / 16 ≡ row 2 1 id
-  pub tableLow : p .table % 16 ≡ row 3 4 id
-  pub to : p .to ≡ row 7 4 id
-  pub from : p .from ≡ row 11 4 id
-  pub kind : p .kind ≡ row 15 3 id
-  pub offset : p .offset ≡ row 18 11 id
-  pub spare : row 0 2 id ≡ 0
+-- 02, C-15, of an identifier and its parts: "it is the sum of each row's part times 2 to the row's lowest bit, and each row's part is it
+-- divided by that, modulo 2 to the row's width"; and how the two rows of the table make it: bit 4, then bits 0-3
+pub record RowByRow (id : ℕ) (p : Parts) : Type 0 where
+  pub sum : id ≡ sumOfRows rows (byRow p)
+  pub each : byRow p ≡ map (part id) rows
+  pub table : p .table ≡ partAt id 1 * 16 + partAt id 2
 
--- of every lawful identifier
-abbrev pub RowLaw : ℕ → Unpacked → Type 0
-RowLaw id r = (p : Parts) → r ≡ U.Is p → Rows id p
+-- a lawful identifier, one that neither 1 nor 2 refuses: below 2^29, with spare bits 0
+abbrev pub IsLawful : ℕ → Type 0
+IsLawful id = (id < 2 ^ 29) × (partAt id 0 ≡ 0)
+
+-- "of every lawful identifier" that sentence holds; what pack yields and what unpack accepts are the same set, the lawful identifiers
+pub record LawfulIds : Type 0 where
+  pub every : (id : ℕ) → IsLawful id → RowByRow id (partsOf id)
+  pub yielded : (id : ℕ) → ((p : Parts) × (packOf p ≡ P.Is id)) ↔ IsLawful id
+  pub accepted : (id : ℕ) → ((p : Parts) × (unpackOf id ≡ U.Is p)) ↔ IsLawful id
 
 -- what is written in request bytes is read from them
 abbrev pub ReadAfterWrite : Request → RequestBytes → Type 0
@@ -59,7 +61,9 @@ pub record Built (p : Parts) (bs : List ℕ) (f : Frame) : Type 0 where
 pub record RowTheorems : Type 0 where
   pub unpackAfterPack : (p : Parts) → UnpackAfterPack p (packOf p)
   pub packAfterUnpack : (id : ℕ) → PackAfterUnpack id (unpackOf id)
-  pub rowLaw : (id : ℕ) → RowLaw id (unpackOf id)
+  pub lawfulIds : LawfulIds
+  pub packedByRow : (p : Parts) (id : ℕ) → packOf p ≡ P.Is id → RowByRow id p
+  pub unpackedByRow : (id : ℕ) (p : Parts) → unpackOf id ≡ U.Is p → RowByRow id p
   pub readAfterWrite : (q : Request) → ReadAfterWrite q (requestBytesOf q)
   pub writeAfterRead : (a b c : ℕ) → a < 256 → b < 256 → c < 256 → WriteAfterRead a b c (readRequestOf a b c)
   pub built : (p : Parts) (bs : List ℕ) → Built p bs (buildOf p bs)

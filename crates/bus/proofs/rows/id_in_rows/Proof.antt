@@ -4,7 +4,8 @@ use Rattle.bus.proofs.rows.id_in_rows.Tie as tie
 use Prim.Native.Nat.{ℕ, _/_, _%_}
 use mathlib.Core.Path.{_≡_}
 use native.Mathlib.Omega.{arith}
-use Rattle.bus_rules.specs.Ident.{idOf, inRows}
+use Rattle.bus_rules.specs.Ident.{inRows}
+use Rattle.bus_rules.proofs.IdentLaws.{id-is}
 
 mul-result : tie.Need-mul-result
 mul-result c = search needs
@@ -59,10 +60,11 @@ low-bits : (t : ℕ) → t % 32 % 16 ≡ t % 16
 low-bits t = omega arith
 
 returns : tie.Need-returns
-unfolding idOf inRows
+unfolding inRows
 returns c =
     let p = c .before .before .before .before .before .before .args .p in
-    omega (arith, high-bit (p .table), low-bits (p .table))
+    let q = inRows p in
+    omega (arith, id-is (q .offset) (q .kind) (q .from) (q .to) (q .table), high-bit (p .table), low-bits (p .table))
 
 pub id-in-rows-spec : {M : Type 1} → statement M
 id-in-rows-spec =
