@@ -3,16 +3,9 @@ use crate::Block;
 ghost use mathlib.Core.Path.{_≡_};
 ghost use Prim.Native.Nat.{_<_, _^_};
 ghost use lib.ListN.{length};
-ghost use Rattle.frd_rules.specs.Block.{counterAfter, blockLen, restNumber, foundOf, blockOf, readBlockOf, blockAnswer, blockResult, lengthOf};
+ghost use Rattle.frd_rules.specs.Block.{blockLen, restNumber, foundOf, blockOf, readBlockOf, blockAnswer, blockResult, lengthOf};
 ghost use Rattle.frd_rules.specs.Kinds.{NoData};
 ghost use Rattle.frd_rules.specs.RoundTrip.{BlockAlone};
-
-// The counter of a block, by the number of earlier blocks.
-pub(crate) fn counter_of(earlier: u64) -> u8
-    ensures { λ r. ⌜ r ≡ counterAfter earlier ⌝ }
-{
-    (earlier % 256) as u8
-}
 
 // The length of a block by its type, here `kind`; 0 for an unknown type.
 fn block_len(size: u16, kind: u8) -> usize
@@ -92,7 +85,7 @@ pub fn read_block(file: &[u8], size: u16, earlier: u64, at: usize) -> Block
             place: at,
         };
     }
-    block_of(&file[at..], size, counter_of(earlier), at)
+    block_of(&file[at..], size, wire::counter_after(earlier), at)
 }
 
 // How many bytes a time block takes; none for the end and for a refusal.

@@ -1,5 +1,4 @@
 // Writing a header and blocks.
-use crate::block_reading::counter_of;
 ghost use mathlib.Core.Path.{_≡_};
 ghost use lib.ListN.{length};
 ghost use Rattle.wire.specs.Writer.{wrote, leaves};
@@ -49,7 +48,7 @@ pub fn write_data(out: &mut [u8], size: u16, earlier: u64, bytes: &[u8]) -> wire
     if out.len() < len + 2 {
         return wire::Written { number: 27, len: 0 };
     }
-    let first = [1, counter_of(earlier)];
+    let first = [1, wire::counter_after(earlier)];
     wire::put(out, 0, &first);
     wire::put(out, 2, bytes);
     wire::Written {
@@ -70,7 +69,7 @@ pub fn write_time(out: &mut [u8], earlier: u64, time: u32) -> wire::Written
         return wire::Written { number: 27, len: 0 };
     }
     let t = wire::four_bytes(time);
-    let bytes = [2, counter_of(earlier), t[0], t[1], t[2], t[3]];
+    let bytes = [2, wire::counter_after(earlier), t[0], t[1], t[2], t[3]];
     wire::put(out, 0, &bytes);
     wire::Written { number: 0, len: 6 }
 }

@@ -2,7 +2,7 @@
 use mathlib.Core.Path.{refl}
 use Rattle.wire.specs.Order.{_if_else_}
 use Rattle.wire.specs.Answer.{answer}
-use Rattle.wire.specs.Log.{counterOf, judged, spanWith}
+use Rattle.wire.specs.Log.{counterAfter, judged, spanWith}
 use Rattle.frd_rules.specs.Header.{numbersOf, readHeaderNumber, readHeaderOf, headAnswer, readSignatureOf}
 use Rattle.frd_rules.specs.Block.{blockLen, restNumber, foundOf, readBlockNumber, readBlockOf, blockAnswer, lengthOf}
 use Rattle.frd_rules.specs.Log.{followedBy, logFrom, logOf, tallyHead, countBlocksOf}
@@ -12,7 +12,7 @@ use Rattle.frd_rules.specs.Examples.{Examples}
 
 -- the definitions, opened
 unfoldable reading : Unit {0}
-unfolding _if_else_ answer counterOf judged spanWith numbersOf readHeaderNumber readHeaderOf headAnswer readSignatureOf
+unfolding _if_else_ answer counterAfter judged spanWith numbersOf readHeaderNumber readHeaderOf headAnswer readSignatureOf
     blockLen restNumber foundOf readBlockNumber readBlockOf blockAnswer lengthOf followedBy logFrom logOf tallyHead countBlocksOf
 reading = tt
 

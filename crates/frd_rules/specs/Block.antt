@@ -8,17 +8,11 @@ use lib.Dec.{eqb, ltb}
 use lib.ListN.{length, getD, drop}
 use Rattle.wire.specs.Order.{_if_else_}
 use Rattle.wire.specs.BigEndian.{beAt}
-use Rattle.wire.specs.Log.{counterOf, judged, dataKind, timeKind, endKind, refusedKind}
+use Rattle.wire.specs.Log.{judged, dataKind, timeKind, endKind, refusedKind}
+-- "The counter is the number of earlier blocks, modulo 256", as in MLG
+pub use Rattle.wire.specs.Log.{counterAfter}
 use Rattle.frd_rules.specs.declared.Block.{Block}
 use Rattle.frd_rules.specs.declared.Block.the-variants.{Data, Time, End, Refused}
-
--- "modulo 256"
-abbrev pub counterModulus : ℕ
-counterModulus = 256
-
--- the counter of a block after n blocks
-abbrev pub counterAfter : ℕ → ℕ
-counterAfter n = counterOf counterModulus n
 
 -- the length of a block by its type, 0 for an unknown type
 unfoldable pub blockLen : (l type : ℕ) → ℕ

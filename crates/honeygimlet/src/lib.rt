@@ -55,7 +55,7 @@ pub const END: u8 = 2;
 pub const REFUSED: u8 = 3;
 
 // What stands at a place of an MLG: `start` and `len` say where the record or the text lies, `as_expected` is 1 where the counter is the
-// expected one, and `place` is that of a refused block.
+// number of earlier blocks, modulo 256, and `place` is that of a refused block.
 #[repr(C)]
 pub struct MlgBlock {
     pub place: usize,

@@ -17,6 +17,8 @@ unfolding mlg listing
 examples = record {
   oneRecord = refl;
   wrongCounter = refl;
+  rolling = refl;
+  modulo255 = refl;
   negativeValue = refl;
   unprintable = refl;
   wrongSum = refl;

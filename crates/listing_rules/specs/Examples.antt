@@ -1,10 +1,17 @@
 -- Listings of small logs, as the definition computes them. The first is 01's.
+use Prim.Native.Nat.{ℕ}
 use mathlib.Core.Path.{_≡_}
-use mathlib.Core.List.{[], _∷_, _++_}
+use mathlib.Core.List.{List, [], _∷_, _++_}
 use lib.ListN.{replicate}
-use Rattle.mlg_rules.specs.Examples.{logWith}
+use Rattle.mlg_rules.specs.Header.{noHeader}
+use Rattle.mlg_rules.specs.Log.{logFrom}
+use Rattle.mlg_rules.specs.Examples.{logWith, blocksWith}
 use Rattle.listing_rules.specs.Text.{ascii}
-use Rattle.listing_rules.specs.Listing.{listOf, listNumber}
+use Rattle.listing_rules.specs.Listing.{logLines, listOf, listNumber}
+
+-- the lines of blocks, after 254 others, of a log without fields
+abbrev pub linesAfter254 : List ℕ → List ℕ
+linesAfter254 blocks = logLines noHeader blocks 254 (logFrom 5 0 254 blocks 0)
 
 pub record Examples : Type 0 where
   -- "one U08 field `t` .., then `00 00 00 0A 07 07`. It prints exactly:"
@@ -13,6 +20,9 @@ pub record Examples : Type 0 where
   -- "a wrong counter adds ` !`": 3 in place of 1, in the second block; its time is 256
   pub wrongCounter : listOf (logWith 0 (ascii "t") (0 ∷ 0 ∷ 0 ∷ 10 ∷ 7 ∷ 7 ∷ 0 ∷ 3 ∷ 1 ∷ 0 ∷ 200 ∷ 200 ∷ []))
       ≡ ascii "fields 1 record 1\nfield 0 0 t\n0 data 0 10 7\n1 data 3 256 200 !\nend 2\n"
+  -- 02, C-12: "In 01 the MLG counter is now modulo 256, for reader, writer and listing"; then the same blocks with counters modulo 255
+  pub rolling : linesAfter254 (blocksWith 254 255 0 1) ≡ ascii "254 data 254 0\n255 mark 255 0 ok\n256 data 0 0\n257 mark 1 0 ok\nend 258\n"
+  pub modulo255 : linesAfter254 (blocksWith 254 0 1 2) ≡ ascii "254 data 254 0\n255 mark 0 0 ok !\n256 data 1 0 !\n257 mark 2 0 ok !\nend 258\n"
   -- a negative value of an S08 field
   pub negativeValue : listOf (logWith 1 (ascii "t") (0 ∷ 0 ∷ 0 ∷ 10 ∷ 128 ∷ 128 ∷ []))
       ≡ ascii "fields 1 record 1\nfield 0 1 t\n0 data 0 10 -128\nend 1\n"

@@ -4,17 +4,7 @@ ghost use mathlib.Core.Path.{_≡_};
 ghost use Prim.Native.Nat.{_+_, _<_, _≤_, _^_};
 ghost use lib.ListN.{length, getD};
 ghost use Rattle.wire.specs.Text.{textLen};
-ghost use Rattle.mlg_rules.specs.Block.{counterAfter, blockLen, textIn, lastOf, restNumber, partsOf, blockOf};
-
-// A block's counter is the number of earlier blocks, modulo this.
-const COUNTER_MODULUS: u64 = 255;
-
-// The counter of a block after the given number of earlier blocks.
-pub(crate) fn counter_of(earlier: u64) -> u8
-    ensures { λ r. ⌜ r ≡ counterAfter earlier ⌝ }
-{
-    (earlier % COUNTER_MODULUS) as u8
-}
+ghost use Rattle.mlg_rules.specs.Block.{blockLen, textIn, lastOf, restNumber, partsOf, blockOf};
 
 // Bytes of a block by its type, here `kind`; 0 for a type that is unknown.
 pub(crate) fn block_len(kind: u8, size: u16) -> usize

@@ -13,7 +13,6 @@ use block_counting::mark_length;
 use block_counting::refusal;
 use block_reading::block_len;
 use block_reading::block_of;
-use block_reading::counter_of;
 use block_writing::put_data;
 use block_writing::put_mark;
 use block_writing::write_data_number;
@@ -73,7 +72,7 @@ pub fn read_block(file: &[u8], size: u16, earlier: u64, at: usize) -> Block
             place: at,
         };
     }
-    block_of(&file[at..], size, counter_of(earlier), at)
+    block_of(&file[at..], size, wire::counter_after(earlier), at)
 }
 
 // How many bytes of the log a block takes; none for the end and for a refusal.
@@ -176,7 +175,7 @@ pub fn write_data(out: &mut [u8], size: u16, earlier: u64, time: u16, bytes: &[u
     if number != 0 {
         return wire::Written { number, len: 0 };
     }
-    put_data(out, counter_of(earlier), time, bytes);
+    put_data(out, wire::counter_after(earlier), time, bytes);
     wire::Written {
         number: 0,
         len: bytes.len() + 5,
@@ -198,7 +197,7 @@ pub fn write_mark(out: &mut [u8], earlier: u64, time: u16, text: &[u8]) -> wire:
     if number != 0 {
         return wire::Written { number, len: 0 };
     }
-    put_mark(out, counter_of(earlier), time, text);
+    put_mark(out, wire::counter_after(earlier), time, text);
     wire::Written { number: 0, len: 54 }
 }
 

@@ -2,7 +2,7 @@
 use Rattle.wire.specs.Order.{_if_else_, _orElse_}
 use Rattle.wire.specs.Answer.{answer, result}
 use Rattle.wire.specs.Sign.{twos}
-use Rattle.wire.specs.Log.{counterOf, judged, spanWith}
+use Rattle.wire.specs.Log.{counterAfter, judged, spanWith}
 use Rattle.mlg_rules.specs.Layout.{served, layoutOf}
 use Rattle.mlg_rules.specs.Types.{sizeOf}
 use Rattle.mlg_rules.specs.Field.{typeNumber}
@@ -13,7 +13,7 @@ use Rattle.mlg_rules.specs.Fields.{unended, textsNumber, namesNumber, fi
 use Rattle.mlg_rules.specs.Header.{numbersOf, fieldsEnd, nameNumber, placesNumber, lastNumber, bodyNumber, areaIn, readHeaderNumber}
 use Rattle.mlg_rules.specs.Header.{readHeaderOf, headAnswer}
 use Rattle.mlg_rules.specs.Parts.{namesEnd, infoLength, fieldsSpanOf, fieldSpanOf, namesSpanOf, infoSpanOf}
-use Rattle.mlg_rules.specs.Block.{counterModulus, blockLen, lastOf, restNumber, partsOf, blockOf, placeNumber, readBlockOf}
+use Rattle.mlg_rules.specs.Block.{blockLen, lastOf, restNumber, partsOf, blockOf, placeNumber, readBlockOf}
 use Rattle.mlg_rules.specs.Block.{blockAnswer, partValues, restResult, blockResult}
 use Rattle.mlg_rules.specs.Log.{lengthOf, followedBy, logOf, tallyOf, tallyHead, countBlocksOf}
 use Rattle.mlg_rules.specs.Area.{areaOf}
@@ -41,7 +41,7 @@ unfolding spanWith namesEnd infoLength fieldsSpanOf fieldSpanOf namesSpanOf info
 parts = tt
 
 unfoldable pub blocks : Unit {0}
-unfolding counterOf counterModulus judged blockLen lastOf restNumber partsOf blockOf placeNumber readBlockOf
+unfolding counterAfter judged blockLen lastOf restNumber partsOf blockOf placeNumber readBlockOf
     blockAnswer partValues restResult blockResult lengthOf followedBy logOf tallyOf tallyHead countBlocksOf
 blocks = tt
 

@@ -10,17 +10,11 @@ use Rattle.wire.specs.Order.{_if_else_}
 use Rattle.wire.specs.BigEndian.{beAt}
 use Rattle.wire.specs.Sum.{sumOf}
 use Rattle.wire.specs.Text.{textLen}
-use Rattle.wire.specs.Log.{counterOf, judged, dataKind, markKind, endKind, refusedKind}
+use Rattle.wire.specs.Log.{judged, dataKind, markKind, endKind, refusedKind}
+-- "The counter is the number of earlier blocks, of both kinds", modulo 256 (02, C-12)
+pub use Rattle.wire.specs.Log.{counterAfter}
 use Rattle.mlg_rules.specs.declared.Block.{Block}
 use Rattle.mlg_rules.specs.declared.Block.the-variants.{Data, Mark, End, Refused}
-
--- "The counter is the number of earlier blocks, of both kinds, modulo 255."
-unfoldable pub counterModulus : ℕ
-counterModulus = 255
-
--- the counter of a block after n earlier ones
-abbrev pub counterAfter : ℕ → ℕ
-counterAfter n = counterOf counterModulus n
 
 -- bytes of a block by its type; 0 for a type that is unknown
 unfoldable pub blockLen : ℕ → ℕ → ℕ

@@ -1,5 +1,5 @@
 -- What the definitions make of 01's example log, "time 0, one U08 field `t` with all else 0, no info, data begin 113, record length 1, then
--- `00 00 00 0A 07 07`", of small files that miss a rule by one, and of a shown value.
+-- `00 00 00 0A 07 07`", of small files that miss a rule by one, of blocks where the counter starts again, and of a shown value.
 use Prim.Native.Nat.{ℕ, _-_}
 use mathlib.Core.Path.{_≡_}
 use mathlib.Core.Bool.{true, false}
@@ -9,8 +9,8 @@ use lib.Ieee.{binary32, ofInt}
 use lib.ListN.{length, replicate}
 use Rattle.mlg_rules.specs.Header.{readHeaderOf, headAnswer}
 use Rattle.mlg_rules.specs.Block.{readBlockOf, blockAnswer}
-use Rattle.mlg_rules.specs.Log.{countBlocksOf}
-use Rattle.mlg_rules.specs.Entries.{aRecord, aMark}
+use Rattle.mlg_rules.specs.Log.{logFrom, countBlocksOf}
+use Rattle.mlg_rules.specs.Entries.{aRecord, aMark, entriesBytes}
 use Rattle.mlg_rules.specs.RoundTrip.{logBytes}
 use Rattle.mlg_rules.specs.Writing.{headerBytes, writeHeaderNumber, markBytes}
 use Rattle.mlg_rules.specs.Raw.{rawValueOf, rawAnswer}
@@ -46,6 +46,18 @@ marked = logWith 0 (116 ∷ []) ((1 ∷ 0 ∷ 0 ∷ 5 ∷ 111 ∷ 107 ∷ replic
 abbrev pub bitsWith : (index bits : ℕ) → List ℕ
 bitsWith index bits = headWith 0 115 1 1 (10 ∷ replicate 49 0 ++ (index ∷ bits ∷ replicate 37 0 ++ (97 ∷ 0 ∷ [])))
 
+-- a data block of an empty record, with this counter
+abbrev pub dataWith : ℕ → List ℕ
+dataWith c = 0 ∷ c ∷ 0 ∷ 0 ∷ 0 ∷ []
+
+-- a mark, `ok`
+abbrev pub markWith : ℕ → List ℕ
+markWith c = 1 ∷ c ∷ 0 ∷ 0 ∷ 111 ∷ 107 ∷ replicate 48 0
+
+-- data, mark, data, mark, with these counters
+abbrev pub blocksWith : (a b c d : ℕ) → List ℕ
+blocksWith a b c d = dataWith a ++ (markWith b ++ (dataWith c ++ markWith d))
+
 pub record HeaderExamples : Type 0 where
   pub header : readHeaderOf log ≡ Is (record { version = 2; time = 0; info = 0; begin = 113; size = 1; count = 1 })
   -- "20 (under 24 bytes)"; in a refusal every other number is 0
@@ -74,9 +86,20 @@ pub record BlockExamples : Type 0 where
   pub counted : countBlocksOf log ≡ record { blocks = 1; ending = 0; place = 119 }
   pub mark : readBlockOf 1 0 marked 113 ≡ Mark 0 5 117 2 true
   pub afterMark : readBlockOf 1 1 marked 167 ≡ Data 1 10 171 true
-  -- "modulo 255. A wrong counter is reported with the block, not refused."
-  pub after254 : readBlockOf 1 254 log 113 ≡ Data 0 10 117 false
-  pub after255 : readBlockOf 1 255 log 113 ≡ Data 0 10 117 true
+  -- 02, C-12: "In 01 the MLG counter is now modulo 256". 01: "A wrong counter is reported with the block, not refused."
+  pub after255 : readBlockOf 1 255 log 113 ≡ Data 0 10 117 false
+  pub after256 : readBlockOf 1 256 log 113 ≡ Data 0 10 117 true
+  pub rolling : logFrom 5 0 254 (blocksWith 254 255 0 1) 0 ≡ record {
+    blocks = (0, Data 254 0 4 true) ∷ (5, Mark 255 0 9 2 true) ∷ (59, Data 0 0 63 true) ∷ (64, Mark 1 0 68 2 true) ∷ [];
+    ending = End;
+    place = 118;
+  }
+  -- the same blocks with counters modulo 255
+  pub modulo255 : logFrom 5 0 254 (blocksWith 254 0 1 2) 0 ≡ record {
+    blocks = (0, Data 254 0 4 true) ∷ (5, Mark 0 0 9 2 false) ∷ (59, Data 1 0 63 false) ∷ (64, Mark 2 0 68 2 false) ∷ [];
+    ending = End;
+    place = 118;
+  }
   pub bothCounted : countBlocksOf marked ≡ record { blocks = 2; ending = 0; place = 173 }
   -- "23 (place past the file)", by a byte
   pub past : readBlockOf 1 1 log 120 ≡ B.Refused 23 120
@@ -94,6 +117,9 @@ pub record WritingExamples : Type 0 where
   -- the writers write the logs
   pub written : logBytes 0 (fieldWith 0 (116 ∷ [])) [] [] (aRecord 10 (7 ∷ []) ∷ []) ≡ log
   pub markedWritten : logBytes 0 (fieldWith 0 (116 ∷ [])) [] [] (aMark 5 (111 ∷ 107 ∷ []) ∷ aRecord 10 (7 ∷ []) ∷ []) ≡ marked
+  -- the counters of blocks after 254 others
+  pub rollingWritten : entriesBytes 254 (aRecord 0 [] ∷ aMark 0 (111 ∷ 107 ∷ []) ∷ aRecord 0 [] ∷ aMark 0 (111 ∷ 107 ∷ []) ∷ [])
+      ≡ blocksWith 254 255 0 1
   -- "adds info's zero"
   pub infoEnded : headerBytes 2 0 [] [] (105 ∷ []) ≡ headWith 24 26 0 0 (105 ∷ 0 ∷ [])
   -- "28 (zero in info)"

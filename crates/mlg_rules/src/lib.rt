@@ -49,8 +49,8 @@ pub enum Head {
     Refused(u8),
 }
 
-// What stands at a place of a log. `start` is the place of the record or text, `as_expected` whether the counter is the expected one.
-// `len` is the text's length before its zero; a record has the length that the call was given.
+// What stands at a place of a log. `start` is the place of the record or text, `as_expected` whether the counter is the number of earlier
+// blocks, modulo 256; `len` is the text's length before its zero; a record has the length that the call was given.
 pub enum Block {
     Data {
         counter: u8,

@@ -1,3 +1,5 @@
+pub mod AllExamples
+pub mod Counters
 pub mod Orders
 pub mod Firsts
 pub mod RefusalChains

@@ -8,3 +8,4 @@ pub mod Text
 pub mod Put
 pub mod Writer
 pub mod Log
+pub mod Counters

@@ -6,9 +6,10 @@ use lib.ListN.{take, drop}
 pub use Rattle.wire.specs.declared.Span.{Span}
 pub use Rattle.wire.specs.declared.Tally.{Tally}
 
--- "The counter is the number of earlier blocks .., modulo .."
-unfoldable pub counterOf : (modulus earlier : ℕ) → ℕ
-counterOf modulus earlier = earlier % modulus
+-- the counter of a block after n earlier ones. 01 of FRD: "The counter is the number of earlier blocks, modulo 256"; of MLG it says "of both
+-- kinds, modulo 255", but 02, C-12: "In 01 the MLG counter is now modulo 256, for reader, writer and listing."
+unfoldable pub counterAfter : ℕ → ℕ
+counterAfter n = n % 256
 
 -- "A block is either data, a mark, the end, or a refusal", and of an FRD a time in place of a mark: the kind of an answer
 abbrev pub dataKind : ℕ

@@ -1,4 +1,4 @@
-// What every layer shares: refusals in an order (specs/), numbers in bytes, signed numbers, sums, texts, copying into lent memory.
+// What every layer shares: refusals in an order (specs/), numbers in bytes, signed numbers, sums, texts, counters, copying into lent memory.
 ghost use mathlib.Core.Path.{_≡_};
 ghost use Prim.Native.Nat.{_+_, _*_, _≤_, _<_, _^_};
 ghost use lib.ListN.{length, take};
@@ -6,6 +6,8 @@ ghost use Rattle.wire.specs.BigEndian.{beOf, beAt, beBytes};
 ghost use Rattle.wire.specs.Sign.{signedOf, twos};
 ghost use Rattle.wire.specs.Sum.{sumOf};
 ghost use Rattle.wire.specs.Text.{textLen};
+ghost use Rattle.wire.specs.Log.{counterAfter};
+ghost use Rattle.wire.specs.Counters.{Rolling, CounterExamples};
 ghost use Rattle.wire.specs.Put.{putAt, putOf};
 
 // What a writer hands back: a number, and how many bytes it wrote (specs/Writer.antt).
@@ -172,6 +174,15 @@ pub fn text_len(s: &[u8]) -> usize
         i += 1;
     }
     i
+}
+
+// The counter of a block after the given number of earlier blocks, in an MLG and in an FRD.
+pub fn counter_after(earlier: u64) -> u8
+    ensures { λ r. ⌜ r ≡ counterAfter earlier ⌝ }
+    ensures rolling { λ _. ⌜ Rolling ⌝ }
+    ensures examples { λ _. ⌜ CounterExamples ⌝ }
+{
+    (earlier % 256) as u8
 }
 
 fn copy(out: &mut [u8], at: usize, bytes: &[u8])

@@ -24,8 +24,8 @@ part-block-of-start c = search needs
 part-block-of-end : tie.Need-part-block-of-end
 part-block-of-end c = search needs
 
-counter-of-requires : tie.Need-counter-of-requires
-counter-of-requires c κs = search needs
+counter-after-requires : tie.Need-counter-after-requires
+counter-after-requires c κs = search needs
 
 block-of-requires : tie.Need-block-of-requires
 block-of-requires c κs = search needs
@@ -33,10 +33,11 @@ block-of-requires c κs = search needs
 returns-2 : tie.Need-returns-2
 returns-2 c =
     let a = c .before .before .before .before .before .args in
-    let if1 = c .before .before .before .if1 in (
+    let if1 = c .before .before .before .if1 in
+    let counter-after = c .before .counter-after in (
       block-told (a .size) (a .earlier) (a .file .now) (a .at)
           (c .block-of .ensures
-          ∙ ap (λ (k : ℕ). blockOf (a .size) k (a .at) (take (length (a .file .now) - a .at) (drop (a .at) (a .file .now)))) (c .before .counter-of .ensures)
+          ∙ ap (λ (k : ℕ). blockOf (a .size) k (a .at) (take (length (a .file .now) - a .at) (drop (a .at) (a .file .now)))) (counter-after .ensures .0)
           ∙ ap (blockOf (a .size) (counterAfter (a .earlier)) (a .at)) (tail-part (a .file .now) (a .at))
           ∙ sym (at-within (a .size) (a .earlier) (a .file .now) (a .at) (if1 .left))),
       block-alone,
@@ -50,6 +51,6 @@ read-block-spec =
     sub-block-of
     part-block-of-start
     part-block-of-end
-    counter-of-requires
+    counter-after-requires
     block-of-requires
     returns-2)

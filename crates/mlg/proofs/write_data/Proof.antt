@@ -16,8 +16,8 @@ write-data-number-requires c κs = search needs
 returns : tie.Need-returns
 returns c = (refuses _ _ _ _ (c .before .write-data-number .ensures) (c .if1 .taken), data-back)
 
-counter-of-requires : tie.Need-counter-of-requires
-counter-of-requires c κs = search needs
+counter-after-requires : tie.Need-counter-after-requires
+counter-after-requires c κs = search needs
 
 put-data-requires : tie.Need-put-data-requires
 put-data-requires c κs =
@@ -36,9 +36,9 @@ returns-2 c =
     let a = c .before .before .before .before .before .before .before .before .before .args in
     let write-data-number = c .before .before .before .before .before .before .write-data-number in
     let if1 = c .before .before .before .before .before .if1 in
-    let counter-of = c .before .before .before .counter-of in (
+    let counter-after = c .before .before .before .counter-after in (
       writes _ _ _ _ _ (sym (if1 .left) ∙ write-data-number .ensures) (data-length _ (a .time) (a .bytes .now))
-          (c .before .before .put-data .ensures ∙ ap (λ (k : ℕ). leaves 0 (dataBytes k (a .time) (a .bytes .now)) (a .out .now)) (counter-of .ensures)
+          (c .before .before .put-data .ensures ∙ ap (λ (k : ℕ). leaves 0 (dataBytes k (a .time) (a .bytes .now)) (a .out .now)) (counter-after .ensures .0)
           ∙ left 0 _ _ refl),
       data-back,
     )
@@ -49,7 +49,7 @@ write-data-spec =
     (tie.spec
     write-data-number-requires
     returns
-    counter-of-requires
+    counter-after-requires
     put-data-requires
     add-t13
     same-length

@@ -18,8 +18,8 @@ write-mark-number-requires c κs = search needs
 returns : tie.Need-returns
 returns c = (refuses _ _ _ _ (c .before .write-mark-number .ensures) (c .if1 .taken), (mark-back, block-same))
 
-counter-of-requires : tie.Need-counter-of-requires
-counter-of-requires c κs = search needs
+counter-after-requires : tie.Need-counter-after-requires
+counter-after-requires c κs = search needs
 
 put-mark-requires : tie.Need-put-mark-requires
 put-mark-requires c κs =
@@ -36,10 +36,10 @@ returns-2 c =
     let a = c .before .before .before .before .before .before .before .before .before .args in
     let write-mark-number = c .before .before .before .before .before .before .write-mark-number in
     let if1 = c .before .before .before .before .before .if1 in
-    let counter-of = c .before .before .before .counter-of in (
+    let counter-after = c .before .before .before .counter-after in (
       writes _ _ _ _ _ (sym (if1 .left) ∙ write-mark-number .ensures) (mark-length _ (a .time) (a .text .now)
           (omega (arith, mark-fits (a .text .now) (length (a .out .now)) (sym (write-mark-number .ensures) ∙ if1 .left) .0)))
-          (c .before .before .put-mark .ensures ∙ ap (λ (k : ℕ). leaves 0 (markBytes k (a .time) (a .text .now)) (a .out .now)) (counter-of .ensures)
+          (c .before .before .put-mark .ensures ∙ ap (λ (k : ℕ). leaves 0 (markBytes k (a .time) (a .text .now)) (a .out .now)) (counter-after .ensures .0)
           ∙ left 0 _ _ refl),
       (mark-back, block-same),
     )
@@ -50,7 +50,7 @@ write-mark-spec =
     (tie.spec
     write-mark-number-requires
     returns
-    counter-of-requires
+    counter-after-requires
     put-mark-requires
     same-length
     returns-2)

@@ -18,8 +18,8 @@ part-block-of-start c = search needs
 part-block-of-end : tie.Need-part-block-of-end
 part-block-of-end c = search needs
 
-counter-of-requires : tie.Need-counter-of-requires
-counter-of-requires c κs = search needs
+counter-after-requires : tie.Need-counter-after-requires
+counter-after-requires c κs = search needs
 
 block-of-requires : tie.Need-block-of-requires
 block-of-requires c κs = search needs
@@ -28,7 +28,7 @@ returns-2 : tie.Need-returns-2
 returns-2 c =
     let counter = c .before in
     let within = counter .before .before .if1 .left in
-    let rest = rw (counter .counter-of .ensures, tail-part) at (c .block-of .ensures) in
+    let rest = rw (counter .counter-after .ensures .0, tail-part) at (c .block-of .ensures) in
     (block-means _ _ _ _ _ (rest ∙ sym (at-within _ _ _ _ within)), block-alone)
 
 pub read-block-spec : {M : Type 1} → statement M
@@ -39,6 +39,6 @@ read-block-spec =
     sub-block-of
     part-block-of-start
     part-block-of-end
-    counter-of-requires
+    counter-after-requires
     block-of-requires
     returns-2)

@@ -27,8 +27,8 @@ returns-2 c =
     let s = room-short b (length (a .out .now)) (omega arith) in
     (refuses 27 _ _ _ (search (order, s) depth 9) (λ z. omega arith), data-back _ _ _)
 
-counter-of-requires : tie.Need-counter-of-requires
-counter-of-requires c κs = search needs
+counter-after-requires : tie.Need-counter-after-requires
+counter-after-requires c κs = search needs
 
 slice-aggregate-put : tie.Need-slice-aggregate-put
 slice-aggregate-put c = search needs
@@ -55,7 +55,7 @@ returns-3 c =
     let n = counterAfter (a .earlier) in
     let k = data-length n (a .bytes .now) in
     let s = room-left (dataBytes n (a .bytes .now)) (length (a .out .now)) (omega arith) in
-    let p = data-put n (a .out .now) (a .bytes .now) _ (rw (counter .counter-of .ensures)) (omega arith) (first .put .ensures) (last .put2 .ensures) in
+    let p = data-put n (a .out .now) (a .bytes .now) _ (rw (counter .counter-after .ensures .0)) (omega arith) (first .put .ensures) (last .put2 .ensures) in
     (writes _ _ _ _ _ (search (order, s) depth 9) (sym k) p, data-back _ _ _)
 
 pub write-data-spec : {M : Type 1} → statement M
@@ -65,7 +65,7 @@ write-data-spec =
     returns
     add-if2
     returns-2
-    counter-of-requires
+    counter-after-requires
     slice-aggregate-put
     put-requires
     put-requires-2

@@ -19,8 +19,8 @@ returns c =
 four-bytes-requires : tie.Need-four-bytes-requires
 four-bytes-requires c κs = search needs
 
-counter-of-requires : tie.Need-counter-of-requires
-counter-of-requires c κs = search needs
+counter-after-requires : tie.Need-counter-after-requires
+counter-after-requires c κs = search needs
 
 array-read-t12 : tie.Need-array-read-t12
 array-read-t12 c = search needs
@@ -50,7 +50,7 @@ returns-2 c =
     let counter = put .before .before .before in
     let a = counter .before .before .before .before .args in
     let b = timeBytes (counterAfter (a .earlier)) (a .time) in
-    let p = put-first (a .out .now) b (omega arith) (put .put .ensures ∙ (rw (counter .counter-of .ensures, counter .before .four-bytes .ensures))) in
+    let p = put-first (a .out .now) b (omega arith) (put .put .ensures ∙ (rw (counter .counter-after .ensures .0, counter .before .four-bytes .ensures))) in
     (writes _ _ _ _ _ (room-left b _ (omega arith)) refl p, time-back _ _ (search needs))
 
 pub write-time-spec : {M : Type 1} → statement M
@@ -59,7 +59,7 @@ write-time-spec =
     (tie.spec
     returns
     four-bytes-requires
-    counter-of-requires
+    counter-after-requires
     array-read-t12
     array-read-t15
     array-read-t18
