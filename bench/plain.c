@@ -460,7 +460,7 @@ static inline void read_block(const uint8_t *file, size_t len, uint16_t size, ui
         no_block(out, HG_BLOCK_REFUSED, 25, place);
         return;
     }
-    *out = (hg_mlg_block){0, place + 4, count, be16(t + 2), 0, t[0], t[1], t[1] == earlier % 255};
+    *out = (hg_mlg_block){0, place + 4, count, be16(t + 2), 0, t[0], t[1], t[1] == earlier % 256};
 }
 
 void PLAIN(read_block)(const uint8_t *file, size_t len, uint16_t size, uint64_t earlier, size_t place, hg_mlg_block *out)

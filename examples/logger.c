@@ -1,6 +1,7 @@
 /*
  * A logger: writes an MLG of three fields, ten records and a mark into memory, by the header file alone, reads it back and lists it.
- * The program exits 1 where what is read is not what was written.
+ * Then it goes on to 600 blocks, where the counter starts again after the 256th, and lists them; once more with counters modulo 255.
+ * The program exits 1 where what is read is not what was written, or another number of counters is wrong than should be.
  *
  *     gcc -std=c11 -Iinclude examples/logger.c target/staticlib/libhoneygimlet.a -o target/logger
  */
@@ -11,12 +12,12 @@
 #include <stdlib.h>
 #include <string.h>
 
-enum { FIELDS = 3, RECORD = 5, RECORDS = 10 };
+enum { FIELDS = 3, RECORD = 5, RECORDS = 10, BLOCKS = 600 };
 
-static uint8_t file[4096];
+static uint8_t file[8192];
 static size_t file_len;
 static uint64_t blocks;
-static uint8_t listing[HG_LISTING];
+static uint8_t listing[HG_LISTING + 1]; /* and a zero */
 
 static void put16(uint8_t *at, uint16_t n)
 {
@@ -101,6 +102,43 @@ static float last_coolant(hg_mlg_header header)
     return hg_mlg_shown_value(file + fields.start + HG_MLG_FIELD, HG_MLG_FIELD, file + last.start + 2, 2).value;
 }
 
+/* The number in front of a block's line; -1 for another line. */
+static int block_of(const char *line)
+{
+    int number;
+    return sscanf(line, "%d", &number) == 1 ? number : -1;
+}
+
+/* Lists the log: prints the lines of blocks 254 to 257, and how many of all blocks have a wrong counter. */
+static unsigned wrong_counters(void)
+{
+    unsigned wrong = 0;
+    hg_written list = hg_mlg_list(listing, HG_LISTING, file, file_len);
+    if (list.number != 0)
+        exit(1);
+    listing[list.len] = 0;
+    for (const char *line = strtok((char *)listing, "\n"); line != NULL; line = strtok(NULL, "\n")) {
+        if (block_of(line) >= 254 && block_of(line) <= 257)
+            puts(line);
+        size_t len = strlen(line);
+        if (len > 2 && strcmp(line + len - 2, " !") == 0)
+            wrong++;
+    }
+    printf("%u wrong counters\n", wrong);
+    return wrong;
+}
+
+/* What a logger would write that counts modulo 255. */
+static void count_modulo_255(hg_mlg_header header)
+{
+    size_t place = header.begin;
+    for (uint64_t i = 0; i < blocks; i++) {
+        hg_mlg_block block = hg_mlg_read_block(file, file_len, header.size, i, place);
+        file[place + 1] = (uint8_t)(i % 255);
+        place += block.kind == HG_BLOCK_MARK ? HG_MLG_MARK : header.size + HG_MLG_DATA;
+    }
+}
+
 int main(void)
 {
     write_header();
@@ -112,10 +150,18 @@ int main(void)
 
     hg_mlg_header header = hg_mlg_read_header(file, file_len);
     hg_tally tally = hg_mlg_count_blocks(file, file_len);
-    hg_written list = hg_mlg_list(listing, sizeof listing, file, file_len);
+    hg_written list = hg_mlg_list(listing, HG_LISTING, file, file_len);
     bool same = header.number == 0 && header.count == FIELDS && header.size == RECORD && tally.blocks == blocks && tally.ending == 0;
     printf("%zu bytes, %u fields, %u blocks\n", file_len, header.count, (unsigned)tally.blocks);
     fwrite(listing, 1, list.len, stdout);
     printf("the last coolant is %.1f\n", last_coolant(header));
-    return same && list.number == 0 ? 0 : 1;
+
+    for (unsigned i = RECORDS; blocks < BLOCKS; i++)
+        write_record(i);
+    printf("%d blocks:\n", BLOCKS);
+    unsigned wrong = wrong_counters();
+    printf("the same, counted modulo 255:\n");
+    count_modulo_255(header);
+    unsigned wrong_modulo_255 = wrong_counters();
+    return same && list.number == 0 && wrong == 0 && wrong_modulo_255 == BLOCKS - 255 ? 0 : 1;
 }

@@ -15,7 +15,7 @@
  *
  *   hg_bus_*                                  nothing                               180
  *   hg_bridge_*                               nothing                               733
- *   hg_mlg_read_block                         record length                          88
+ *   hg_mlg_read_block                         record length                          72
  *   hg_mlg_write_data                         record length                          16
  *   hg_mlg_write_mark, hg_mlg_*_value         nothing                                88
  *   hg_mlg_write_header                       fields, names and info                712
@@ -388,6 +388,11 @@ enum {
 /* Bytes of a data block beside its record, bytes of a mark, and the longest text that a mark takes. */
 enum { HG_MLG_DATA = 5, HG_MLG_MARK = 54, HG_MLG_MARK_TEXT = 49 };
 
+/*
+ * A block's counter, in an MLG and in an FRD, is the number of earlier blocks, of both kinds, modulo 256: the block after 255 others counts
+ * 255, the next one 0. Writers write it; a wrong one is reported with the block, not refused.
+ */
+
 /* A header's time is in seconds since 1970 (0: not known), a block's in units of 10 microseconds, modulo 65,536. */
 typedef struct {
     uint32_t time;
@@ -410,8 +415,8 @@ typedef struct {
     uint16_t time;
     uint8_t number;
     uint8_t kind;
-    uint8_t counter;
-    uint8_t as_expected; /* 1 if the counter is the expected one */
+    uint8_t counter;     /* as the file has it */
+    uint8_t as_expected; /* 1 if that is the number of earlier blocks, modulo 256 */
 } hg_mlg_block;
 HG_SIZE(hg_mlg_block, 32);
 
@@ -516,8 +521,8 @@ typedef struct {
     uint32_t time;
     uint8_t number;
     uint8_t kind;
-    uint8_t counter;
-    uint8_t as_expected; /* 1 if the counter is the expected one */
+    uint8_t counter;     /* as the file has it */
+    uint8_t as_expected; /* 1 if that is the number of earlier blocks, modulo 256 */
 } hg_frd_block;
 HG_SIZE(hg_frd_block, 32);
 

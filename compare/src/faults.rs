@@ -3,7 +3,7 @@
 use crate::abi::*;
 use crate::judge::Judge;
 use crate::kinds::KINDS;
-use crate::model::{bridge, identifier, mlg, value};
+use crate::model::{bridge, counter_after, identifier, mlg, value};
 use crate::rng::Rng;
 use crate::side::{Buffers, BuffersMut, Model, Side};
 
@@ -135,7 +135,9 @@ faults! {
     BitsOverWidthTaken,
     NamesEndAtInfo,
     SizeBeforeFields,
-    CounterModulo256,
+    CounterModulo255,
+    DataCounterModulo255,
+    MarkCounterModulo255,
     WrongCounterRefused,
     EndIs23,
     MarkTextOf50,
@@ -163,6 +165,8 @@ faults! {
     EmptyInfoStartsAt0,
     // FRD
     FrdCounterModulo255,
+    FrdDataCounterModulo255,
+    FrdTimeCounterModulo255,
     FrdBeginFree,
     FrdTimeWithoutCounter,
     FrdType0Taken,
@@ -170,6 +174,7 @@ faults! {
     SignatureOf62,
     // listing
     NoMarkOfWrongCounter,
+    ListedModulo255,
     ControlBytesPrinted,
     TooLongAt65536,
 }
@@ -705,8 +710,8 @@ impl Side for Faulty {
     fn mlg_read_block(&self, file: &[u8], size: u16, earlier: u64, place: usize) -> MlgBlock {
         let mut block = Model.mlg_read_block(file, size, earlier, place);
         if block.number == 0 && block.kind != BLOCK_END {
-            if self.has(CounterModulo256) {
-                block.as_expected = (block.counter as u64 == earlier % 256) as u8;
+            if self.has(CounterModulo255) {
+                block.as_expected = (block.counter as u64 == earlier % 255) as u8;
             }
             if self.has(WrongCounterRefused) && block.as_expected == 0 {
                 return MlgBlock { place, number: 23, kind: BLOCK_REFUSED, ..MlgBlock::default() };
@@ -810,13 +815,20 @@ impl Side for Faulty {
     }
 
     fn mlg_write_data(&self, out: &mut [u8], size: u16, earlier: u64, time: u16, record: &[u8]) -> Written {
-        Model.mlg_write_data(out, size, earlier, time, record)
+        let answer = Model.mlg_write_data(out, size, earlier, time, record);
+        if self.has(DataCounterModulo255) && answer.number == 0 {
+            out[1] = (earlier % 255) as u8;
+        }
+        answer
     }
 
     fn mlg_write_mark(&self, out: &mut [u8], earlier: u64, time: u16, text: &[u8]) -> Written {
         let answer = Model.mlg_write_mark(out, earlier, time, text);
         if self.has(MarkPaddedWithSpaces) && answer.number == 0 {
             out[4 + text.len()..53].fill(b' ');
+        }
+        if self.has(MarkCounterModulo255) && answer.number == 0 {
+            out[1] = (earlier % 255) as u8;
         }
         answer
     }
@@ -896,7 +908,11 @@ impl Side for Faulty {
     }
 
     fn frd_write_data(&self, out: &mut [u8], size: u16, earlier: u64, record: &[u8]) -> Written {
-        Model.frd_write_data(out, size, earlier, record)
+        let answer = Model.frd_write_data(out, size, earlier, record);
+        if self.has(FrdDataCounterModulo255) && answer.number == 0 {
+            out[1] = (earlier % 255) as u8;
+        }
+        answer
     }
 
     fn frd_write_time(&self, out: &mut [u8], earlier: u64, time: u32) -> Written {
@@ -904,6 +920,9 @@ impl Side for Faulty {
         if self.has(FrdTimeWithoutCounter) && answer.number == 0 {
             out[1..5].copy_from_slice(&time.to_be_bytes());
             answer.len = 5;
+        }
+        if self.has(FrdTimeCounterModulo255) && answer.number == 0 {
+            out[1] = (earlier % 255) as u8;
         }
         answer
     }
@@ -916,9 +935,23 @@ impl Side for Faulty {
         let text = String::from_utf8(listing).unwrap();
         Some(match self.0 {
             NoMarkOfWrongCounter => text.replace(" !\n", "\n").into_bytes(),
+            ListedModulo255 => text.lines().map(|line| listed_modulo_255(line) + "\n").collect::<String>().into_bytes(),
             ControlBytesPrinted => text.replace('.', "\x7F").into_bytes(),
             _ => text.into_bytes(),
         })
+    }
+}
+
+/// A line of a listing in which the block's counter is expected modulo 255.
+fn listed_modulo_255(line: &str) -> String {
+    let number = |index: usize| line.split(' ').nth(index).and_then(|word| word.parse::<u64>().ok());
+    let (Some(earlier), Some(counter)) = (number(0), number(2)) else {
+        return line.to_string();
+    };
+    match (counter == counter_after(earlier) as u64, counter == earlier % 255) {
+        (true, false) => format!("{line} !"),
+        (false, true) => line.strip_suffix(" !").unwrap().to_string(),
+        _ => line.to_string(),
     }
 }
 

@@ -31,6 +31,7 @@ pub fn all(side: &dyn Side) -> Vec<Reckoning> {
     resting_slots(side, &mut list);
     values(side, &mut list);
     listing(side, &mut list);
+    rolling_counters(side, &mut list);
     list.0
 }
 
@@ -337,6 +338,34 @@ fn listing(side: &dyn Side, list: &mut List) {
     add("listing with a wrong counter", &file, "fields 1 record 1\nfield 0 0 t\n0 data 3 10 7 !\nend 1\n");
     add("listing of an input too long", &vec![0; 65_537], "too long\n");
     add("listing of no bytes", &[], "refused 20 at 0\n");
+}
+
+/// 02, C-12: a log of 600 blocks, every hundredth a mark, as the side writes it; then the same with counters modulo 255.
+fn rolling_counters(side: &dyn Side, list: &mut List) {
+    let mut file = example().0;
+    file.truncate(113);
+    let mut places = Vec::new();
+    for earlier in 0..600 {
+        let mut block = [0; 54];
+        let written = match earlier % 100 {
+            99 => side.mlg_write_mark(&mut block, earlier, 0, b"mark"),
+            _ => side.mlg_write_data(&mut block, 1, earlier, 0, &[7]),
+        };
+        places.push(file.len());
+        file.extend(&block[..written.len]);
+    }
+    let counters: Vec<u8> = places[254..258].iter().map(|place| file[place + 1]).collect();
+    list.add("counters of the blocks after 254 to 257 others", counters, vec![254, 255, 0, 1]);
+    let marked = |file: &[u8]| -> Option<Vec<String>> {
+        let text = String::from_utf8(side.listing(file)?).unwrap();
+        let lines = text.lines().filter(|line| line.ends_with(" !"));
+        Some(lines.map(|line| line.split(' ').next().unwrap().to_string()).collect())
+    };
+    let Some(numbers) = marked(&file) else { return };
+    list.add("lines with ` !` of 600 blocks", numbers, vec![]);
+    places.iter().zip(0..).for_each(|(place, earlier)| file[place + 1] = (earlier % 255) as u8);
+    let wrong = (255..600).map(|number| number.to_string()).collect();
+    list.add("lines with ` !` of 600 blocks with counters modulo 255", marked(&file).unwrap(), wrong);
 }
 
 #[cfg(test)]

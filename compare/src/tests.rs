@@ -507,8 +507,8 @@ fn header_refusals() {
 #[test]
 fn blocks_of_both_formats() {
     let mark = mlg::write_mark(54, 256, 0x0102, b"hello").unwrap();
-    assert_eq!(mark[..10], *b"\x01\x01\x01\x02hello\0");
-    let read = mlg::Block::Mark { counter: 1, as_expected: true, time: 0x0102, start: 4, count: 5 };
+    assert_eq!(mark[..10], *b"\x01\x00\x01\x02hello\0");
+    let read = mlg::Block::Mark { counter: 0, as_expected: true, time: 0x0102, start: 4, count: 5 };
     assert_eq!(mlg::read_block(&mark, 9, 256, 0), Ok(read));
     assert_eq!(mlg::read_block(&mark, 9, 256, 54), Ok(mlg::Block::End));
     assert_eq!(mlg::read_block(&mark, 9, 256, 55), Err(23));
@@ -516,6 +516,10 @@ fn blocks_of_both_formats() {
     assert_eq!(mlg::read_block(&[2], 9, 256, 0), Err(25));
     assert_eq!(mlg::read_block(&[0, 0, 0, 0, 7, 8], 1, 0, 0), Err(26));
     assert_eq!(mlg::read_block(&[0, 0, 0, 0, 0], 0, 1, 0).is_ok(), true);
+    assert_eq!(
+        [254, 255, 256, 257].map(|earlier| mlg::write_data(5, 0, earlier, 0, &[]).unwrap()[1]),
+        [254, 255, 0, 1]
+    );
 
     let file = frd::write_header(81, 5, &[9; 63], 2).unwrap();
     assert_eq!(frd::read_header(&file), Ok(frd::Header { time: 5, size: 2 }));

@@ -1,7 +1,7 @@
 //! 01 "FRD", version 1.
 
 use super::mlg::fitted;
-use super::{be16, be32, Number};
+use super::{be16, be32, counter_after, Number};
 
 pub const NAME: [u8; 6] = [0x46, 0x52, 0x44, 0x00, 0x00, 0x00];
 pub const HEADER: usize = 81;
@@ -57,7 +57,7 @@ pub fn read_block(file: &[u8], size: u16, earlier: u64, place: usize) -> Result<
         return Err(20);
     }
     let counter = rest[1];
-    let as_expected = counter as u64 == earlier % 256;
+    let as_expected = counter == counter_after(earlier);
     if rest[0] == 1 {
         Ok(Block::Data { counter, as_expected, start: place + 2, count: size as usize })
     } else {
@@ -109,13 +109,13 @@ pub fn write_data(output: usize, size: u16, earlier: u64, record: &[u8]) -> Resu
     if record.len() != size as usize {
         return Err(23);
     }
-    let mut block = vec![1, (earlier % 256) as u8];
+    let mut block = vec![1, counter_after(earlier)];
     block.extend(record);
     fitted(block, output)
 }
 
 pub fn write_time(output: usize, earlier: u64, time: u32) -> Result<Vec<u8>, Number> {
-    let mut block = vec![2, (earlier % 256) as u8];
+    let mut block = vec![2, counter_after(earlier)];
     block.extend(time.to_be_bytes());
     fitted(block, output)
 }

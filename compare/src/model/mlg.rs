@@ -1,14 +1,11 @@
 //! 01 "MLG": header, fields, blocks and writers. All numbers big-endian.
 
-use super::{be16, be32, zero_ended, Number};
+use super::{be16, be32, counter_after, zero_ended, Number};
 
 pub const NAME: [u8; 6] = [0x4D, 0x4C, 0x56, 0x4C, 0x47, 0x00];
 pub const HEADER: usize = 24;
 pub const FIELD: usize = 89;
 pub const MARK: usize = 54;
-
-/// The counter is the number of earlier blocks, of both kinds, modulo this.
-pub const COUNTER_MODULUS: u64 = 255;
 
 #[derive(Clone, Copy, Debug, PartialEq, Eq)]
 pub struct Header {
@@ -174,7 +171,7 @@ pub fn read_block(file: &[u8], size: u16, earlier: u64, place: usize) -> Result<
         return Err(20);
     }
     let counter = rest[1];
-    let as_expected = counter as u64 == earlier % COUNTER_MODULUS;
+    let as_expected = counter == counter_after(earlier);
     let time = be16(rest, 2);
     let start = place + 4;
     if rest[0] == 1 {
@@ -298,7 +295,7 @@ pub fn write_data(output: usize, size: u16, earlier: u64, time: u16, record: &[u
     if record.len() != size as usize {
         return Err(23);
     }
-    let mut block = vec![0, (earlier % COUNTER_MODULUS) as u8];
+    let mut block = vec![0, counter_after(earlier)];
     block.extend(time.to_be_bytes());
     block.extend(record);
     block.push(sum(record));
@@ -310,7 +307,7 @@ pub fn write_mark(output: usize, earlier: u64, time: u16, text: &[u8]) -> Result
     if text.len() > 49 || text.contains(&0) {
         return Err(28);
     }
-    let mut block = vec![1, (earlier % COUNTER_MODULUS) as u8];
+    let mut block = vec![1, counter_after(earlier)];
     block.extend(time.to_be_bytes());
     block.extend(text);
     block.resize(MARK, 0);

@@ -1,4 +1,4 @@
-//! The rules of paper 01, written down a second time from the papers alone.
+//! The rules of paper 01, and of 02 what has landed, written down a second time from the papers alone.
 //!
 //! Every call answers `Ok` with what it hands back, or `Err` with the number of
 //! the refusal. What a call changes is handed back as a new value, so a refusal
@@ -21,6 +21,11 @@ pub const CMD: u8 = 0;
 pub const REQ: u8 = 1;
 pub const RSP: u8 = 2;
 pub const XTND: u8 = 7;
+
+/// The counter of a block in an MLG or an FRD: the number of earlier blocks, modulo 256 (01 of FRD; 02, C-12 of MLG).
+pub fn counter_after(earlier: u64) -> u8 {
+    (earlier % 256) as u8
+}
 
 pub fn be16(bytes: &[u8], at: usize) -> u16 {
     bytes[at] as u16 * 256 + bytes[at + 1] as u16

@@ -1,7 +1,8 @@
 //! The stored logs, in the order in which the program `listing_cases` lists them.
 
-use crate::log::{bit_field, field, right_counter, Field, Log, Names, Number, Place};
+use crate::log::{bit_field, field, Field, Log, Names, Number, Place};
 use crate::log::{BITS_16, BITS_32, BITS_8, S08, S16, U08, U16};
+use crate::model::counter_after;
 use crate::model::listing::LONGEST;
 
 pub fn cases() -> Vec<(&'static str, Log)> {
@@ -135,6 +136,8 @@ fn texts_and_counters() -> Vec<(&'static str, Log)> {
         ("no_fields", no_fields),
         ("no_fields_no_blocks", none),
         ("many_blocks", many_blocks()),
+        ("rolling_counters", rolling(counter_after)),
+        ("counters_modulo_255", rolling(|earlier| (earlier % 255) as u8)),
         ("wrong_counters", wrong_counters),
     ]
 }
@@ -149,12 +152,20 @@ fn many_blocks() -> Log {
             log.data((90 * earlier % 65_536) as u16, &[(earlier % 256) as u8])
         };
         match earlier {
-            510 => log = log.counter(255),
-            600 => log = log.counter(right_counter(earlier) + 1),
+            512 => log = log.counter(2), // as it would be modulo 255
+            600 => log = log.counter(counter_after(earlier) + 1),
             _ => {}
         }
     }
     log
+}
+
+/// 600 blocks, every hundredth a mark, with these counters.
+fn rolling(counter: fn(u64) -> u8) -> Log {
+    (0..600).fold(one_field(), |log, earlier| {
+        let log = if earlier % 100 == 99 { log.mark(0, "mark") } else { log.data(0, &[7]) };
+        log.counter(counter(earlier))
+    })
 }
 
 /// A case for each refusal of the header, in the reader's order.
@@ -248,7 +259,7 @@ fn full() -> Vec<(&'static str, Log)> {
 fn wrong_counter(earlier: u64) -> u8 {
     let counter = ((earlier + 101) % 256) as u8;
     let counter = if counter < 100 { 200 } else { counter };
-    if counter == right_counter(earlier) {
+    if counter == counter_after(earlier) {
         counter + 1
     } else {
         counter

@@ -3,7 +3,8 @@
 //! What the header says, the counters and the sums follow from the parts; whatever of it is wrong in
 //! a log is said on its own. Styles and fillers of fields are 0.
 
-use crate::model::mlg::{field_size, is_bit_field, sum, COUNTER_MODULUS, FIELD, HEADER, MARK, NAME};
+use crate::model::counter_after;
+use crate::model::mlg::{field_size, is_bit_field, sum, FIELD, HEADER, MARK, NAME};
 
 /// The types of fields (01).
 pub const U08: u8 = 0;
@@ -111,7 +112,7 @@ enum Content {
 
 impl Block {
     fn bytes(&self, earlier: u64) -> Vec<u8> {
-        let mut bytes = vec![self.kind, self.counter.unwrap_or(right_counter(earlier))];
+        let mut bytes = vec![self.kind, self.counter.unwrap_or(counter_after(earlier))];
         bytes.extend(self.time.to_be_bytes());
         match &self.content {
             Content::Record(record, wrong) => {
@@ -126,11 +127,6 @@ impl Block {
         }
         bytes
     }
-}
-
-/// The counter of a block with so many before it.
-pub fn right_counter(earlier: u64) -> u8 {
-    (earlier % COUNTER_MODULUS) as u8
 }
 
 /// A number of the header that can be said wrong.
