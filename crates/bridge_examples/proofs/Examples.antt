@@ -14,7 +14,7 @@ use borrow.Author.Tests.{eqb-true, eqb-false, eq-eqb, lt-ltb, le-ltb, ltb-true, 
 use Rattle.bus_rules.specs.Ident.{idOf, idFrom, idTable, idOffset}
 use Rattle.bus_rules.specs.Frames.{frameWith, content, req, rsp}
 use Rattle.bus_rules.specs.Request.{request}
-use Rattle.bus_rules.specs.Holder.{serveOf, answerWith}
+use Rattle.bus_rules.specs.Holder.{serveOf, answerWith, Gives}
 use Rattle.bus_rules.specs.declared.Served.{Served}
 use Rattle.bus_rules.specs.Device.{Device}
 use Rattle.bus_rules.proofs.Replies.{answerer-unchanged}
@@ -208,7 +208,8 @@ module _ (cs : List Call) where
 -- a reply that is the device's own, as the holder's rules give it
 own-reply : (r : Run) (t : Timeline) (m : ℕ) (q g : Frame) → t .asked m < m → accepted r (t .asked m) ≡ true
     → answer r (t .asked m) .sent ≡ some q → t .when (t .asked m) ≤ t .answered m → t .answered m ≤ t .when m
-    → serveOf (t .device (t .answered m)) q ≡ answerWith g → Own r t m g
+    → serveOf (t .device (t .answered m)) q ≡ answerWith 1 g → Own r t m g
+unfolding answerWith
 own-reply r t m q g e a y s u h = record {
   request = q;
   reply = g;
@@ -218,12 +219,15 @@ own-reply r t m q g e a y s u h = record {
   yields = y;
   sinceAsked = s;
   untilArrived = u;
-  gives = h;
-  after = sym (answerer-unchanged (t .device (t .answered m)) q g h);
+  gives = given;
+  after = sym (answerer-unchanged (t .device (t .answered m)) q g given);
   sameId = refl;
   sameLen = refl;
   sameBytes = refl;
 }
+  where
+    given : Gives (t .device (t .answered m)) q g
+    given = (ap (λ (v : Served). v .frames) h, ap (λ (v : Served). v .frame) h)
 
 same-frame : (c : Call) (f g : Frame) → c ≡ frame itsOwn f → c ≡ frame itsOwn g → f ≡ g
 same-frame c f g p q = let z : frame itsOwn f ≡ frame itsOwn g = sym p ∙ q in cc
@@ -622,8 +626,8 @@ unfolding everything forged reply directory memory
 forged-forgery o =
     let q : frameWith 0x3882B8 (6 ∷ 1 ∷ 2 ∷ []) ≡ o .request = some-eq (o .yields) in
     let d : holding ≡ o .before = o .after ∙ answerer-unchanged (o .before) (o .request) (o .reply) (o .gives) in
-    let g : answerWith (reply 5 8 (114 ∷ 115 ∷ [])) ≡ answerWith (o .reply) = ap₂ serveOf d q ∙ o .gives in
-    let z : _≡_ {A = ℕ} 0 114 = ap (λ (l : List ℕ). getD l 0 0) (o .sameBytes ∙ sym (ap (λ (s : Served). content (s .frame)) g)) in
+    let g : reply 5 8 (114 ∷ 115 ∷ []) ≡ o .reply = ap (λ (s : Served). s .frame) (ap₂ serveOf d q) ∙ o .gives .1 in
+    let z : _≡_ {A = ℕ} 0 114 = ap (λ (l : List ℕ). getD l 0 0) (o .sameBytes ∙ sym (ap content g)) in
     omega arith
 
 forged-shows : ForgedShows
@@ -774,8 +778,8 @@ module _ (a b : ℕ) where
 
   -- where the device is the same from moment 4 on, and these are its replies
   back-premises : (device : ℕ → Device) (d : Device) → ((τ : ℕ) → 4 ≤ τ → device τ ≡ d)
-      → serveOf d (frameWith 0x1882B8 (6 ∷ 0 ∷ 8 ∷ [])) ≡ answerWith (reply 5 0 eight)
-      → serveOf d (frameWith 0x3882B8 (6 ∷ 1 ∷ 2 ∷ [])) ≡ answerWith (reply 5 8 (a ∷ b ∷ []))
+      → serveOf d (frameWith 0x1882B8 (6 ∷ 0 ∷ 8 ∷ [])) ≡ answerWith 1 (reply 5 0 eight)
+      → serveOf d (frameWith 0x3882B8 (6 ∷ 1 ∷ 2 ∷ [])) ≡ answerWith 1 (reply 5 8 (a ∷ b ∷ []))
       → Premises (run (readingBack a b)) back-x 7 (onTime device) 4
   unfolding everything every underFive allZero readingBack reply back-x
   back-premises device d same g h = record {
@@ -863,12 +867,12 @@ module _ (bs : List ℕ) where
   after-stands = still-stands (afterClosing bs) after-x 67 refl (omega arith)
 
   -- the reply is the device's own, to the checked write's request and to the closed read's
-  after-next : (device : ℕ → Device) → serveOf (device 66) (frameWith (idOf 8 req 0 5 7) (6 ∷ 0 ∷ 8 ∷ [])) ≡ answerWith last-reply
+  after-next : (device : ℕ → Device) → serveOf (device 66) (frameWith (idOf 8 req 0 5 7) (6 ∷ 0 ∷ 8 ∷ [])) ≡ answerWith 1 last-reply
       → Own (run (afterClosing bs)) (onTime device) 66 last-reply
   unfolding everything afterClosing
   after-next device g = own-reply (run (afterClosing bs)) (onTime device) 66 _ _ (omega arith) refl refl (omega arith) (omega arith) g
 
-  after-late : (device : ℕ → Device) → serveOf (device 66) (frameWith (idOf 0 req 0 5 7) (6 ∷ 0 ∷ 8 ∷ [])) ≡ answerWith last-reply
+  after-late : (device : ℕ → Device) → serveOf (device 66) (frameWith (idOf 0 req 0 5 7) (6 ∷ 0 ∷ 8 ∷ [])) ≡ answerWith 1 last-reply
       → Own (run (afterClosing bs)) (toCallOne device) 66 last-reply
   unfolding everything afterClosing
   after-late device g = own-reply (run (afterClosing bs)) (toCallOne device) 66 _ _ (omega arith) refl refl (omega arith) (omega arith) g

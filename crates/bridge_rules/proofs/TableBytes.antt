@@ -1,6 +1,6 @@
 -- If the device's replies are its own, the bytes that a done read shows, and those that a done checked write was given, are the table's.
 use Prim.Native.Nat.{ℕ, _+_, _*_, _/_, _≤_, _<_}
-use mathlib.Core.Path.{_≡_, refl, sym, _∙_, ap, ap₂}
+use mathlib.Core.Path.{_≡_, refl, sym, _∙_, ap, ap₂, subst}
 use mathlib.Core.Logic.{_⊎_, inl, inr, _≢_}
 use mathlib.Core.List.{List}
 use mathlib.Core.Option.{some}
@@ -11,7 +11,7 @@ use lib.ListN.{length, take, drop}
 use lib.Seq.{take-length}
 use Rattle.bus_rules.specs.Frames.{req, rsp, frameWith, content}
 use Rattle.bus_rules.specs.Device.{Device, ownOf, rangeOf}
-use Rattle.bus_rules.specs.Holder.{requestAt, tableOf, answerWith, serveOf}
+use Rattle.bus_rules.specs.Holder.{requestAt, tableOf, Gives}
 use Rattle.bus_rules.specs.Ident.{idOf, idOffset, idKind, idFrom, idTable}
 use Rattle.bus_rules.specs.Request.{request}
 use Rattle.bridge_rules.specs.State.{Frame, Slot, done, asks, carries}
@@ -57,7 +57,7 @@ record Answered (d : Device) (own k : ℕ) (y : Slot) (g : Frame) : Type 0 where
   bytes : content g ≡ rangeOf d (y .table) (y .offset + y .progress) (chunkLen (y .count) (y .progress))
 
 answered : (d : Device) (own k : ℕ) (y : Slot) (b : Buffers) (g : Frame) → k < 4 → own ≤ 15 → ReadyOk y
-    → asks (y .kind) ≡ true → serveOf d (sentFrame own k y b) ≡ answerWith g → Answered d own k y g
+    → asks (y .kind) ≡ true → Gives d (sentFrame own k y b) g → Answered d own k y g
 answered d own k y b g kb o r u e = record {
   offset = ap (λ (f : Frame). idOffset (f .id)) gq ∙ ap idOffset (id-of _ _)
       ∙ offset-of-id (requestAt q 0 .offset) rsp (ownOf d) (idFrom (q .id)) (requestAt q 0 .table)
@@ -76,8 +76,8 @@ answered d own k y b g kb o r u e = record {
     q : Frame
     q = frameWith id (request 6 (128 * k + y .progress) (chunkLen (y .count) (y .progress)))
 
-    eq : serveOf d q ≡ answerWith g
-    eq = ap (serveOf d) (sym (read-is own k y b u)) ∙ e
+    eq : Gives d q g
+    eq = subst (λ (f : Frame). Gives d f g) (read-is own k y b u) e
 
     low : y .offset + y .progress < 2048
     low = omega (arith, r .partway .below, r .held .args .inside)
@@ -195,8 +195,9 @@ module _ (r : Run) (w : Lawful r) (x : Transfer r) (n : ℕ) (t : Timeline) (pre
       ownS : state r j .own ≤ 15
       ownS = storage-sound r w j .0 .own
 
-      sv : serveOf d (sentFrame (state r j .own) (slotOf r y) (aged (slotAt r y j)) (buffers r j)) ≡ answerWith (ow .reply)
-      sv = ap₂ serveOf same-device (sym (sd .is)) ∙ ow .gives
+      sv : Gives d (sentFrame (state r j .own) (slotOf r y) (aged (slotAt r y j)) (buffers r j)) (ow .reply)
+      sv = subst (λ (e : Device). Gives e (sentFrame (state r j .own) (slotOf r y) (aged (slotAt r y j)) (buffers r j)) (ow .reply)) (sym same-device)
+          (subst (λ (f : Frame). Gives (ow .before) f (ow .reply)) (sd .is) (ow .gives))
 
       sa : Same (slotAt r y j) (aged (slotAt r y j))
       sa = aged-same (slotAt r y j)

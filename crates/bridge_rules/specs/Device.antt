@@ -7,7 +7,7 @@ use Rattle.bus_rules.specs.Ident.{idFrom}
 use Rattle.bus_rules.specs.Frames.{content}
 use mathlib.Core.Path.{_≡_}
 use Rattle.bus_rules.specs.Device.{Device, SameTables, rangeOf}
-use Rattle.bus_rules.specs.Holder.{serveOf, deviceAfter, answerWith}
+use Rattle.bus_rules.specs.Holder.{deviceAfter, Gives}
 use Rattle.bus_rules.specs.declared.Frame.{Frame}
 use Rattle.bridge_rules.specs.Opening.{askDevice, askTable, askOffset, askCount}
 use Rattle.bridge_rules.specs.Incoming.{contentNumber}
@@ -51,7 +51,7 @@ pub record Own (r : Run) (t : Timeline) (m : ℕ) (f : Frame) : Type 0 where
   pub yields : answer r (t .asked m) .sent ≡ some request
   pub sinceAsked : t .when (t .asked m) ≤ t .answered m
   pub untilArrived : t .answered m ≤ t .when m
-  pub gives : serveOf before request ≡ answerWith reply
+  pub gives : Gives before request reply
   pub after : t .device (t .answered m) ≡ deviceAfter before request
   pub sameId : f .id ≡ reply .id
   pub sameLen : f .len ≡ reply .len

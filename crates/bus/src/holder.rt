@@ -5,14 +5,13 @@ use crate::Frame;
 use crate::Parts;
 use crate::REQ;
 use crate::RSP;
-use crate::Request;
+use crate::RequestRead;
 use crate::Served;
 use crate::XTND;
 use crate::frames::build;
 use crate::frames::copy_content;
 use crate::ident::head_number;
-use crate::requests::is_reserved;
-use crate::requests::request_of;
+use crate::requests::read_request;
 use crate::rows::parts_of;
 use crate::rows::table_of;
 ghost use mathlib.Core.Path.{_≡_};
@@ -22,7 +21,7 @@ ghost use Rattle.wire.specs.Order.{_orElse_};
 ghost use Rattle.bus_rules.specs.Ident.{partsOf};
 ghost use Rattle.bus_rules.specs.Frames.{headNumber};
 ghost use Rattle.bus_rules.specs.Device.{Device, device, startOf, sizeOf, rightOf, totalOf, soundTables, directoryNumber, memoryNumber};
-ghost use Rattle.bus_rules.specs.Holder.{commandNumber, requestNumber, queryNumber, kindNumber, serveNumber, requestAt, sizeAt, rightAt};
+ghost use Rattle.bus_rules.specs.Holder.{commandNumber, requestNumber, queryNumber, kindNumber, serveNumber, readAt, requestAt, sizeAt, rightAt};
 ghost use Rattle.bus_rules.specs.Holder.{noAnswer, replyTo, placeOf, protocol, actOf, actAfter, serveOf, deviceAfter};
 ghost use Rattle.bus_rules.specs.Demand2.{Demand2};
 ghost use Rattle.bus_rules.specs.Examples.{Examples};
@@ -129,13 +128,10 @@ fn command_number(len: u8, size: u16, right: u8, offset: u16) -> u8
     0
 }
 
-fn request_number(len: u8, reserved: bool, size: u16, right: u8, offset: u16, count: u8) -> u8
-    ensures { λ r. ⌜ r ≡ requestNumber len reserved size right offset count ⌝ }
+fn request_number(len: u8, size: u16, right: u8, offset: u16, count: u8) -> u8
+    ensures { λ r. ⌜ r ≡ requestNumber len size right offset count ⌝ }
 {
     if len != 3 {
-        return 6;
-    }
-    if reserved {
         return 6;
     }
     if size == 0 {
@@ -156,8 +152,8 @@ fn request_number(len: u8, reserved: bool, size: u16, right: u8, offset: u16, co
     0
 }
 
-fn query_number(len: u8, first: u8, reserved: bool, count: u8) -> u8
-    ensures { λ r. ⌜ r ≡ queryNumber len first reserved count ⌝ }
+fn query_number(len: u8, first: u8, count: u8) -> u8
+    ensures { λ r. ⌜ r ≡ queryNumber len first count ⌝ }
 {
     if len == 0 {
         return 6;
@@ -166,9 +162,6 @@ fn query_number(len: u8, first: u8, reserved: bool, count: u8) -> u8
         return 5;
     }
     if len != 4 {
-        return 6;
-    }
-    if reserved {
         return 6;
     }
     if count == 1 {
@@ -186,15 +179,13 @@ fn kind_number(t: Table, p: Parts, f: Frame) -> u8
     ensures { λ r. ⌜ ((e : Device) → t .size ≡ sizeAt e f → t .right ≡ rightAt e f → r ≡ kindNumber e f) ⌝ }
 {
     if p.kind == XTND {
-        let reserved = is_reserved(f.bytes[1], f.bytes[3]);
-        return query_number(f.len, f.bytes[0], reserved, f.bytes[3] % 16);
+        return query_number(f.len, f.bytes[0], f.bytes[3] % 16);
     }
     if p.kind == CMD {
         return command_number(f.len, t.size, t.right, p.offset);
     }
     if p.kind == REQ {
-        let reserved = is_reserved(f.bytes[0], f.bytes[2]);
-        return request_number(f.len, reserved, t.size, t.right, p.offset, f.bytes[2] % 16);
+        return request_number(f.len, t.size, t.right, p.offset, f.bytes[2] % 16);
     }
     5
 }
@@ -218,6 +209,7 @@ fn no_answer(number: u8) -> Served
     Served {
         number,
         frames: 0,
+        clear: 0,
         frame: Frame {
             id: 0,
             len: 0,
@@ -226,21 +218,22 @@ fn no_answer(number: u8) -> Served
     }
 }
 
-// RSP, to the table and offset that the request asks for.
-fn reply(own: u8, to: u8, q: Request, bytes: &[u8]) -> Served
-    requires { ⌜ (own ≤ 15) × (to ≤ 15) × (q .table ≤ 31) × (q .offset ≤ 2047) × (length (now bytes) ≤ 8) ⌝ }
+// RSP, to the table and offset that the request asks for, and its mark.
+fn reply(own: u8, to: u8, q: RequestRead, bytes: &[u8]) -> Served
+    requires { ⌜ (own ≤ 15) × (to ≤ 15) × (q .request .table ≤ 31) × (q .request .offset ≤ 2047) × (length (now bytes) ≤ 8) ⌝ }
     ensures { λ r. ⌜ r ≡ replyTo own to q (now (bytes .entry)) ⌝ }
 {
     let parts = Parts {
-        offset: q.offset,
+        offset: q.request.offset,
         kind: RSP,
         from: own,
         to,
-        table: q.table,
+        table: q.request.table,
     };
     Served {
         number: 0,
         frames: 1,
+        clear: q.clear,
         frame: build(parts, bytes),
     }
 }
@@ -257,21 +250,21 @@ fn protocol_of(d: Directory) -> [u8; 5]
 // The answer to a protocol query that is not refused, to its sender.
 fn answer_query(d: Directory, to: u8, f: Frame) -> Served
     requires { ⌜ (d .own ≤ 15) × (to ≤ 15) × (requestAt f 1 .count ≤ 5) ⌝ }
-    ensures { λ r. ⌜ r ≡ replyTo (d .own) to (requestAt f 1) (take (requestAt f 1 .count) (protocol d)) ⌝ }
+    ensures { λ r. ⌜ r ≡ replyTo (d .own) to (readAt f 1) (take (requestAt f 1 .count) (protocol d)) ⌝ }
 {
-    let q = request_of(f.bytes[1], f.bytes[2], f.bytes[3]);
+    let q = read_request(f.bytes[1], f.bytes[2], f.bytes[3]);
     let bytes = protocol_of(d);
-    let n = q.count as usize;
+    let n = q.request.count as usize;
     reply(d.own, to, q, &bytes[..n])
 }
 
 // The answer to a request that is not refused, to its sender; its range starts at the place given.
 fn answer_request(own: u8, to: u8, at: usize, memory: &[u8], f: Frame) -> Served
     requires { ⌜ (own ≤ 15) × (to ≤ 15) × (requestAt f 0 .count ≤ 8) × (at + requestAt f 0 .count ≤ length (now memory)) ⌝ }
-    ensures { λ r. ⌜ r ≡ replyTo own to (requestAt f 0) (take (requestAt f 0 .count) (drop at (now (memory .entry)))) ⌝ }
+    ensures { λ r. ⌜ r ≡ replyTo own to (readAt f 0) (take (requestAt f 0 .count) (drop at (now (memory .entry)))) ⌝ }
 {
-    let q = request_of(f.bytes[0], f.bytes[1], f.bytes[2]);
-    let end = at + q.count as usize;
+    let q = read_request(f.bytes[0], f.bytes[1], f.bytes[2]);
+    let end = at + q.request.count as usize;
     reply(own, to, q, &memory[at..end])
 }
 

@@ -3,38 +3,32 @@ use crate::Request;
 use crate::RequestBytes;
 use crate::RequestRead;
 ghost use mathlib.Core.Path.{_≡_};
-ghost use Prim.Native.Nat.{_≤_};
-ghost use Rattle.wire.specs.Answer.{result};
-ghost use Rattle.bus_rules.specs.Request.{requestOf, reserved, noRequest, readNumber, readRequestOf, requestReadAnswer, requestBytesNumber, requestBytesOf};
+ghost use Rattle.bus_rules.specs.Request.{clearOf, readRequestOf, requestBytesNumber, requestBytesOf};
 ghost use Rattle.bus_rules.specs.Rows.{ReadAfterWrite, WriteAfterRead};
 
-// Whether a reserved bit is set: one of the first byte's top three, or bit 4 of the third.
-pub(crate) fn is_reserved(a: u8, c: u8) -> bool
-    ensures { λ r. ⌜ r ≡ reserved a c ⌝ }
+// 1 if the reserved bits, the first byte's top three and bit 4 of the third, are 0, else 0.
+fn clear_of(a: u8, c: u8) -> u8
+    ensures { λ r. ⌜ r ≡ clearOf a c ⌝ }
 {
-    (a / 32 != 0) | (c / 16 % 2 != 0)
-}
-
-// The request in three bytes, whatever their reserved bits are.
-pub(crate) fn request_of(a: u8, b: u8, c: u8) -> Request
-    ensures { λ r. ⌜ (r ≡ requestOf a b c) × (r .table ≤ 31) × (r .offset ≤ 2047) ⌝ }
-{
-    Request {
-        table: a % 32,
-        count: c % 16,
-        offset: b as u16 * 8 + (c / 32) as u16,
+    if (a / 32 == 0) & (c / 16 % 2 == 0) {
+        return 1;
     }
+    0
 }
 
-// The request in three bytes; 6 where a reserved bit is set.
+// The request in three bytes, whatever their reserved bits are, and whether these are clear.
 pub fn read_request(a: u8, b: u8, c: u8) -> RequestRead
-    ensures { λ r. ⌜ (r ≡ readRequestOf a b c) × (requestReadAnswer r ≡ result noRequest (readNumber a c) (requestOf a b c)) ⌝ }
+    ensures { λ r. ⌜ r ≡ readRequestOf a b c ⌝ }
     ensures back { λ r. ⌜ WriteAfterRead a b c r ⌝ }
 {
-    if is_reserved(a, c) {
-        return RequestRead::Refused(6);
+    RequestRead {
+        request: Request {
+            table: a % 32,
+            count: c % 16,
+            offset: b as u16 * 8 + (c / 32) as u16,
+        },
+        clear: clear_of(a, c),
     }
-    RequestRead::Is(request_of(a, b, c))
 }
 
 fn request_bytes_number(q: Request) -> u8

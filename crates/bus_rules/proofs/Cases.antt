@@ -7,13 +7,13 @@ use Prim.Native.Nat.{ℕ, zero, suc, _+_, _≤_}
 use native.Mathlib.Omega.{arith}
 use lib.Dec.{eqb}
 use lib.ListN.{length, take}
-use borrow.Author.Tests.{ltb-false, eqb-true, eqb-false, eq-eqb, ne-eqb}
+use borrow.Author.Tests.{ltb-false, eqb-true, eqb-false, eq-eqb, ne-eqb, not-false}
 use Rattle.wire.specs.Order.{_if_else_}
 use Rattle.wire.proofs.Orders.{if-zero, else-zero}
 use Rattle.bus_rules.specs.Ident.{idFrom, idKind, idOffset}
 use Rattle.bus_rules.specs.Frames.{Frame, cmd, req, xtnd, headNumber}
 use Rattle.bus_rules.specs.Device.{Device, device, ownOf, rangeOf, totalOf, memoryNumber}
-use Rattle.bus_rules.specs.Holder.{commandNumber, requestNumber, queryNumber, kindNumber, serveNumber, byteOf, requestAt, reservedAt}
+use Rattle.bus_rules.specs.Holder.{commandNumber, requestNumber, queryNumber, kindNumber, serveNumber, byteOf, readAt, requestAt}
 use Rattle.bus_rules.specs.Holder.{tableOf, sizeAt, rightAt, byKind, noAnswer, replyTo, placeOf, protocol, actOf, storing, actAfter}
 use Rattle.bus_rules.specs.Holder.{servedBy, afterBy, serveOf, deviceAfter}
 use Rattle.bus_rules.specs.Demand2.{SoundDirectory}
@@ -28,11 +28,11 @@ module _ (e : Device) (f : Frame) where
   command-case h = rw (eq-eqb _ _ h)
 
   pub request-case : idKind (f .id) ≡ req
-      → kindNumber e f ≡ requestNumber (f .len) (reservedAt f 0) (sizeAt e f) (rightAt e f) (idOffset (f .id)) (requestAt f 0 .count)
+      → kindNumber e f ≡ requestNumber (f .len) (sizeAt e f) (rightAt e f) (idOffset (f .id)) (requestAt f 0 .count)
   unfolding kindNumber byKind
   request-case h = rw (ne-eqb (idKind (f .id)) cmd (λ z. omega arith), eq-eqb _ _ h)
 
-  pub query-case : idKind (f .id) ≡ xtnd → kindNumber e f ≡ queryNumber (f .len) (byteOf f 0) (reservedAt f 1) (requestAt f 1 .count)
+  pub query-case : idKind (f .id) ≡ xtnd → kindNumber e f ≡ queryNumber (f .len) (byteOf f 0) (requestAt f 1 .count)
   unfolding kindNumber byKind
   query-case h = rw (ne-eqb (idKind (f .id)) cmd (λ z. omega arith), ne-eqb (idKind (f .id)) req (λ z. omega arith), eq-eqb _ _ h)
 
@@ -48,14 +48,14 @@ module _ (e : Device) (f : Frame) where
   act-command h = (rw (eq-eqb _ _ h), rw (eq-eqb _ _ h))
 
   pub act-request : idKind (f .id) ≡ req
-      → (actOf e f ≡ replyTo (ownOf e) (idFrom (f .id)) (requestAt f 0) (rangeOf e (tableOf f) (idOffset (f .id)) (requestAt f 0 .count))) × (actAfter e f ≡ e)
+      → (actOf e f ≡ replyTo (ownOf e) (idFrom (f .id)) (readAt f 0) (rangeOf e (tableOf f) (idOffset (f .id)) (requestAt f 0 .count))) × (actAfter e f ≡ e)
   unfolding actOf actAfter byKind
   act-request h =
       let n = ne-eqb (idKind (f .id)) cmd (λ z. omega arith) in
       (rw (n, eq-eqb _ _ h), rw n)
 
   pub act-query : idKind (f .id) ≡ xtnd
-      → (actOf e f ≡ replyTo (ownOf e) (idFrom (f .id)) (requestAt f 1) (take (requestAt f 1 .count) (protocol (e .directory)))) × (actAfter e f ≡ e)
+      → (actOf e f ≡ replyTo (ownOf e) (idFrom (f .id)) (readAt f 1) (take (requestAt f 1 .count) (protocol (e .directory)))) × (actAfter e f ≡ e)
   unfolding actOf actAfter byKind
   act-query h =
       let n = ne-eqb (idKind (f .id)) cmd (λ z. omega arith) in
@@ -70,6 +70,15 @@ module _ (e : Device) (f : Frame) where
   unfolding serveOf deviceAfter servedBy afterBy
   refused-case zero h ne = absurd (ne refl)
   refused-case (suc n) h ne = (rw h, rw h)
+
+  -- no frame but a CMD changes the device
+  pub only-command-changes : idKind (f .id) ≢ cmd → deviceAfter e f ≡ e
+  unfolding deviceAfter afterBy actAfter
+  only-command-changes k = go (serveNumber e f)
+    where
+      go : (n : ℕ) → afterBy n (cond (eqb (idKind (f .id)) cmd) (storing e f) e) e ≡ e
+      go zero = rw (ne-eqb _ _ k)
+      go (suc n) = refl
 
   -- no frame changes the directory
   pub same-directory : deviceAfter e f .directory ≡ e .directory
@@ -95,17 +104,17 @@ command-zero len size right offset h =
     let h4 = if-zero 7 _ _ (h3 .1) in
     ltb-false size (offset + len) (h4 .0)
 
-pub request-zero : (len : ℕ) (r : Bool) (size right offset count : ℕ) → requestNumber len r size right offset count ≡ 0 → (count ≤ 8) × (offset + count ≤ size)
+pub request-zero : (len size right offset count : ℕ) → requestNumber len size right offset count ≡ 0
+    → (len ≡ 3) × (count ≤ 8) × (offset + count ≤ size)
 unfolding requestNumber
-request-zero len r size right offset count h =
+request-zero len size right offset count h =
     let h1 = if-zero 5 _ _ h in
-    let h2 = if-zero 5 _ _ (h1 .1) in
+    let h2 = if-zero 6 _ _ (h1 .1) in
     let h3 = if-zero 6 _ _ (h2 .1) in
-    let h4 = if-zero 6 _ _ (h3 .1) in
+    let h4 = if-zero 8 _ _ (h3 .1) in
     let h5 = if-zero 8 _ _ (h4 .1) in
-    let h6 = if-zero 8 _ _ (h5 .1) in
-    let h7 = if-zero 7 _ _ (h6 .1) in
-    (ltb-false 8 count (h6 .0), ltb-false size (offset + count) (h7 .0))
+    let h6 = if-zero 7 _ _ (h5 .1) in
+    (eqb-true len 3 (not-false _ (h1 .0)), ltb-false 8 count (h5 .0), ltb-false size (offset + count) (h6 .0))
 
 one-or-five : (b b′ : Bool) (n : ℕ) → eqb n 1 ≡ b → eqb n 5 ≡ b′ → _≡_ {A = ℕ} (0 if b else 0 if b′ else 9) 0 → (n ≡ 1) ⊎ (n ≡ 5)
 unfolding _if_else_
@@ -113,14 +122,13 @@ one-or-five true b′ n e e′ h = inl (eqb-true n 1 e)
 one-or-five false true n e e′ h = inr (eqb-true n 5 e′)
 one-or-five false false n e e′ h = absurd (omega arith)
 
-pub query-zero : (len first : ℕ) (r : Bool) (count : ℕ) → queryNumber len first r count ≡ 0 → (count ≡ 1) ⊎ (count ≡ 5)
+pub query-zero : (len first count : ℕ) → queryNumber len first count ≡ 0 → (len ≡ 4) × ((count ≡ 1) ⊎ (count ≡ 5))
 unfolding queryNumber
-query-zero len first r count h =
+query-zero len first count h =
     let h1 = if-zero 5 _ _ h in
     let h2 = if-zero 4 _ _ (h1 .1) in
     let h3 = if-zero 5 _ _ (h2 .1) in
-    let h4 = if-zero 5 _ _ (h3 .1) in
-    one-or-five (eqb count 1) (eqb count 5) count refl refl (h4 .1)
+    (eqb-true len 4 (not-false _ (h3 .0)), one-or-five (eqb count 1) (eqb count 5) count refl refl (h3 .1))
 
 -- a frame that is not refused
 pub record Accepted (e : Device) (f : Frame) : Type 0 where
@@ -153,11 +161,17 @@ module _ (e : Device) (f : Frame) (a : Accepted e f) where
       → (requestAt f 0 .count ≤ 8) × (idOffset (f .id) + requestAt f 0 .count ≤ sizeAt e f)
       × (placeOf e f + requestAt f 0 .count ≤ length (e .memory))
   request-fits k =
-      let r = request-zero _ _ _ _ _ _ (sym (request-case e f k) ∙ a .kind) in
-      (r .0, r .1, in-memory (requestAt f 0 .count) (r .1))
+      let r = request-zero _ _ _ _ _ (sym (request-case e f k) ∙ a .kind) in
+      (r .1, r .2, in-memory (requestAt f 0 .count) (r .2))
+
+  pub request-length : idKind (f .id) ≡ req → f .len ≡ 3
+  request-length k = request-zero _ _ _ _ _ (sym (request-case e f k) ∙ a .kind) .0
 
   pub query-fits : idKind (f .id) ≡ xtnd → (requestAt f 1 .count ≡ 1) ⊎ (requestAt f 1 .count ≡ 5)
-  query-fits k = query-zero _ _ _ _ (sym (query-case e f k) ∙ a .kind)
+  query-fits k = query-zero _ _ _ (sym (query-case e f k) ∙ a .kind) .1
+
+  pub query-length : idKind (f .id) ≡ xtnd → f .len ≡ 4
+  query-length k = query-zero _ _ _ (sym (query-case e f k) ∙ a .kind) .0
 
   pub is-query : idKind (f .id) ≢ cmd → idKind (f .id) ≢ req → idKind (f .id) ≡ xtnd
   is-query c r = go (eqb (idKind (f .id)) xtnd) refl

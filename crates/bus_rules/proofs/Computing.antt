@@ -4,10 +4,10 @@ use Rattle.wire.specs.Answer.{answer, result}
 use Rattle.bus_rules.specs.Ident.{idSpare, idTable, idTo, idFrom, idKind, idOffset, byRow, sumOfRows, idIn, partsOf, inRows, packNumber, packOf}
 use Rattle.bus_rules.specs.Ident.{unpackNumber, unpackOf}
 use Rattle.bus_rules.specs.Frames.{content, padded, frameWith, buildOf, noFrame, headNumber, receiveNumber, readHeadOf}
-use Rattle.bus_rules.specs.Request.{requestOf, reserved, readNumber, readRequestOf, request, requestBytesNumber, wroteRequest, requestBytesOf}
+use Rattle.bus_rules.specs.Request.{requestOf, clearOf, readRequestOf, request, requestBytesNumber, wroteRequest, requestBytesOf}
 use Rattle.bus_rules.specs.Device.{sizeOf, rightOf, startOf, totalOf, soundTables, soundDirectory, directoryNumber, lengthNumber}
 use Rattle.bus_rules.specs.Device.{memoryNumber, rangeOf}
-use Rattle.bus_rules.specs.Holder.{commandNumber, requestNumber, queryNumber, byteOf, requestAt, reservedAt, byKind, kindNumber, serveNumber}
+use Rattle.bus_rules.specs.Holder.{commandNumber, requestNumber, queryNumber, byteOf, readAt, requestAt, byKind, kindNumber, serveNumber}
 use Rattle.bus_rules.specs.Holder.{noAnswer, answerWith, replyTo, placeOf, protocol, actOf, storing, actAfter, servedBy, afterBy, serveOf, deviceAfter}
 
 unfoldable pub orders : Unit {0}
@@ -23,7 +23,7 @@ unfolding content padded frameWith buildOf noFrame headNumber receiveNumber read
 frames = tt
 
 unfoldable pub requests : Unit {0}
-unfolding requestOf reserved readNumber readRequestOf request requestBytesNumber wroteRequest requestBytesOf
+unfolding requestOf clearOf readRequestOf request requestBytesNumber wroteRequest requestBytesOf
 requests = tt
 
 unfoldable pub devices : Unit {0}
@@ -31,7 +31,7 @@ unfolding sizeOf rightOf startOf totalOf soundTables soundDirectory directoryNum
 devices = tt
 
 unfoldable pub numbers : Unit {0}
-unfolding commandNumber requestNumber queryNumber byteOf requestAt reservedAt byKind kindNumber serveNumber
+unfolding commandNumber requestNumber queryNumber byteOf readAt requestAt byKind kindNumber serveNumber
 numbers = tt
 
 unfoldable pub answers : Unit {0}

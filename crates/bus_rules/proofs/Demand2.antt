@@ -11,50 +11,45 @@ use lib.Seq.{length-sets, getD-take, getD-drop, length-take-le}
 use Rattle.wire.proofs.Puts.{sets-in, sets-outside}
 use Rattle.bus_rules.specs.Ident.{idFrom, idKind, idOffset}
 use Rattle.bus_rules.specs.Frames.{Frame, cmd, req, rsp, xtnd, padded, content, frameWith}
-use Rattle.bus_rules.specs.Request.{Request, requestOf}
+use Rattle.bus_rules.specs.Request.{Request, RequestRead, requestOf, readRequestOf}
 use Rattle.bus_rules.specs.Device.{Device, ownOf, rangeOf, startOf, sizeOf}
-use Rattle.bus_rules.specs.Holder.{Served, serveNumber, byteOf, requestAt, tableOf, sizeAt, noAnswer, answerWith, replyTo, placeOf, protocol}
+use Rattle.bus_rules.specs.Holder.{Served, serveNumber, byteOf, readAt, requestAt, tableOf, sizeAt, noAnswer, answerWith, replyTo, placeOf, protocol}
 use Rattle.bus_rules.specs.Holder.{byKind, actOf, storing, servedBy, serveOf, deviceAfter}
 use Rattle.bus_rules.specs.Demand2.{CommandServed, Replied, RequestServed, QueryServed, ServeNumber, Demand2}
-use Rattle.bus_rules.specs.declared.Unpacked.the-variants as U
 use Rattle.bus_rules.proofs.IdentLaws.{unpack-id, from-small}
-use Rattle.bus_rules.proofs.FrameLaws.{padded-length, padded-in, padded-after, content-length, content-at, head-short, part-length}
+use Rattle.bus_rules.proofs.FrameLaws.{IsFrame, padded-length, padded-in, padded-after, content-length, content-at, head-short, part-length}
 use Rattle.bus_rules.proofs.Cases.{Accepted, accepted, command-fits, request-fits, query-fits}
 use Rattle.bus_rules.proofs.Cases.{act-command, act-request, act-query, served-case, refused-case}
 use Rattle.bus_rules.proofs.ServeNumber.{serve-numbers}
 use Rattle.bus_rules.proofs.Directories.{table-apart}
 use Rattle.bus_rules.proofs.Ignored.{ignored}
-
--- the values that a frame of the code has
-pub record IsFrame (f : Frame) : Type 0 where
-  pub eight : length (f .bytes) ≡ 8
-  pub bytes : (i : ℕ) → i < 8 → byteOf f i < 256
+use Rattle.bus_rules.proofs.ReservedBits.{mark, request-cleared, query-cleared}
 
 -- ── An answer frame ────────────────────────────────────────────────────────────────────────────────────────────────
 
-module _ (d : Device) (f : Frame) (q : Request) (bs : List ℕ) (own : ownOf d ≤ 15) (table : q .table ≤ 31) (offset : q .offset ≤ 2047)
-    (few : q .count ≤ 8) (len : length bs ≡ q .count) where
+module _ (d : Device) (f : Frame) (r : RequestRead) (bs : List ℕ) (own : ownOf d ≤ 15) (table : r .request .table ≤ 31)
+    (offset : r .request .offset ≤ 2047) (few : r .request .count ≤ 8) (len : length bs ≡ r .request .count) where
   short : length bs ≤ 8
   short = omega arith
 
-  pub replied : Replied d f q (replyTo (ownOf d) (idFrom (f .id)) q bs)
+  pub replied : Replied d f (r .request) (replyTo (ownOf d) (idFrom (f .id)) r bs)
   unfolding replyTo answerWith frameWith
   replied =
       record {
         done = refl;
         one = refl;
-        ident = unpack-id (record { offset = q .offset; kind = rsp; from = ownOf d; to = idFrom (f .id); table = q .table })
+        ident = unpack-id (record { offset = r .request .offset; kind = rsp; from = ownOf d; to = idFrom (f .id); table = r .request .table })
             (record { offset = omega arith; kind = omega arith; from = omega arith; to = omega (arith, from-small (f .id)); table = omega arith });
         len = len;
         eight = padded-length bs short;
         zeros = λ i l. padded-after bs short i (omega arith);
       }
 
-  pub reply-bytes : (i : ℕ) → i < q .count → getD (replyTo (ownOf d) (idFrom (f .id)) q bs .frame .bytes) i 0 ≡ getD bs i 0
+  pub reply-bytes : (i : ℕ) → i < r .request .count → getD (replyTo (ownOf d) (idFrom (f .id)) r bs .frame .bytes) i 0 ≡ getD bs i 0
   unfolding replyTo answerWith frameWith
   reply-bytes i l = padded-in bs short i (omega arith)
 
-  pub reply-padded : replyTo (ownOf d) (idFrom (f .id)) q bs .frame .bytes ≡ padded bs
+  pub reply-padded : replyTo (ownOf d) (idFrom (f .id)) r bs .frame .bytes ≡ padded bs
   unfolding replyTo answerWith frameWith
   reply-padded = refl
 
@@ -62,7 +57,7 @@ module _ (d : Device) (f : Frame) (q : Request) (bs : List ℕ) (own : ownOf d �
 
 -- a request that was read from a frame's bytes
 request-small : (f : Frame) → IsFrame f → (i : ℕ) → i < 6 → (requestAt f i .table ≤ 31) × (requestAt f i .offset ≤ 2047)
-unfolding requestAt requestOf
+unfolding requestAt readAt readRequestOf requestOf
 request-small f w i l =
     let b = w .bytes (1 + i) (omega arith) in
     let c = w .bytes (2 + i) (omega arith) in
@@ -108,21 +103,22 @@ module _ (d : Device) (f : Frame) (w : IsFrame f)
   range-byte n i l = getD-take n (drop (placeOf d f) (d .memory)) i 0 l ∙ getD-drop (placeOf d f) (d .memory) i 0
 
   request-served : idKind (f .id) ≡ req → RequestServed d f (serveOf d f) (deviceAfter d f)
+  unfolding requestAt
   request-served k =
       let a = act-request d f k in
       let s = served-case d f z in
       let r = request-fits d f ok k in
       let q = requestAt f 0 in
       let bs = rangeOf d (tableOf f) (idOffset (f .id)) (q .count) in
-      let e : serveOf d f ≡ replyTo (ownOf d) (idFrom (f .id)) q bs = s .0 ∙ a .0 in
+      let e : serveOf d f ≡ replyTo (ownOf d) (idFrom (f .id)) (readAt f 0) bs = s .0 ∙ a .0 in
       let l = range-length (q .count) (r .2) in
       let t = request-small f w 0 (omega arith) in
       record {
         unchanged = s .1 ∙ a .1;
-        reply = rw e (replied d f q bs (ok .directory .own) (t .0) (t .1) (r .0) l);
+        reply = rw e (replied d f (readAt f 0) bs (ok .directory .own) (t .0) (t .1) (r .0) l);
         inTable = r .1;
         inMemory = r .2;
-        asked = λ i lt. rw e (reply-bytes d f q bs (ok .directory .own) (t .0) (t .1) (r .0) l i lt
+        asked = λ i lt. rw e (reply-bytes d f (readAt f 0) bs (ok .directory .own) (t .0) (t .1) (r .0) l i lt
             ∙ range-byte (q .count) i lt);
       }
 
@@ -149,6 +145,7 @@ module _ (d : Device) (f : Frame) (w : IsFrame f)
       rw (e, g)
 
   query-served : idKind (f .id) ≡ xtnd → QueryServed d f (serveOf d f) (deviceAfter d f)
+  unfolding requestAt
   query-served k = go (query-fits d f ok k)
     where
       q : Request
@@ -157,7 +154,7 @@ module _ (d : Device) (f : Frame) (w : IsFrame f)
       bs : List ℕ
       bs = take (q .count) (protocol (d .directory))
 
-      e : serveOf d f ≡ replyTo (ownOf d) (idFrom (f .id)) q bs
+      e : serveOf d f ≡ replyTo (ownOf d) (idFrom (f .id)) (readAt f 1) bs
       e = served-case d f z .0 ∙ act-query d f k .0
 
       go : (q .count ≡ 1) ⊎ (q .count ≡ 5) → QueryServed d f (serveOf d f) (deviceAfter d f)
@@ -167,9 +164,9 @@ module _ (d : Device) (f : Frame) (w : IsFrame f)
           let t = request-small f w 1 (omega arith) in
           record {
             unchanged = served-case d f z .1 ∙ act-query d f k .1;
-            reply = rw e (replied d f q bs (ok .directory .own) (t .0) (t .1) (omega arith) l);
-            short = λ c. rw (e, reply-padded d f q bs (ok .directory .own) (t .0) (t .1) (omega arith) l, c) one-byte;
-            long = λ c. rw (e, reply-padded d f q bs (ok .directory .own) (t .0) (t .1) (omega arith) l, c) (five-bytes tb wb);
+            reply = rw e (replied d f (readAt f 1) bs (ok .directory .own) (t .0) (t .1) (omega arith) l);
+            short = λ c. rw (e, reply-padded d f (readAt f 1) bs (ok .directory .own) (t .0) (t .1) (omega arith) l, c) one-byte;
+            long = λ c. rw (e, reply-padded d f (readAt f 1) bs (ok .directory .own) (t .0) (t .1) (omega arith) l, c) (five-bytes tb wb);
             noOther = o;
           }
 
@@ -185,8 +182,8 @@ module _ (d : Device) (f : Frame) where
       to = idFrom (f .id)
 
       go : (a b c : Bool) → (cond a (noAnswer 0) (cond b
-          (replyTo (ownOf d) to (requestAt f 0) (rangeOf d (tableOf f) (idOffset (f .id)) (requestAt f 0 .count)))
-          (cond c (replyTo (ownOf d) to (requestAt f 1) (take (requestAt f 1 .count) (protocol (d .directory)))) (noAnswer 0)))) .number ≡ 0
+          (replyTo (ownOf d) to (readAt f 0) (rangeOf d (tableOf f) (idOffset (f .id)) (requestAt f 0 .count)))
+          (cond c (replyTo (ownOf d) to (readAt f 1) (take (requestAt f 1 .count) (protocol (d .directory)))) (noAnswer 0)))) .number ≡ 0
       go true b c = refl
       go false true c = refl
       go false false true = refl
@@ -214,5 +211,8 @@ module _ (d : Device) (f : Frame) where
         command = λ z. command-served d f w tb wb (sym number-is ∙ z);
         request = λ z. request-served d f w tb wb (sym number-is ∙ z);
         query = λ z. query-served d f w tb wb (sym number-is ∙ z);
+        mark = mark d f;
+        requestCleared = request-cleared d f w;
+        queryCleared = query-cleared d f w;
         ignored = λ h i l b. ignored d f h i l b;
       })

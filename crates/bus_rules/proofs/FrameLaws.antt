@@ -14,6 +14,12 @@ use Rattle.wire.proofs.Orders.{if-zero}
 use Rattle.wire.proofs.Parts.{take-length-le}
 use Rattle.wire.proofs.Puts.{put-fits, put-sets}
 use Rattle.bus_rules.specs.Frames.{Frame, padded, content, frameWith, headNumber}
+use Rattle.bus_rules.specs.Holder.{byteOf}
+
+-- the values that a frame of the code has
+pub record IsFrame (f : Frame) : Type 0 where
+  pub eight : length (f .bytes) ≡ 8
+  pub bytes : (i : ℕ) → i < 8 → byteOf f i < 256
 
 drop-same : (n m a : ℕ) → drop n (replicate m a) ≡ replicate (m - n) a
 drop-same zero m a = let e : m - 0 ≡ m = omega arith in rw e

@@ -8,6 +8,8 @@ pub mod Directories
 pub mod Ranges
 pub mod Cases
 pub mod ServeNumber
+pub mod SameReplies
 pub mod Ignored
+pub mod ReservedBits
 pub mod Demand2
 pub mod Replies

@@ -1,19 +1,20 @@
--- Reading and writing request bytes undo each other.
-use mathlib.Core.Path.{_≡_, refl, sym}
-use mathlib.Core.Bool.{Bool, true, false, _||_}
+-- What is read from request bytes and their mark, and what packing makes of it.
+use mathlib.Core.Path.{_≡_, refl, sym, _∙_, ap}
+use mathlib.Core.Logic.{_↔_}
+use mathlib.Core.Bool.{Bool, true, false}
 use mathlib.Core.List.{List, [], _∷_}
 use Prim.Native.Nat.{ℕ, zero, suc, _+_, _*_, _/_, _%_, _≤_, _<_}
 use native.Mathlib.Omega.{arith}
+use lib.Dec.{eqb}
 use lib.ListN.{replicate}
-use borrow.Author.Tests.{ltb-false, eqb-true, not-false}
-use Rattle.wire.specs.Answer.{answer, result}
-use Rattle.wire.proofs.Answers.{answered, means, stands}
+use borrow.Author.Tests.{ltb-false, eqb-true, eq-eqb}
+use Rattle.wire.specs.Order.{_if_else_}
 use Rattle.wire.proofs.Orders.{order, if-zero}
-use Rattle.bus_rules.specs.Request.{Request, requestOf, reserved, readNumber, readRequestOf, noRequest, requestReadAnswer, request}
+use Rattle.bus_rules.specs.Request.{Request, RequestRead, requestOf, clearOf, readRequestOf, request}
 use Rattle.bus_rules.specs.Request.{requestBytesNumber, wroteRequest, requestBytesOf}
-use Rattle.bus_rules.specs.declared.RequestRead.{RequestRead}
-use Rattle.bus_rules.specs.declared.RequestRead.the-variants as A
+use Rattle.bus_rules.specs.Rows.{cleared, WriteAfterRead}
 use Rattle.bus_rules.specs.declared.RequestBytes.{RequestBytes}
+use Rattle.bus_rules.proofs.Directories.{both}
 
 -- a request that its bytes can hold
 pub record Holds (q : Request) : Type 0 where
@@ -33,96 +34,118 @@ zero-holds q e =
       offset = omega (arith, ltb-false _ (q .offset) (h3 .0));
     }
 
-pub holds-zero : (q : Request) → Holds q → requestBytesNumber q ≡ 0
+holds-zero : (q : Request) → Holds q → requestBytesNumber q ≡ 0
 unfolding requestBytesNumber
 holds-zero q h = let z : 0 ≡ requestBytesNumber q = search order depth 12 in sym z
 
--- clear reserved bits
-or-false : (x y : Bool) → (x || y) ≡ false → (x ≡ false) × (y ≡ false)
-or-false true y e = absurd (let z : _≡_ {A = Bool} true false = e in let w : _≡_ {A = ℕ} 0 1 = cc in omega arith)
-or-false false y e = (refl, e)
+-- ── The mark ───────────────────────────────────────────────────────────────────────────────────────────────────────
 
-pub clear : (a c : ℕ) → reserved a c ≡ false → (a / 32 ≡ 0) × (c / 16 % 2 ≡ 0)
-unfolding reserved
-clear a c e = let h = or-false _ _ e in (eqb-true _ _ (not-false _ (h .0)), eqb-true _ _ (not-false _ (h .1)))
+one-if : (t : Bool) → (1 if t else 0) ≡ 1 → t ≡ true
+unfolding _if_else_
+one-if true e = refl
+one-if false e = absurd (omega arith)
 
-pub is-clear : (a c : ℕ) → a / 32 ≡ 0 → c / 16 % 2 ≡ 0 → reserved a c ≡ false
-unfolding reserved
-is-clear a c h k = rw (h, k)
+one-at-most : (t : Bool) → (1 if t else 0) ≤ 1
+unfolding _if_else_
+one-at-most true = omega arith
+one-at-most false = omega arith
 
-pub request-read-is : (n : ℕ) (x q : Request) → answer A.Is A.Refused n x ≡ A.Is q → (n ≡ 0) × (x ≡ q)
-request-read-is = answered A.Is A.Refused (λ n y e. let z : _≡_ {A = ℕ} 0 1 = cc in omega arith) (λ x y e. cc)
+pub mark-small : (a c : ℕ) → clearOf a c ≤ 1
+unfolding clearOf
+mark-small a c = one-at-most _
 
-pub request-read-means : (r : RequestRead) (n : ℕ) (x : Request) → r ≡ answer A.Is A.Refused n x
-    → (r ≡ answer A.Is A.Refused n x) × (requestReadAnswer r ≡ result noRequest n x)
-request-read-means = means A.Is A.Refused noRequest requestReadAnswer (λ x. refl) (λ n. refl)
+-- it is 1 exactly for clear reserved bits
+pub clear-exactly : (a c : ℕ) → (clearOf a c ≡ 1) ↔ ((a < 32) × (c / 16 % 2 ≡ 0))
+unfolding clearOf _if_else_
+clear-exactly a c = (
+  λ e.
+      let h = both (eqb (a / 32) 0) (eqb (c / 16 % 2) 0) (one-if _ e) in
+      (omega (arith, eqb-true (a / 32) 0 (h .0)), eqb-true (c / 16 % 2) 0 (h .1)),
+  λ (h : (a < 32) × (c / 16 % 2 ≡ 0)). rw (eq-eqb (a / 32) 0 (omega (arith, h .0)), eq-eqb (c / 16 % 2) 0 (h .1)),
+)
+
+-- ── Reading and writing ────────────────────────────────────────────────────────────────────────────────────────────
 
 same-request : {p q : Request} → p .table ≡ q .table → p .count ≡ q .count → p .offset ≡ q .offset → p ≡ q
 same-request {p} {q} t n o = rw (t, n, o)
 
 -- the bytes of a request, read
-pub request-back : (q : Request) → Holds q → requestOf (q .table) (q .offset / 8) (q .offset % 8 * 32 + q .count) ≡ q
+request-back : (q : Request) → Holds q → requestOf (q .table) (q .offset / 8) (q .offset % 8 * 32 + q .count) ≡ q
 unfolding requestOf
 request-back q h = same-request (omega (arith, h .table)) (omega (arith, h .count)) (omega (arith, h .offset))
 
-pub reads-back : (q : Request) → Holds q → readRequestOf (q .table) (q .offset / 8) (q .offset % 8 * 32 + q .count) ≡ A.Is q
-unfolding readRequestOf readNumber
+reads-back : (q : Request) → Holds q
+    → readRequestOf (q .table) (q .offset / 8) (q .offset % 8 * 32 + q .count) ≡ record { request = q; clear = 1 }
+unfolding readRequestOf
 reads-back q h =
-    let z : reserved (q .table) (q .offset % 8 * 32 + q .count) ≡ false = is-clear _ _ (omega arith) (omega arith) in
-    let n : 0 ≡ readNumber (q .table) (q .offset % 8 * 32 + q .count) = search order depth 6 in
-    sym (stands A.Is A.Refused _ _ _ (sym n) (sym (request-back q h)))
+    let t = h .table in
+    let n = h .count in
+    rw (request-back q h, clear-exactly (q .table) (q .offset % 8 * 32 + q .count) .1 (omega arith, omega arith))
 
--- bytes with clear reserved bits, read and written again
-module _ (a b c : ℕ) (ha : a < 256) (hb : b < 256) (hc : c < 256) (clean : reserved a c ≡ false) where
+even : (m q r : ℕ) → m < 2 → 2 * q + m ≡ 2 * r → m ≡ 0
+even zero q r h e = refl
+even (suc zero) q r h e = absurd (omega arith)
+even (suc (suc m)) q r h e = absurd (omega arith)
+
+-- a byte that is its bits 7-5 and 3-0 has 0 in bit 4
+no-bit-four : (c : ℕ) → c / 32 * 32 + c % 16 ≡ c → c / 16 % 2 ≡ 0
+no-bit-four c e = even (c / 16 % 2) (c / 16 / 2) (c / 32) (omega arith) (omega arith)
+
+-- bytes, read and packed: the reserved bits are 0
+module _ (a b c : ℕ) (hb : b < 256) (hc : c < 256) where
   read-holds : Holds (requestOf a b c)
   unfolding requestOf
   read-holds = record { table = omega arith; count = omega arith; offset = omega arith }
 
-  pub bytes-back : requestBytesOf (requestOf a b c) ≡ record { number = 0; bytes = a ∷ b ∷ c ∷ [] }
-  unfolding requestBytesOf wroteRequest request requestOf
-  bytes-back =
-      let n = holds-zero (requestOf a b c) read-holds in
-      let e = clear a c clean in
-      rw (n, same-table e, same-high, same-low e)
+  bytes-back : requestBytesOf (requestOf a b c) ≡ record { number = 0; bytes = cleared a b c }
+  unfolding requestBytesOf wroteRequest request requestOf cleared
+  bytes-back = rw (holds-zero (requestOf a b c) read-holds, same-high, same-low)
     where
-      same-table : (a / 32 ≡ 0) × (c / 16 % 2 ≡ 0) → requestOf a b c .table ≡ a
-      same-table e = omega arith
-
       same-high : requestOf a b c .offset / 8 ≡ b
       same-high = omega arith
 
-      same-low : (a / 32 ≡ 0) × (c / 16 % 2 ≡ 0) → requestOf a b c .offset % 8 * 32 + requestOf a b c .count ≡ c
-      same-low e = omega arith
+      same-low : requestOf a b c .offset % 8 * 32 + requestOf a b c .count ≡ c / 32 * 32 + c % 16
+      same-low = omega arith
 
-pub write-after-read : (a b c : ℕ) → a < 256 → b < 256 → c < 256 → (q : Request) → readRequestOf a b c ≡ A.Is q
-    → requestBytesOf q ≡ record { number = 0; bytes = a ∷ b ∷ c ∷ [] }
-unfolding readRequestOf readNumber
-write-after-read a b c ha hb hc q e =
-    let h = request-read-is _ _ q e in
-    rw (← h .1) (bytes-back a b c ha hb hc (if-zero 5 _ _ (h .0) .0))
+  cleared-same : (cleared a b c ≡ a ∷ b ∷ c ∷ []) ↔ (clearOf a c ≡ 1)
+  unfolding cleared
+  cleared-same = (
+    λ e. let ea : a % 32 ≡ a = cc in clear-exactly a c .1 (omega arith, no-bit-four c cc),
+    λ e.
+        let h = clear-exactly a c .0 e in
+        let ea : a % 32 ≡ a = omega (arith, h .0) in
+        let ec : c / 32 * 32 + c % 16 ≡ c = omega (arith, h .1) in
+        rw (ea, ec),
+  )
+
+  pub write-after-read : WriteAfterRead a b c (readRequestOf a b c)
+  unfolding readRequestOf
+  write-after-read =
+      let p = ap (λ (r : RequestBytes). r .bytes) bytes-back in
+      record { zeros = bytes-back; same = (λ e. cleared-same .0 (sym p ∙ e), λ e. p ∙ cleared-same .1 e); small = mark-small a c }
+
+-- what was read is packed, so its bytes can hold it
+pub read-request-holds : {a b c : ℕ} (r : RequestRead) → WriteAfterRead a b c r → Holds (r .request)
+unfolding requestBytesOf wroteRequest
+read-request-holds r w = zero-holds (r .request) (go (requestBytesNumber (r .request)) (ap (λ (v : RequestBytes). v .number) (w .zeros)))
+  where
+    go : (m : ℕ) → wroteRequest m (request (r .request .table) (r .request .offset) (r .request .count)) .number ≡ 0 → m ≡ 0
+    go zero e = refl
+    go (suc m) e = e
 
 pub read-after-write : (q : Request) → requestBytesOf q .number ≡ 0 → (a b c : ℕ) → requestBytesOf q .bytes ≡ a ∷ b ∷ c ∷ []
-    → readRequestOf a b c ≡ A.Is q
+    → readRequestOf a b c ≡ record { request = q; clear = 1 }
 unfolding requestBytesOf wroteRequest request
 read-after-write q e a b c k = go (requestBytesNumber q) refl e k
   where
     go : (m : ℕ) → requestBytesNumber q ≡ m → wroteRequest m (request (q .table) (q .offset) (q .count)) .number ≡ 0
-        → wroteRequest m (request (q .table) (q .offset) (q .count)) .bytes ≡ a ∷ b ∷ c ∷ [] → readRequestOf a b c ≡ A.Is q
+        → wroteRequest m (request (q .table) (q .offset) (q .count)) .bytes ≡ a ∷ b ∷ c ∷ [] → readRequestOf a b c ≡ record { request = q; clear = 1 }
     go zero n z l =
         let ea : q .table ≡ a = cc in
         let eb : q .offset / 8 ≡ b = cc in
         let ec : q .offset % 8 * 32 + q .count ≡ c = cc in
         rw (← ea, ← eb, ← ec) (reads-back q (zero-holds q n))
     go (suc m) n z l = absurd (omega arith)
-
--- the number of request bytes, by their reserved bits
-pub read-no : (a c : ℕ) → reserved a c ≡ true → 6 ≡ readNumber a c
-unfolding readNumber
-read-no a c e = search order depth 6
-
-pub read-yes : (a c : ℕ) → reserved a c ≡ false → 0 ≡ readNumber a c
-unfolding readNumber
-read-yes a c e = search order depth 6
 
 pub wrote-no : (k n : ℕ) (bs : List ℕ) → k ≡ n → (k ≡ 0 → ⊥)
     → _≡_ {A = RequestBytes} (record { number = k; bytes = replicate 3 0 }) (wroteRequest n bs)
@@ -134,3 +157,10 @@ pub wrote-yes : (k n : ℕ) (bs : List ℕ) → k ≡ n → k ≡ 0 → _≡_ {A
 unfolding wroteRequest
 wrote-yes k zero bs e h = refl
 wrote-yes k (suc n) bs e h = absurd (omega arith)
+
+-- of bytes with their reserved bits cleared the same is read, and they are clear
+pub read-cleared : (a b c : ℕ) → b < 256 → c < 256 → (x y z : ℕ) → cleared a b c ≡ x ∷ y ∷ z ∷ []
+    → readRequestOf x y z ≡ record { request = requestOf a b c; clear = 1 }
+read-cleared a b c hb hc x y z e =
+    let w = bytes-back a b c hb hc in
+    read-after-write (requestOf a b c) (ap (λ (r : RequestBytes). r .number) w) x y z (ap (λ (r : RequestBytes). r .bytes) w ∙ e)

@@ -1,4 +1,4 @@
--- Packing and unpacking, writing and reading request bytes undo each other; what the rows of an identifier hold; what a built frame is.
+-- Packing and unpacking undo each other; what request bytes read and write; what the rows of an identifier hold; what a built frame is.
 use Prim.Native.Nat.{ℕ, _≤_}
 use mathlib.Core.Path.{_≡_, _∙_, ap}
 use mathlib.Core.List.{List}

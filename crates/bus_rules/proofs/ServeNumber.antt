@@ -75,20 +75,16 @@ few (suc n) e g = (omega arith, ltb-false 8 (suc n) g)
 abbrev Count : ℕ → (ℕ → Type 0) → ℕ → Type 0
 Count n rest = Unless ((1 ≤ n) × (n ≤ 8)) 9 rest
 
--- a length, and clear reserved bits
-abbrev Clear : ℕ → ℕ → Bool → (ℕ → Type 0) → ℕ → Type 0
-Clear len k v rest = Unless ((len ≡ k) × (v ≡ false)) 6 rest
+-- a length
+abbrev Length : ℕ → ℕ → (ℕ → Type 0) → ℕ → Type 0
+Length len k rest = Unless (len ≡ k) 6 rest
 
-clear-number : (len k : ℕ) (v : Bool) (r : ℕ) (rest : ℕ → Type 0) → rest r → Clear len k v rest (6 if not (eqb len k) else 6 if v else r)
-clear-number len k v r rest h =
-    unlesses 6 (not (eqb len k)) v r rest (λ e p. ne-true len k e (p .0)) (λ e p. apart v e (p .1)) (λ e g. (is-false len k e, g)) (λ e g. h)
-
-request-numbers : (len : ℕ) (v : Bool) (size right offset count : ℕ)
-    → Clear len 3 v (Missing (right ≡ 0) size (Count count (Range size (offset + count)))) (requestNumber len v size right offset count)
+request-numbers : (len size right offset count : ℕ)
+    → Length len 3 (Missing (right ≡ 0) size (Count count (Range size (offset + count)))) (requestNumber len size right offset count)
 unfolding requestNumber
-request-numbers len v size right offset n =
-    clear-number len 3 v _ (Missing (right ≡ 0) size (Count n (Range size (offset + n))))
-    (links 7 (eqb size 0) (eqb right 0) _ (Count n (Range size (offset + n)))
+request-numbers len size right offset n =
+    unless 6 (not (eqb len 3)) _ (Missing (right ≡ 0) size (Count n (Range size (offset + n)))) (ne-true _ _) (is-false _ _)
+    (λ l. links 7 (eqb size 0) (eqb right 0) _ (Count n (Range size (offset + n)))
     (λ e. inl (eqb-true _ _ e)) (λ e. inr (eqb-true _ _ e)) (λ e g. neither (eqb-false _ _ e) (eqb-false _ _ g))
     (λ s r. unlesses 9 (eqb n 0) (ltb 8 n) _ (Range size (offset + n))
     (λ e h. omega (arith, eqb-true n 0 e)) (λ e h. omega (arith, ltb-true 8 n e)) (few n)
@@ -102,21 +98,21 @@ one-or-five n =
     choose (eqb n 1) (eqb n 5) (λ z. inl (eqb-true n 1 z)) (λ z. inr (eqb-true n 5 z))
     (λ y z. neither (eqb-false n 1 y) (eqb-false n 5 z))
 
-query-numbers : (len first : ℕ) (v : Bool) (count : ℕ)
-    → First (len ≡ 0) 6 (Unless (first ≡ 0x80) 5 (Clear len 4 v (Queries count))) (queryNumber len first v count)
+query-numbers : (len first count : ℕ)
+    → First (len ≡ 0) 6 (Unless (first ≡ 0x80) 5 (Length len 4 (Queries count))) (queryNumber len first count)
 unfolding queryNumber
-query-numbers len first v count =
-    link 6 (eqb len 0) _ (Unless (first ≡ 0x80) 5 (Clear len 4 v (Queries count))) (eqb-true _ _) (eqb-false _ _)
-    (λ l. unless 5 (not (eqb first 0x80)) _ (Clear len 4 v (Queries count)) (ne-true _ _) (is-false _ _)
-    (λ b. clear-number len 4 v _ (Queries count) (one-or-five count)))
+query-numbers len first count =
+    link 6 (eqb len 0) _ (Unless (first ≡ 0x80) 5 (Length len 4 (Queries count))) (eqb-true _ _) (eqb-false _ _)
+    (λ l. unless 5 (not (eqb first 0x80)) _ (Length len 4 (Queries count)) (ne-true _ _) (is-false _ _)
+    (λ b. unless 6 (not (eqb len 4)) _ (Queries count) (ne-true _ _) (is-false _ _) (λ k. one-or-five count)))
 
 module _ (e : Device) (f : Frame) where
   kind-numbers : KindNumber e f (kindNumber e f)
   kind-numbers =
       record {
         command = λ k. subst (CommandNumber e f) (sym (command-case e f k)) (command-numbers _ _ _ _);
-        request = λ k. subst (RequestNumber e f) (sym (request-case e f k)) (request-numbers _ _ _ _ _ _);
-        query = λ k. subst (QueryNumber f) (sym (query-case e f k)) (query-numbers _ _ _ _);
+        request = λ k. subst (RequestNumber e f) (sym (request-case e f k)) (request-numbers _ _ _ _ _);
+        query = λ k. subst (QueryNumber f) (sym (query-case e f k)) (query-numbers _ _ _);
         other = other-case e f;
       }
 

@@ -1,17 +1,19 @@
 -- DEMAND 2 of the table holder: a served write sets exactly the addressed bytes; a served request answers exactly the asked
--- bytes. And which number is given exactly when. Of a call on the device e and the frame f that answers s and leaves the device after.
+-- bytes. And which number is given exactly when, and 02, C-16's mark. Of a call on the device e and the frame f that answers s and leaves the
+-- device after.
 use Prim.Native.Nat.{ℕ, _+_, _≤_, _<_, _^_, _/_, _%_}
 use mathlib.Core.Path.{_≡_}
-use mathlib.Core.Logic.{_⊎_, _≢_}
-use mathlib.Core.Bool.{false}
+use mathlib.Core.Logic.{_⊎_, _↔_, _≢_}
 use mathlib.Core.List.{[], _∷_}
 use lib.ListN.{length, getD}
+use lib.Seq.{sets}
 use Rattle.wire.specs.First.{First, Unless, Zero}
 use Rattle.bus_rules.specs.Ident.{idSpare, idTo, idFrom, idKind, idOffset, unpackOf}
 use Rattle.bus_rules.specs.Frames.{Frame, cmd, req, rsp, xtnd, content}
 use Rattle.bus_rules.specs.Request.{Request}
+use Rattle.bus_rules.specs.Rows.{cleared}
 use Rattle.bus_rules.specs.Device.{Directory, Device, SameTables, ownOf, sizeOf, rightOf, startOf, totalOf}
-use Rattle.bus_rules.specs.Holder.{Served, byteOf, requestAt, reservedAt, tableOf, sizeAt, rightAt, placeOf, noAnswer, serveOf, deviceAfter}
+use Rattle.bus_rules.specs.Holder.{Served, byteOf, requestAt, tableOf, sizeAt, rightAt, placeOf, noAnswer, serveOf, deviceAfter}
 use Rattle.bus_rules.specs.declared.Unpacked.the-variants as U
 
 -- ── What a served frame does ───────────────────────────────────────────────────────────────────────────────────────
@@ -76,7 +78,7 @@ CommandNumber e f =
 
 abbrev pub RequestNumber : Device → Frame → ℕ → Type 0
 RequestNumber e f =
-    Unless ((f .len ≡ 3) × (reservedAt f 0 ≡ false)) 6
+    Unless (f .len ≡ 3) 6
     (First ((sizeAt e f ≡ 0) ⊎ (rightAt e f ≡ 0)) 7
     (Unless ((1 ≤ requestAt f 0 .count) × (requestAt f 0 .count ≤ 8)) 9
     (First (sizeAt e f < idOffset (f .id) + requestAt f 0 .count) 8
@@ -86,7 +88,7 @@ abbrev pub QueryNumber : Frame → ℕ → Type 0
 QueryNumber f =
     First (f .len ≡ 0) 6
     (Unless (byteOf f 0 ≡ 0x80) 5
-    (Unless ((f .len ≡ 4) × (reservedAt f 1 ≡ false)) 6
+    (Unless (f .len ≡ 4) 6
     (Unless ((requestAt f 1 .count ≡ 1) ⊎ (requestAt f 1 .count ≡ 5)) 9
     Zero)))
 
@@ -108,6 +110,33 @@ ServeNumber e f =
     (Unless (idTo (f .id) ≡ ownOf e) 4
     (KindNumber e f))))))
 
+-- ── Reserved bits, and the mark ────────────────────────────────────────────────────────────────────────────────────
+
+-- the reserved bits of the request bytes from byte i on are clear: the first byte's top three, and bit 4 of the third
+abbrev pub Clear : Frame → ℕ → Type 0
+Clear f i = (byteOf f i < 32) × (byteOf f (2 + i) / 16 % 2 ≡ 0)
+
+-- the same request with its reserved bits cleared
+unfoldable pub clearedAt : Frame → ℕ → Frame
+clearedAt f i = record { id = f .id; len = f .len; bytes = sets (f .bytes) i (cleared (byteOf f i) (byteOf f (1 + i)) (byteOf f (2 + i))) }
+
+-- number, reply and the device after it are those of the same request with its reserved bits cleared, which is clear
+pub record AsCleared (e : Device) (f : Frame) (i : ℕ) (s : Served) (after : Device) : Type 0 where
+  pub isClear : Clear (clearedAt f i) i
+  pub number : serveOf e (clearedAt f i) .number ≡ s .number
+  pub frames : serveOf e (clearedAt f i) .frames ≡ s .frames
+  pub frame : serveOf e (clearedAt f i) .frame ≡ s .frame
+  pub device : deviceAfter e (clearedAt f i) ≡ after
+
+-- a REQ or a protocol query was answered, and its reserved bits are clear
+abbrev pub ClearAnswered : Frame → Served → Type 0
+ClearAnswered f s = (s .number ≡ 0) × (((idKind (f .id) ≡ req) × Clear f 0) ⊎ ((idKind (f .id) ≡ xtnd) × Clear f 1))
+
+-- "1 if clear; 0 if not, and for other frames"; a refusal's numbers other than its own are 0
+pub record Mark (f : Frame) (s : Served) : Type 0 where
+  pub small : s .clear ≤ 1
+  pub exactly : (s .clear ≡ 1) ↔ ClearAnswered f s
+
 -- ── All of it ──────────────────────────────────────────────────────────────────────────────────────────────────────
 
 pub record Demand2 (e : Device) (f : Frame) (s : Served) (after : Device) : Type 0 where
@@ -117,5 +146,9 @@ pub record Demand2 (e : Device) (f : Frame) (s : Served) (after : Device) : Type
   pub command : s .number ≡ 0 → idKind (f .id) ≡ cmd → CommandServed e f s after
   pub request : s .number ≡ 0 → idKind (f .id) ≡ req → RequestServed e f s after
   pub query : s .number ≡ 0 → idKind (f .id) ≡ xtnd → QueryServed e f s after
+  -- C-16: "with the reserved bits ignored", in refusals too
+  pub requestCleared : idKind (f .id) ≡ req → AsCleared e f 0 s after
+  pub queryCleared : idKind (f .id) ≡ xtnd → AsCleared e f 1 s after
+  pub mark : Mark f s
   -- input bytes past the length are ignored
   pub ignored : (g : Frame) → g .id ≡ f .id → g .len ≡ f .len → content g ≡ content f → (serveOf e g ≡ s) × (deviceAfter e g ≡ after)

@@ -6,7 +6,7 @@ use lib.ListN.{length, replicate}
 use Rattle.bus_rules.specs.Device.{Directory, Device, device}
 use Rattle.bus_rules.specs.Frames.{Frame}
 use Rattle.bus_rules.specs.Ident.{Parts, rows, part, partAt, sumOfRows, packOf, unpackOf}
-use Rattle.bus_rules.specs.Request.{requestBytesOf}
+use Rattle.bus_rules.specs.Request.{readRequestOf, requestBytesOf}
 use Rattle.bus_rules.specs.declared.Packed.the-variants as P
 use Rattle.bus_rules.specs.declared.Unpacked.the-variants as U
 use Rattle.bus_rules.specs.Holder.{Served, serveOf, deviceAfter}
@@ -43,20 +43,20 @@ pub record ByHand (id : ℕ) (parts : List ℕ) (p : Parts) : Type 0 where
 abbrev pub frame : (id len : ℕ) → List ℕ → Frame
 frame id len bytes = record { id = id; len = len; bytes = bytes ++ replicate (8 - length bytes) 0 }
 
--- a frame is answered, and the device stays as it was
-abbrev pub Answers : Device → Frame → Frame → Type 0
-Answers e f g = (serveOf e f ≡ record { number = 0; frames = 1; frame = g }) × (deviceAfter e f ≡ e)
+-- a frame is answered, with this mark, and the device stays as it was
+abbrev pub Answers : Device → Frame → (clear : ℕ) → Frame → Type 0
+Answers e f clear g = (serveOf e f ≡ record { number = 0; frames = 1; clear = clear; frame = g }) × (deviceAfter e f ≡ e)
 
 -- a number and no frame
 abbrev pub alone : ℕ → Served
-alone n = record { number = n; frames = 0; frame = frame 0 0 [] }
+alone n = record { number = n; frames = 0; clear = 0; frame = frame 0 0 [] }
 
 -- that is all a refusal answers, and the device stays as it was
 abbrev pub Refuses : Device → Frame → ℕ → Type 0
 Refuses e f n = (serveOf e f ≡ alone n) × (deviceAfter e f ≡ e)
 
 -- identifiers by hand; frames from device 7, some with bytes past their length that say otherwise; then parts that neither an identifier nor
--- request bytes hold
+-- request bytes hold, and request bytes read and packed
 pub record Examples : Type 0 where
   -- 01: "offset 6, REQ, from 5 to 0, table 7: 0x18A838", "Table 20 alone: 0x24", "0x1FFFFFFC unpacks"; docs/PENCIL.md has them by hand
   pub identifier : ByHand 0x18A838 (0 ∷ 0 ∷ 7 ∷ 0 ∷ 5 ∷ 1 ∷ 6 ∷ []) (record { offset = 6; kind = 1; from = 5; to = 0; table = 7 })
@@ -67,13 +67,23 @@ pub record Examples : Type 0 where
   pub spareOne : (partAt 0x1FFFFFFD 0 ≡ 1) × (unpackOf 0x1FFFFFFD ≡ U.Refused 2)
   pub over29Bits : (map (part 0x20000000) rows ≡ replicate 7 0) × (unpackOf 0x20000000 ≡ U.Refused 1)
   -- 002, 4.1: "id=0x40b878, DLC=3, Data = 0x06 0x00 0x04" brings "id=0x103b0 .. 0x31 0x34 0x20 0x00"
-  pub signature : Answers holder (frame 0x40B878 3 (0x06 ∷ 0x00 ∷ 0x04 ∷ 0xFF ∷ []))
+  pub signature : Answers holder (frame 0x40B878 3 (0x06 ∷ 0x00 ∷ 0x04 ∷ 0xFF ∷ [])) 1
       (frame 0x103B0 4 (0x31 ∷ 0x34 ∷ 0x20 ∷ 0x00 ∷ []))
   -- 002, 4.2: "id=0x18b838, DLC=3, Data = 0x07 0x00 0x42" brings "id=0x903b8, DLC=2, Data = 0x14 0xfe"
-  pub rpm : Answers holder (frame 0x18B838 3 (0x07 ∷ 0x00 ∷ 0x42 ∷ 0xFF ∷ []))
+  pub rpm : Answers holder (frame 0x18B838 3 (0x07 ∷ 0x00 ∷ 0x42 ∷ 0xFF ∷ [])) 1
       (frame 0x903B8 2 (0x14 ∷ 0xFE ∷ []))
   -- XTND `80 06 10 45`: 2 and the blocking factors, to table 6, offset 130
-  pub query : Answers holder (frame 0x3B800 4 (0x80 ∷ 0x06 ∷ 0x10 ∷ 0x45 ∷ 0xFF ∷ []))
+  pub query : Answers holder (frame 0x3B800 4 (0x80 ∷ 0x06 ∷ 0x10 ∷ 0x45 ∷ 0xFF ∷ [])) 1
+      (frame 0x20903B0 5 (0x02 ∷ 0x01 ∷ 0x02 ∷ 0x03 ∷ 0x04 ∷ []))
+  -- 02, C-16: the same with a reserved bit set, not clear: bit 4 of the third request byte, bit 5 of the first; of the query bit 7 of the
+  -- first, bit 4 of the third
+  pub bitFourSignature : Answers holder (frame 0x40B878 3 (0x06 ∷ 0x00 ∷ 0x14 ∷ [])) 0
+      (frame 0x103B0 4 (0x31 ∷ 0x34 ∷ 0x20 ∷ 0x00 ∷ []))
+  pub bitFiveRpm : Answers holder (frame 0x18B838 3 (0x27 ∷ 0x00 ∷ 0x42 ∷ [])) 0
+      (frame 0x903B8 2 (0x14 ∷ 0xFE ∷ []))
+  pub bitSevenQuery : Answers holder (frame 0x3B800 4 (0x80 ∷ 0x86 ∷ 0x10 ∷ 0x45 ∷ [])) 0
+      (frame 0x20903B0 5 (0x02 ∷ 0x01 ∷ 0x02 ∷ 0x03 ∷ 0x04 ∷ []))
+  pub bitFourQuery : Answers holder (frame 0x3B800 4 (0x80 ∷ 0x06 ∷ 0x10 ∷ 0x55 ∷ [])) 0
       (frame 0x20903B0 5 (0x02 ∷ 0x01 ∷ 0x02 ∷ 0x03 ∷ 0x04 ∷ []))
   -- CMD, table 15, offset 17, two bytes
   pub stored : (serveOf holder (frame 0x443878 2 (0xB0 ∷ 0xB1 ∷ 0xFF ∷ [])) ≡ alone 0)
@@ -89,17 +99,23 @@ pub record Examples : Type 0 where
   pub elsewhere : Refuses holder (frame 0x403880 8 []) 4
   -- RSP gets 5
   pub reply : Refuses holder (frame 0x413878 1 (0 ∷ [])) 5
-  -- a REQ of length 2, a query of length 3, XTND of length 0, and a top bit of the first request byte
+  -- a REQ of length 2, a query of length 3, XTND of length 0
   pub shortRequest : Refuses holder (frame 0x40B878 2 (0x06 ∷ 0x00 ∷ 0x04 ∷ [])) 6
   pub shortQuery : Refuses holder (frame 0x3B800 3 (0x80 ∷ 0x06 ∷ 0x10 ∷ 0x45 ∷ [])) 6
   pub emptyQuery : Refuses holder (frame 0x3B800 0 (0x81 ∷ [])) 6
-  pub topBit : Refuses holder (frame 0x40B878 3 (0x26 ∷ 0x00 ∷ 0x04 ∷ [])) 6
   -- CMD to table 7, REQ to table 4
   pub readOnly : Refuses holder (frame 0x183838 2 (0xB0 ∷ 0xB1 ∷ [])) 7
   pub noRight : Refuses holder (frame 0xB820 3 (0x06 ∷ 0x00 ∷ 0x02 ∷ [])) 7
-  -- nine bytes of table 15 from offset 16: 9 before 8; five bytes are 8
+  -- nine bytes of table 15 from offset 16: 9 before 8, and a bit 4 beside the 9 changes nothing; five bytes are 8
   pub nine : Refuses holder (frame 0x40B878 3 (0x06 ∷ 0x00 ∷ 0x09 ∷ [])) 9
+  pub bitFourNine : Refuses holder (frame 0x40B878 3 (0x06 ∷ 0x00 ∷ 0x19 ∷ [])) 9
   pub five : Refuses holder (frame 0x403878 5 (0xB0 ∷ 0xB1 ∷ 0xB2 ∷ 0xB3 ∷ 0xB4 ∷ [])) 8
   -- table 32, a count of 16
   pub table32 : packOf (record { offset = 0; kind = 0; from = 0; to = 0; table = 32 }) ≡ P.Refused 7
   pub count16 : requestBytesOf (record { table = 0; offset = 0; count = 16 }) ≡ record { number = 9; bytes = replicate 3 0 }
+  -- 01: "`06 10 02` asks two bytes to table 6, offset 128", and C-16: `06 10 12` is now such a request; so is `46 10 02`
+  pub clearBytes : readRequestOf 0x06 0x10 0x02 ≡ record { request = record { table = 6; offset = 128; count = 2 }; clear = 1 }
+  pub bitFourBytes : readRequestOf 0x06 0x10 0x12 ≡ record { request = record { table = 6; offset = 128; count = 2 }; clear = 0 }
+  pub bitSixBytes : readRequestOf 0x46 0x10 0x02 ≡ record { request = record { table = 6; offset = 128; count = 2 }; clear = 0 }
+  -- "Packing still writes zeros"
+  pub zerosPacked : requestBytesOf (record { table = 6; offset = 128; count = 2 }) ≡ record { number = 0; bytes = 0x06 ∷ 0x10 ∷ 0x02 ∷ [] }

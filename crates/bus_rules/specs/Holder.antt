@@ -1,7 +1,8 @@
--- 01 "Table holder": what a device answers to a frame, and the device after it, in the paper's order.
+-- 01 "Table holder": what a device answers to a frame, and the device after it, in the paper's order; the mark beside the answer is 02, C-16's.
 use Prim.Native.Nat.{ℕ, zero, suc, _+_}
-use mathlib.Core.Bool.{Bool, cond, not}
-use mathlib.Core.List.{List, [], _∷_, _++_}
+use mathlib.Core.Path.{_≡_}
+use mathlib.Core.Bool.{cond, not}
+use mathlib.Core.List.{List, _∷_, _++_}
 use lib.Dec.{ltb, eqb}
 use lib.ListN.{length, getD, take}
 use lib.Seq.{sets}
@@ -9,12 +10,12 @@ use Rattle.wire.specs.Order.{_if_else_, _orElse_}
 use Rattle.wire.specs.BigEndian.{beBytes}
 use Rattle.bus_rules.specs.Ident.{idTable, idFrom, idKind, idOffset, idOf}
 use Rattle.bus_rules.specs.Frames.{Frame, cmd, req, rsp, xtnd, content, frameWith, noFrame, headNumber}
-use Rattle.bus_rules.specs.Request.{Request, requestOf, reserved}
+use Rattle.bus_rules.specs.Request.{Request, RequestRead, readRequestOf}
 use Rattle.bus_rules.specs.Device.{Directory, Device, ownOf, rangeOf, sizeOf, rightOf, startOf, memoryNumber}
 pub use Rattle.bus_rules.specs.declared.Served.{Served}
 
--- ── Refusals by type. 6: length or reserved request bits wrong; 7: table empty, or lacks the right; 9: count not allowed;
--- 8: range past its end ──────────────────────────────────────────────────────────────────────────────────────────────
+-- ── Refusals by type. 6: length wrong (C-16: "6 no longer covers reserved bits"); 7: table empty, or lacks the right; 9: count not
+-- allowed; 8: range past its end ─────────────────────────────────────────────────────────────────────────────────────
 
 -- CMD, length 1..8. Needs right 2
 unfoldable pub commandNumber : (len size right offset : ℕ) → ℕ
@@ -26,10 +27,9 @@ commandNumber len size right offset =
     else 0
 
 -- REQ, length 3, count 1..8, needs a right
-unfoldable pub requestNumber : (len : ℕ) → Bool → (size right offset count : ℕ) → ℕ
-requestNumber len reserves size right offset count =
+unfoldable pub requestNumber : (len size right offset count : ℕ) → ℕ
+requestNumber len size right offset count =
     6 if not (eqb len 3)
-    else 6 if reserves
     else 7 if eqb size 0
     else 7 if eqb right 0
     else 9 if eqb count 0
@@ -39,25 +39,24 @@ requestNumber len reserves size right offset count =
 
 -- XTND of length 0 is 6. First byte 0x80 (protocol query); other first bytes: 5. Length 4, request bytes after it, count 1 or 5.
 -- Its table and offset aren't looked at
-unfoldable pub queryNumber : (len first : ℕ) → Bool → (count : ℕ) → ℕ
-queryNumber len first reserves count =
+unfoldable pub queryNumber : (len first count : ℕ) → ℕ
+queryNumber len first count =
     6 if eqb len 0
     else 5 if not (eqb first 0x80)
     else 6 if not (eqb len 4)
-    else 6 if reserves
     else 0 if eqb count 1
     else 0 if eqb count 5
     else 9
 
--- byte i of a frame, and the request that starts there
+-- byte i of a frame, what is read from the request bytes that start there, and the request in them
 unfoldable pub byteOf : Frame → ℕ → ℕ
 byteOf f i = getD (f .bytes) i 0
 
-unfoldable pub requestAt : Frame → ℕ → Request
-requestAt f i = requestOf (byteOf f i) (byteOf f (1 + i)) (byteOf f (2 + i))
+unfoldable pub readAt : Frame → ℕ → RequestRead
+readAt f i = readRequestOf (byteOf f i) (byteOf f (1 + i)) (byteOf f (2 + i))
 
-unfoldable pub reservedAt : Frame → ℕ → Bool
-reservedAt f i = reserved (byteOf f i) (byteOf f (2 + i))
+unfoldable pub requestAt : Frame → ℕ → Request
+requestAt f i = readAt f i .request
 
 -- the addressed table, its size and its right
 abbrev pub tableOf : Frame → ℕ
@@ -78,8 +77,8 @@ unfoldable pub kindNumber : Device → Frame → ℕ
 kindNumber e f =
     byKind (idKind (f .id))
     (commandNumber (f .len) (sizeAt e f) (rightAt e f) (idOffset (f .id)))
-    (requestNumber (f .len) (reservedAt f 0) (sizeAt e f) (rightAt e f) (idOffset (f .id)) (requestAt f 0 .count))
-    (queryNumber (f .len) (byteOf f 0) (reservedAt f 1) (requestAt f 1 .count))
+    (requestNumber (f .len) (sizeAt e f) (rightAt e f) (idOffset (f .id)) (requestAt f 0 .count))
+    (queryNumber (f .len) (byteOf f 0) (requestAt f 1 .count))
     5
 
 -- Order: 11, 10, 1, 2, 3, 4, 5, 6, 7, 9, 8, with one exception: XTND of length 0 is 6
@@ -88,17 +87,17 @@ serveNumber e f = memoryNumber (e .directory) (length (e .memory)) orElse headNu
 
 -- ── Answers ────────────────────────────────────────────────────────────────────────────────────────────────────────
 
--- a number and no frame
+-- a number and no frame; the mark is 0 "for other frames" than REQ and the protocol query, and in a refusal
 unfoldable pub noAnswer : ℕ → Served
-noAnswer n = record { number = n; frames = 0; frame = noFrame }
+noAnswer n = record { number = n; frames = 0; clear = 0; frame = noFrame }
 
--- one frame
-unfoldable pub answerWith : Frame → Served
-answerWith f = record { number = 0; frames = 1; frame = f }
+-- one frame, and the mark beside it
+unfoldable pub answerWith : ℕ → Frame → Served
+answerWith clear f = record { number = 0; frames = 1; clear = clear; frame = f }
 
--- answers RSP, with the reply table and offset asked for, and these bytes
-unfoldable pub replyTo : (own to : ℕ) → Request → List ℕ → Served
-replyTo own to q bs = answerWith (frameWith (idOf (q .offset) rsp own to (q .table)) bs)
+-- answers RSP, with the reply table and offset asked for, and these bytes; "hands that mark back beside its answer frame"
+unfoldable pub replyTo : (own to : ℕ) → RequestRead → List ℕ → Served
+replyTo own to q bs = answerWith (q .clear) (frameWith (idOf (q .request .offset) rsp own to (q .request .table)) bs)
 
 -- where the frame's offset lies in memory
 unfoldable pub placeOf : Device → Frame → ℕ
@@ -113,8 +112,8 @@ unfoldable pub actOf : Device → Frame → Served
 actOf e f =
     byKind (idKind (f .id))
     (noAnswer 0)
-    (replyTo (ownOf e) (idFrom (f .id)) (requestAt f 0) (rangeOf e (tableOf f) (idOffset (f .id)) (requestAt f 0 .count)))
-    (replyTo (ownOf e) (idFrom (f .id)) (requestAt f 1) (take (requestAt f 1 .count) (protocol (e .directory))))
+    (replyTo (ownOf e) (idFrom (f .id)) (readAt f 0) (rangeOf e (tableOf f) (idOffset (f .id)) (requestAt f 0 .count)))
+    (replyTo (ownOf e) (idFrom (f .id)) (readAt f 1) (take (requestAt f 1 .count) (protocol (e .directory))))
     (noAnswer 0)
 
 -- CMD stores the bytes at the offset
@@ -141,3 +140,7 @@ serveOf e f = servedBy (serveNumber e f) (actOf e f)
 -- the device after it served the frame
 unfoldable pub deviceAfter : Device → Frame → Device
 deviceAfter e f = afterBy (serveNumber e f) (actAfter e f) e
+
+-- the device gives the frame g for the frame f, whatever the mark beside it (a refusal has no frame)
+abbrev pub Gives : Device → Frame → Frame → Type 0
+Gives e f g = (serveOf e f .frames ≡ 1) × (serveOf e f .frame ≡ g)

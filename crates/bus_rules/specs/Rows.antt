@@ -1,18 +1,17 @@
--- Theorems about identifiers, request bytes and built frames: reading and writing undo each other, and what the rows of an identifier hold.
-use Prim.Native.Nat.{ℕ, _+_, _*_, _^_, _≤_, _<_}
+-- Theorems about identifiers, request bytes and built frames: what is written is read back, what is read is written as it was (of request
+-- bytes with the reserved bits 0), and what the rows of an identifier hold.
+use Prim.Native.Nat.{ℕ, _+_, _*_, _/_, _%_, _^_, _≤_, _<_}
 use mathlib.Core.Path.{_≡_}
 use mathlib.Core.Logic.{_↔_}
 use mathlib.Core.List.{List, [], _∷_, map}
 use lib.ListN.{length, getD, take}
 use Rattle.bus_rules.specs.Ident.{Parts, rows, part, partAt, partsOf, byRow, sumOfRows, inRows, packOf, unpackOf}
 use Rattle.bus_rules.specs.Frames.{Frame, content, frameWith, buildOf}
-use Rattle.bus_rules.specs.Request.{Request, readRequestOf, requestBytesOf}
+use Rattle.bus_rules.specs.Request.{Request, RequestRead, readRequestOf, requestBytesOf}
 use Rattle.bus_rules.specs.declared.Packed.{Packed}
 use Rattle.bus_rules.specs.declared.Packed.the-variants as P
 use Rattle.bus_rules.specs.declared.Unpacked.{Unpacked}
 use Rattle.bus_rules.specs.declared.Unpacked.the-variants as U
-use Rattle.bus_rules.specs.declared.RequestRead.{RequestRead}
-use Rattle.bus_rules.specs.declared.RequestRead.the-variants as A
 use Rattle.bus_rules.specs.declared.RequestBytes.{RequestBytes}
 
 -- what packs into an identifier unpacks from it
@@ -40,13 +39,21 @@ pub record LawfulIds : Type 0 where
   pub yielded : (id : ℕ) → ((p : Parts) × (packOf p ≡ P.Is id)) ↔ IsLawful id
   pub accepted : (id : ℕ) → ((p : Parts) × (unpackOf id ≡ U.Is p)) ↔ IsLawful id
 
--- what is written in request bytes is read from them
+-- what is written in request bytes is read from them, and they are clear
 abbrev pub ReadAfterWrite : Request → RequestBytes → Type 0
-ReadAfterWrite q r = r .number ≡ 0 → (a b c : ℕ) → r .bytes ≡ a ∷ b ∷ c ∷ [] → readRequestOf a b c ≡ A.Is q
+ReadAfterWrite q r = r .number ≡ 0 → (a b c : ℕ) → r .bytes ≡ a ∷ b ∷ c ∷ [] → readRequestOf a b c ≡ record { request = q; clear = 1 }
 
--- what is read from request bytes writes them
-abbrev pub WriteAfterRead : (a b c : ℕ) → RequestRead → Type 0
-WriteAfterRead a b c r = (q : Request) → r ≡ A.Is q → requestBytesOf q ≡ record { number = 0; bytes = a ∷ b ∷ c ∷ [] }
+-- request bytes with their reserved bits 0
+unfoldable pub cleared : (a b c : ℕ) → List ℕ
+cleared a b c = a % 32 ∷ b ∷ (c / 32 * 32 + c % 16) ∷ []
+
+-- 02, C-16: what is read from request bytes, packed. "Packing still writes zeros, so packing after reading returns the same bytes only for
+-- clear ones"
+pub record WriteAfterRead (a b c : ℕ) (r : RequestRead) : Type 0 where
+  pub zeros : requestBytesOf (r .request) ≡ record { number = 0; bytes = cleared a b c }
+  pub same : (requestBytesOf (r .request) .bytes ≡ a ∷ b ∷ c ∷ []) ↔ (r .clear ≡ 1)
+  -- otherwise it is 0
+  pub small : r .clear ≤ 1
 
 -- the frame that is built of parts and bytes: its identifier unpacks to the parts as the rows hold them; of parts that pack it is the
 -- frame of their identifier; its bytes are the first eight, then zeros
@@ -65,5 +72,5 @@ pub record RowTheorems : Type 0 where
   pub packedByRow : (p : Parts) (id : ℕ) → packOf p ≡ P.Is id → RowByRow id p
   pub unpackedByRow : (id : ℕ) (p : Parts) → unpackOf id ≡ U.Is p → RowByRow id p
   pub readAfterWrite : (q : Request) → ReadAfterWrite q (requestBytesOf q)
-  pub writeAfterRead : (a b c : ℕ) → a < 256 → b < 256 → c < 256 → WriteAfterRead a b c (readRequestOf a b c)
+  pub writeAfterRead : (a b c : ℕ) → b < 256 → c < 256 → WriteAfterRead a b c (readRequestOf a b c)
   pub built : (p : Parts) (bs : List ℕ) → Built p bs (buildOf p bs)

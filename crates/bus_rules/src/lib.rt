@@ -47,10 +47,11 @@ pub struct Request {
     pub offset: u16,
 }
 
-// A request, or the number that refuses its bytes.
-pub enum RequestRead {
-    Is(Request),
-    Refused(u8),
+// What is read from request bytes: the request, and 1 if their reserved bits are clear, else 0.
+#[repr(C)]
+pub struct RequestRead {
+    pub request: Request,
+    pub clear: u8,
 }
 
 // A number, and the three request bytes, all 0 in a refusal.
@@ -70,10 +71,12 @@ pub struct Directory {
     pub own: u8,
 }
 
-// A holder's answer: a number, how many frames it has (0 or 1), and the frame, all 0 where there is none.
+// A holder's answer: a number, how many frames it has (0 or 1), the mark `clear` (1 if it answers a REQ or a protocol query whose reserved
+// bits are clear, else 0), and the frame, all 0 where there is none.
 #[repr(C)]
 pub struct Served {
     pub number: u8,
     pub frames: u8,
+    pub clear: u8,
     pub frame: Frame,
 }

@@ -5,6 +5,7 @@ use crate::answers::Answer;
 use crate::answers::nothing;
 use crate::answers::number;
 use crate::answers::numbers;
+use crate::answers::pair;
 use crate::answers::unknown;
 use crate::answers::with_bytes;
 use crate::answers::with_hex;
@@ -17,7 +18,6 @@ use bus::Frame;
 use bus::Packed;
 use bus::Parts;
 use bus::Request;
-use bus::RequestRead;
 use bus::Unpacked;
 
 // pack OFFSET TYPE FROM TO TABLE: the number and the identifier.
@@ -60,25 +60,23 @@ fn unpack(id: u32) -> Answer {
     }
 }
 
-// read_request | BYTES: the number, table, offset, count.
+// read_request | BYTES: table, offset, count, and 1 if the reserved bits are clear.
 fn read_request(b: [u8; 8]) -> Answer {
-    let read = bus::requests::read_request(b[0], b[1], b[2]);
-    match read {
-        RequestRead::Is(q) => numbers(
-            4,
-            [
-                0,
-                q.table as u64,
-                q.offset as u64,
-                q.count as u64,
-                0,
-                0,
-                0,
-                0,
-            ],
-        ),
-        RequestRead::Refused(x) => number(x),
-    }
+    let r = bus::requests::read_request(b[0], b[1], b[2]);
+    let q = r.request;
+    numbers(
+        4,
+        [
+            q.table as u64,
+            q.offset as u64,
+            q.count as u64,
+            r.clear as u64,
+            0,
+            0,
+            0,
+            0,
+        ],
+    )
 }
 
 // request_bytes TABLE OFFSET COUNT: the number and the bytes.
@@ -108,11 +106,11 @@ pub(crate) fn with_frame(a: Answer, frames: u8, f: Frame) -> Answer {
     with_hex(with_bytes(a, part(&bytes, 0, f.len as u64)), f.id as u64)
 }
 
-// serve LENGTH IDENTIFIER | BYTES: the number, and the frame answered.
+// serve LENGTH IDENTIFIER | BYTES: the number, the mark, and the frame answered.
 fn serve(d: Directory, memory: &mut [u8], id: u32, bytes: &[u8]) -> Answer {
     let s = bus::holder::serve(d, memory, frame_of(id, bytes));
     let f = s.frame;
-    with_frame(number(s.number), s.frames, f)
+    with_frame(pair(s.number, s.clear as u64), s.frames, f)
 }
 
 // device OWN: a directory without tables.

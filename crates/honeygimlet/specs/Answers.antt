@@ -7,10 +7,7 @@ use Rattle.bus_rules.specs.declared.Packed.{Packed as PackedEnum}
 use Rattle.bus_rules.specs.declared.Packed.the-variants as P
 use Rattle.bus_rules.specs.declared.Unpacked.{Unpacked as UnpackedEnum}
 use Rattle.bus_rules.specs.declared.Unpacked.the-variants as U
-use Rattle.bus_rules.specs.declared.RequestRead.{RequestRead as RequestEnum}
-use Rattle.bus_rules.specs.declared.RequestRead.the-variants as A
 use Rattle.bus_rules.specs.Ident.{noParts}
-use Rattle.bus_rules.specs.Request.{noRequest}
 use Rattle.wire.specs.Log.{dataKind, markKind, timeKind, endKind, refusedKind}
 use Rattle.mlg_rules.specs.declared.Head.{Head as MlgHead}
 use Rattle.mlg_rules.specs.declared.Head.the-variants as MH
@@ -27,7 +24,6 @@ use Rattle.mlg_rules.specs.declared.ShownValue.{ShownValue}
 use Rattle.mlg_rules.specs.declared.ShownValue.the-variants as S
 use Rattle.honeygimlet.specs.declared.Packed.{Packed}
 use Rattle.honeygimlet.specs.declared.Unpacked.{Unpacked}
-use Rattle.honeygimlet.specs.declared.RequestRead.{RequestRead}
 use Rattle.honeygimlet.specs.declared.MlgHeader.{MlgHeader}
 use Rattle.honeygimlet.specs.declared.MlgBlock.{MlgBlock}
 use Rattle.honeygimlet.specs.declared.FrdHeader.{FrdHeader}
@@ -42,10 +38,6 @@ packedOut (P.Refused n) = record { id = 0; number = n }
 abbrev pub unpackedOut : UnpackedEnum → Unpacked
 unpackedOut (U.Is p) = record { parts = p; number = 0 }
 unpackedOut (U.Refused n) = record { parts = noParts; number = n }
-
-abbrev pub requestReadOut : RequestEnum → RequestRead
-requestReadOut (A.Is q) = record { request = q; number = 0 }
-requestReadOut (A.Refused n) = record { request = noRequest; number = n }
 
 -- a bool as a number
 abbrev pub flagOf : Bool → ℕ

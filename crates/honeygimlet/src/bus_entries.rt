@@ -1,13 +1,12 @@
 // Identifiers, request bytes, and the table holder.
 use crate::Packed;
-use crate::RequestRead;
 use crate::Unpacked;
 ghost use mathlib.Core.Path.{_≡_};
 ghost use Rattle.bus_rules.specs.Ident.{packOf, unpackOf};
 ghost use Rattle.bus_rules.specs.Request.{readRequestOf, requestBytesOf};
 ghost use Rattle.bus_rules.specs.Device.{device};
 ghost use Rattle.bus_rules.specs.Holder.{serveOf, deviceAfter};
-ghost use Rattle.honeygimlet.specs.Answers.{packedOut, unpackedOut, requestReadOut};
+ghost use Rattle.honeygimlet.specs.Answers.{packedOut, unpackedOut};
 
 #[no_mangle]
 pub extern "C" fn hg_bus_pack(parts: bus::Parts) -> Packed
@@ -41,21 +40,10 @@ pub extern "C" fn hg_bus_unpack(id: u32) -> Unpacked
 }
 
 #[no_mangle]
-pub extern "C" fn hg_bus_read_request(first: u8, second: u8, third: u8) -> RequestRead
-    ensures { λ r. ⌜ r ≡ requestReadOut (readRequestOf first second third) ⌝ }
+pub extern "C" fn hg_bus_read_request(first: u8, second: u8, third: u8) -> bus::RequestRead
+    ensures { λ r. ⌜ r ≡ readRequestOf first second third ⌝ }
 {
-    let q = bus::requests::read_request(first, second, third);
-    match q {
-        bus::RequestRead::Is(request) => RequestRead { request, number: 0 },
-        bus::RequestRead::Refused(number) => RequestRead {
-            request: bus::Request {
-                table: 0,
-                count: 0,
-                offset: 0,
-            },
-            number,
-        },
-    }
+    bus::requests::read_request(first, second, third)
 }
 
 #[no_mangle]

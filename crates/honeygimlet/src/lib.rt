@@ -24,13 +24,6 @@ pub struct Unpacked {
     pub number: u8,
 }
 
-// A request, and the number that refuses its bytes.
-#[repr(C)]
-pub struct RequestRead {
-    pub request: bus::Request,
-    pub number: u8,
-}
-
 // The numbers of an MLG's header: time, info start, data begin, record length, field count, version.
 #[repr(C)]
 pub struct MlgHeader {

@@ -1,5 +1,5 @@
--- 01, "Reckonings": the cases marked *, in 01's order, as one table under one statement. A row is a question and 01's answer to it;
--- what the layers' own definitions answer is `compute`.
+-- 01, "Reckonings": the cases marked *, in 01's order, as one table under one statement. A row is a question and 01's answer to it, as 02
+-- changes it; what the layers' own definitions answer is `compute`.
 use Prim.Native.Nat.{ℕ}
 use mathlib.Core.Path.{_≡_}
 use mathlib.Core.Option.{some}
@@ -20,7 +20,6 @@ use Rattle.bus_rules.specs.declared.Packed.the-variants as P
 use Rattle.bus_rules.specs.declared.Unpacked.{Unpacked}
 use Rattle.bus_rules.specs.declared.Unpacked.the-variants as U
 use Rattle.bus_rules.specs.declared.RequestRead.{RequestRead}
-use Rattle.bus_rules.specs.declared.RequestRead.the-variants as A
 use Rattle.bridge_rules.specs.Answers as N
 use Rattle.bridge_rules.specs.Opening as O
 use Rattle.bridge_rules.specs.Call as B
@@ -44,7 +43,7 @@ pub data Question : Type 0 where
   identifier : (offset kind from to table : ℕ) → Question
   -- the parts of an identifier
   parts : (id : ℕ) → Question
-  -- what three request bytes ask for
+  -- what three request bytes ask for, and whether their reserved bits are clear
   request : (a b c : ℕ) → Question
   -- what device 0, whose table 7 has these bytes, answers to a frame
   reply : (bytes : List ℕ) → Frame → Question
@@ -124,13 +123,13 @@ table =
     -- "0x20000000 is 1."
     ∷ (parts 0x20000000, unpacked (U.Refused 1))
     -- "`06 10 02` asks two bytes to table 6, offset 128;"
-    ∷ (request 0x06 0x10 0x02, asked (A.Is (record { table = 6; offset = 128; count = 2 })))
+    ∷ (request 0x06 0x10 0x02, asked (record { request = record { table = 6; offset = 128; count = 2 }; clear = 1 }))
     -- "bytes 0B B8 come back under 0x20102B0." The request's identifier is that of the first row
-    ∷ (reply (0 ∷ 0 ∷ 0 ∷ 0 ∷ 0 ∷ 0 ∷ 0x0B ∷ 0xB8 ∷ []) (frameWith 0x18A838 (0x06 ∷ 0x10 ∷ 0x02 ∷ [])), served (answerWith (frameWith 0x20102B0 (0x0B ∷ 0xB8 ∷ []))))
-    -- "`06 10 12` is 6."
-    ∷ (request 0x06 0x10 0x12, asked (A.Refused 6))
+    ∷ (reply (0 ∷ 0 ∷ 0 ∷ 0 ∷ 0 ∷ 0 ∷ 0x0B ∷ 0xB8 ∷ []) (frameWith 0x18A838 (0x06 ∷ 0x10 ∷ 0x02 ∷ [])), served (answerWith 1 (frameWith 0x20102B0 (0x0B ∷ 0xB8 ∷ []))))
+    -- "`06 10 12` is 6." 02, C-16: it "is now a request for two bytes", to table 6, offset 128, not clear
+    ∷ (request 0x06 0x10 0x12, asked (record { request = record { table = 6; offset = 128; count = 2 }; clear = 0 }))
     -- "`1F FF E8`: table 31, offset 2,047, count 8."
-    ∷ (request 0x1F 0xFF 0xE8, asked (A.Is (record { table = 31; offset = 2047; count = 8 })))
+    ∷ (request 0x1F 0xFF 0xE8, asked (record { request = record { table = 31; offset = 2047; count = 8 }; clear = 1 }))
     -- "Bridge 0 reads 10 bytes, device 5, table 7, offset 6: first 0x1882B8 `06 00 08`;"
     ∷ (turn 0 (read ∷ []), sends (frameWith 0x1882B8 (0x06 ∷ 0x00 ∷ 0x08 ∷ [])))
     -- "after reply 0x12830, 0x3882B8 `06 01 02`."
@@ -147,6 +146,6 @@ table =
     ∷ (shown U08 (f32 (pos 2) (pos 1)) (f32 (pos 5) (pos 1)) (10 ∷ []), whole (pos 30))
     ∷ []
 
--- the definitions answer each question as 01 does
+-- the definitions answer each question as the papers do
 abbrev pub Reckonings : Type 0
 Reckonings = map (λ (r : Question × Answer). compute (r .0)) table ≡ map (λ (r : Question × Answer). r .1) table

@@ -5,25 +5,26 @@ use Prim.Native.Nat.{_≤_}
 use native.Mathlib.Omega.{arith}
 use mathlib.Core.Path.{sym, ap}
 use lib.Seq.{length-take-le}
-use Rattle.bus_rules.specs.declared.Request.{Request}
-use Rattle.bus_rules.specs.Holder.{byteOf, requestAt}
+use Rattle.bus_rules.specs.declared.RequestRead.{RequestRead}
+use Rattle.bus_rules.specs.Holder.{byteOf, readAt, requestAt}
+use Rattle.bus_rules.proofs.RequestLaws.{read-request-holds}
 
 -- at most five bytes are asked for
-few : (c : tie.After-request-of) → c .request-of .result .count ≤ 5
-unfolding requestAt byteOf
-few c = omega (arith, c .before .before .before .before .pre .2, ap (λ (q : Request). q .count) (c .request-of .ensures .0))
+few : (c : tie.After-read-request) → c .read-request .result .request .count ≤ 5
+unfolding requestAt readAt byteOf
+few c = omega (arith, c .before .before .before .before .pre .2, ap (λ (q : RequestRead). q .request .count) (c .read-request .ensures .0))
 
-element-copy-out-request-of : tie.Need-element-copy-out-request-of
-element-copy-out-request-of c = search needs
+element-copy-out-read-request : tie.Need-element-copy-out-read-request
+element-copy-out-read-request c = search needs
 
-element-copy-out-request-of-2 : tie.Need-element-copy-out-request-of-2
-element-copy-out-request-of-2 c = search needs
+element-copy-out-read-request-2 : tie.Need-element-copy-out-read-request-2
+element-copy-out-read-request-2 c = search needs
 
-element-copy-out-request-of-3 : tie.Need-element-copy-out-request-of-3
-element-copy-out-request-of-3 c = search needs
+element-copy-out-read-request-3 : tie.Need-element-copy-out-read-request-3
+element-copy-out-read-request-3 c = search needs
 
-request-of-requires : tie.Need-request-of-requires
-request-of-requires c κs = search needs
+read-request-requires : tie.Need-read-request-requires
+read-request-requires c κs = search needs
 
 protocol-of-requires : tie.Need-protocol-of-requires
 protocol-of-requires c κs = search needs
@@ -41,21 +42,22 @@ reply-requires : tie.Need-reply-requires
 reply-requires c κs =
     let q = c .before .before .before in
     let p = q .before .before .before .before .pre in
-    let l = length-take-le (q .request-of .result .count) (c .before .before .protocol-of .result) (omega (arith, few q)) in
-    (p .0, p .1, q .request-of .ensures .1, q .request-of .ensures .2, omega (arith, l, few q))
+    let h = read-request-holds (q .read-request .result) (q .read-request .ensures .1) in
+    let l = length-take-le (q .read-request .result .request .count) (c .before .before .protocol-of .result) (omega (arith, few q)) in
+    (p .0, p .1, h .table, h .offset, omega (arith, l, few q))
 
 returns : tie.Need-returns
-unfolding requestAt byteOf
-returns c = rw (c .before .before .before .before .request-of .ensures .0, c .before .before .before .protocol-of .ensures) at (c .reply .ensures)
+unfolding requestAt readAt byteOf
+returns c = rw (c .before .before .before .before .read-request .ensures .0, c .before .before .before .protocol-of .ensures) at (c .reply .ensures)
 
 pub answer-query-spec : {M : Type 1} → statement M
 answer-query-spec =
     tie.close
     (tie.spec
-    element-copy-out-request-of
-    element-copy-out-request-of-2
-    element-copy-out-request-of-3
-    request-of-requires
+    element-copy-out-read-request
+    element-copy-out-read-request-2
+    element-copy-out-read-request-3
+    read-request-requires
     protocol-of-requires
     cast-n
     array-share-prefix-bytes

@@ -4,8 +4,8 @@ use Rattle.bus.proofs.holder.kind_number.Tie as tie
 use mathlib.Core.Path.{_≡_, sym, _∙_}
 use Rattle.bus_rules.specs.Ident.{idKind}
 use Rattle.bus_rules.specs.Frames.{cmd, req, xtnd}
-use Rattle.bus_rules.specs.Request.{requestOf}
-use Rattle.bus_rules.specs.Holder.{byteOf, reservedAt, requestAt}
+use Rattle.bus_rules.specs.Request.{requestOf, readRequestOf}
+use Rattle.bus_rules.specs.Holder.{byteOf, readAt, requestAt}
 use Rattle.bus_rules.proofs.IdentLaws.{AreParts, are-parts}
 use Rattle.bus_rules.proofs.Cases.{command-case, request-case, query-case, other-case}
 
@@ -22,15 +22,6 @@ is-command c = sym (parts (c .before .before .before .before) .kind) ∙ c .if2 
 is-request : (c : tie.Then3) → idKind (c .before .before .before .before .before .before .args .t3 .id) ≡ req
 is-request c = sym (parts (c .before .before .before .before .before .before) .kind) ∙ c .if3 .taken
 
-element-copy-out-is-reserved : tie.Need-element-copy-out-is-reserved
-element-copy-out-is-reserved c = search needs
-
-element-copy-out-is-reserved-2 : tie.Need-element-copy-out-is-reserved-2
-element-copy-out-is-reserved-2 c = search needs
-
-is-reserved-requires : tie.Need-is-reserved-requires
-is-reserved-requires c κs = search needs
-
 element-copy-out-query-number : tie.Need-element-copy-out-query-number
 element-copy-out-query-number c = search needs
 
@@ -41,10 +32,8 @@ query-number-requires : tie.Need-query-number-requires
 query-number-requires c κs = search needs
 
 returns : tie.Need-returns
-unfolding byteOf reservedAt requestAt requestOf
-returns c = λ e s r.
-    (rw (c .before .before .before .is-reserved .ensures) at (c .query-number .ensures))
-    ∙ sym (query-case e _ (is-query (c .before .before .before .before .before .before)))
+unfolding byteOf readAt requestAt readRequestOf requestOf
+returns c = λ e s r. c .query-number .ensures ∙ sym (query-case e _ (is-query (c .before .before .before)))
 
 command-number-requires : tie.Need-command-number-requires
 command-number-requires c κs = search needs
@@ -54,15 +43,6 @@ returns-2 c = λ e s r.
     let p = parts (c .before .before .before .before .before) in
     (rw (p .offset, s, r) at (c .command-number .ensures)) ∙ sym (command-case e _ (is-command (c .before)))
 
-element-copy-out-is-reserved-3 : tie.Need-element-copy-out-is-reserved-3
-element-copy-out-is-reserved-3 c = search needs
-
-element-copy-out-is-reserved-4 : tie.Need-element-copy-out-is-reserved-4
-element-copy-out-is-reserved-4 c = search needs
-
-is-reserved-requires-2 : tie.Need-is-reserved-requires-2
-is-reserved-requires-2 c κs = search needs
-
 element-copy-out-request-number : tie.Need-element-copy-out-request-number
 element-copy-out-request-number c = search needs
 
@@ -70,11 +50,11 @@ request-number-requires : tie.Need-request-number-requires
 request-number-requires c κs = search needs
 
 returns-3 : tie.Need-returns-3
-unfolding byteOf reservedAt requestAt requestOf
+unfolding byteOf readAt requestAt readRequestOf requestOf
 returns-3 c = λ e s r.
-    let at = c .before .before .before .before .before in
+    let at = c .before .before in
     let p = parts (at .before .before .before .before .before .before) in
-    (rw (c .before .before .is-reserved2 .ensures, p .offset, s, r) at (c .request-number .ensures)) ∙ sym (request-case e _ (is-request at))
+    (rw (p .offset, s, r) at (c .request-number .ensures)) ∙ sym (request-case e _ (is-request at))
 
 returns-4 : tie.Need-returns-4
 returns-4 c = λ e s r.
@@ -86,18 +66,12 @@ pub kind-number-spec : {M : Type 1} → statement M
 kind-number-spec =
     tie.close
     (tie.spec
-    element-copy-out-is-reserved
-    element-copy-out-is-reserved-2
-    is-reserved-requires
     element-copy-out-query-number
     element-copy-out-query-number-2
     query-number-requires
     returns
     command-number-requires
     returns-2
-    element-copy-out-is-reserved-3
-    element-copy-out-is-reserved-4
-    is-reserved-requires-2
     element-copy-out-request-number
     request-number-requires
     returns-3

@@ -27,10 +27,6 @@ returns-6 : tie.Need-returns-6
 unfolding queryNumber
 returns-6 c = search order depth 20
 
-returns-7 : tie.Need-returns-7
-unfolding queryNumber
-returns-7 c = search order depth 20
-
 pub query-number-spec : {M : Type 1} → statement M
 query-number-spec =
-    tie.close (tie.spec returns returns-2 returns-3 returns-4 returns-5 returns-6 returns-7)
+    tie.close (tie.spec returns returns-2 returns-3 returns-4 returns-5 returns-6)

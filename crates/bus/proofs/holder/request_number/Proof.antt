@@ -24,20 +24,16 @@ returns-5 : tie.Need-returns-5
 unfolding requestNumber
 returns-5 c = search order depth 20
 
+add-if6 : tie.Need-add-if6
+add-if6 c = search needs
+
 returns-6 : tie.Need-returns-6
 unfolding requestNumber
 returns-6 c = search order depth 20
 
-add-if7 : tie.Need-add-if7
-add-if7 c = search needs
-
 returns-7 : tie.Need-returns-7
 unfolding requestNumber
 returns-7 c = search order depth 20
-
-returns-8 : tie.Need-returns-8
-unfolding requestNumber
-returns-8 c = search order depth 20
 
 pub request-number-spec : {M : Type 1} → statement M
 request-number-spec =
@@ -48,7 +44,6 @@ request-number-spec =
     returns-3
     returns-4
     returns-5
+    add-if6
     returns-6
-    add-if7
-    returns-7
-    returns-8)
+    returns-7)

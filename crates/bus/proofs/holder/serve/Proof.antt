@@ -20,7 +20,8 @@ use Rattle.bus_rules.specs.Demand2.{Demand2}
 use Rattle.bus_rules.proofs.IdentLaws.{are-parts, table-small}
 use Rattle.bus_rules.proofs.Cases.{served-case, refused-case, device-after}
 use Rattle.bus_rules.specs.Examples.{Examples}
-use Rattle.bus_rules.proofs.Demand2.{IsFrame, demand2}
+use Rattle.bus_rules.proofs.FrameLaws.{IsFrame}
+use Rattle.bus_rules.proofs.Demand2.{demand2}
 use Rattle.bus_rules.proofs.AllExamples.{examples}
 
 -- the device before the call
