@@ -319,7 +319,7 @@ static uint64_t buffers_digest(uint64_t h) { return mixed_bytes(mixed_bytes(h, f
             V##_serve(&directory, memory, sizeof memory, &frames[i], &s); \
             a += s.number + s.frame.id; \
             if (check) \
-                a = answer_digest(a, s.number, s.frames, &s.frame); \
+                a = mixed(answer_digest(a, s.number, s.frames, &s.frame), s.clear); \
         } \
         return check ? mixed_bytes(a, memory, sizeof memory) : a; \
     } \

@@ -48,7 +48,7 @@ static uint8_t head_number(uint8_t own, const hg_frame *f)
 
 static void no_frame(hg_served *out, uint8_t number)
 {
-    *out = (hg_served){number, 0, {0, 0, {0}}};
+    *out = (hg_served){number, 0, 0, {0, 0, {0}}};
 }
 
 /* ---- Table holder ---- */
@@ -75,12 +75,14 @@ static size_t place_of(const hg_directory *d, uint32_t id)
     return at;
 }
 
+/* The request's reserved bits are ignored; `clear` says whether they are 0. */
 static void reply(const hg_directory *d, const hg_frame *f, const uint8_t *request, const uint8_t *bytes, hg_served *out)
 {
     uint8_t count = request[2] & 15;
     out->number = 0;
     out->frames = 1;
-    out->frame.id = id_of(request[1] * 8u + (request[2] >> 5), HG_RSP, d->own, from_of(f->id), request[0]);
+    out->clear = ((request[0] & 0xE0) | (request[2] & 0x10)) == 0;
+    out->frame.id = id_of(request[1] * 8u + (request[2] >> 5), HG_RSP, d->own, from_of(f->id), request[0] & 31);
     out->frame.len = count;
     for (unsigned i = 0; i < 8; i++)
         out->frame.bytes[i] = i < count ? bytes[i] : 0;
@@ -102,7 +104,7 @@ static uint8_t serve_command(const hg_directory *d, uint8_t *memory, const hg_fr
 static uint8_t serve_request(const hg_directory *d, const uint8_t *memory, const hg_frame *f, hg_served *out)
 {
     unsigned table = table_of(f->id), count = f->bytes[2] & 15;
-    if (f->len != 3 || f->bytes[0] > 31 || (f->bytes[2] & 16))
+    if (f->len != 3)
         return 6;
     if (d->sizes[table] == 0 || d->rights[table] == 0)
         return 7;
@@ -121,7 +123,7 @@ static uint8_t serve_query(const hg_directory *d, const hg_frame *f, hg_served *
         return 6;
     if (f->bytes[0] != 0x80)
         return 5;
-    if (f->len != 4 || f->bytes[1] > 31 || (f->bytes[3] & 16))
+    if (f->len != 4)
         return 6;
     if (count != 1 && count != 5)
         return 9;

@@ -48,7 +48,8 @@ static void identifiers(void) {
 
 static void requests(void) {
     CALL(hg_bus_read_request, .first = 0x16, .second = 0x9A, .third = 0x4B);
-    CALL(hg_bus_read_request, .first = 0x16, .second = 0x9A, .third = 0x5B);
+    CALL(hg_bus_read_request, .first = 0x16, .second = 0x9A, .third = 0x5B); /* bit 4 set */
+    CALL(hg_bus_read_request, .first = 0xB6, .second = 0x9A, .third = 0x4B); /* two of the top bits */
     CALL(hg_bus_request_bytes, .request = {.table = 22, .count = 11, .offset = 1234});
     CALL(hg_bus_request_bytes, .request = {.table = 22, .count = 16, .offset = 1234});
 }
@@ -66,18 +67,21 @@ static void holder(void) {
     uint8_t memory[50];
     hg_parts to_22 = {.offset = 17, .kind = HG_CMD, .from = 3, .to = 9, .table = 22};
     hg_frame command = framed(to_22, "store", 5);
-    hg_frame request, query;
-    to_22.kind = HG_REQ;
-    request = framed(to_22, "\x04\x25\x86", 3); /* six bytes, to table 4 and offset 300 */
-    to_22.kind = HG_XTND;
-    query = framed(to_22, "\x80\x04\x25\x85", 4);
+    hg_parts request = to_22, query = to_22;
+    request.kind = HG_REQ, query.kind = HG_XTND;
     directory.sizes[3] = 20, directory.rights[3] = 1;
     directory.sizes[22] = 30, directory.rights[22] = 2;
     unsound = directory, unsound.own = 16;
     fill(memory, sizeof memory, 1);
     CALL(hg_bus_serve, .directory = directory, .memory = memory, .len = sizeof memory, .frame = command);
-    CALL(hg_bus_serve, .directory = directory, .memory = memory, .len = sizeof memory, .frame = request);
-    CALL(hg_bus_serve, .directory = directory, .memory = memory, .len = sizeof memory, .frame = query);
+    /* six bytes, to table 4 and offset 300; the same with bit 4 set, and with two of the top bits; nine bytes */
+    CALL(hg_bus_serve, .directory = directory, .memory = memory, .len = sizeof memory, .frame = framed(request, "\x04\x25\x86", 3));
+    CALL(hg_bus_serve, .directory = directory, .memory = memory, .len = sizeof memory, .frame = framed(request, "\x04\x25\x96", 3));
+    CALL(hg_bus_serve, .directory = directory, .memory = memory, .len = sizeof memory, .frame = framed(request, "\xA4\x25\x86", 3));
+    CALL(hg_bus_serve, .directory = directory, .memory = memory, .len = sizeof memory, .frame = framed(request, "\x04\x25\x89", 3));
+    CALL(hg_bus_serve, .directory = directory, .memory = memory, .len = sizeof memory, .frame = framed(query, "\x80\x04\x25\x85", 4));
+    CALL(hg_bus_serve, .directory = directory, .memory = memory, .len = sizeof memory, .frame = framed(query, "\x80\x04\x25\x95", 4));
+    CALL(hg_bus_serve, .directory = directory, .memory = memory, .len = sizeof memory, .frame = framed(query, "\x80\xA4\x25\x85", 4));
     CALL(hg_bus_serve, .directory = unsound, .memory = memory, .len = sizeof memory, .frame = command);
     CALL(hg_bus_serve, .directory = directory, .memory = memory, .len = sizeof memory - 1, .frame = command);
     command.len = 9;

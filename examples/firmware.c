@@ -6,9 +6,11 @@
  * bridge shows are compared with the device's tables; the program exits 1 where they differ.
  * Then come three checked writes: the device takes what it is sent, is unplugged, and misses a CMD. A plain write would be done in all
  * three, since that means sent, no more.
- * Last comes a slow answer to a read that was closed meanwhile, which no other read may take for its own: a slot rests for 60 turns after
+ * Then comes a slow answer to a read that was closed meanwhile, which no other read may take for its own: a slot rests for 60 turns after
  * each REQ, so the next reads get other slots. Once all free slots rest an opening is refused with number 19; the dash takes turns and tries
  * again.
+ * Last, a board (number 2) asks the device the same twice, once with a reserved bit of the request set. It gets the same answer; the device
+ * keeps count of each sender's requests, and of those whose reserved bits were clear.
  *
  *     gcc -std=c11 -Iinclude examples/firmware.c target/staticlib/libhoneygimlet.a -o target/firmware
  */
@@ -20,7 +22,7 @@
 #include <stdlib.h>
 #include <string.h>
 
-enum { DASH = 0, DEVICE = 5, OTHER = 9 };
+enum { DASH = 0, BOARD = 2, DEVICE = 5, OTHER = 9 };
 enum { READ_TABLE = 7, READ_OFFSET = 64, READ_COUNT = 128 };
 enum { WRITE_TABLE = 3, WRITE_OFFSET = 6, WRITE_COUNT = 20 };
 
@@ -79,6 +81,7 @@ static void device_start(void)
 static bool unplugged;  /* nothing reaches the device */
 static unsigned missed; /* which CMD from now on the device misses, counted from 1; 0: none */
 static unsigned slow;   /* how many turns late its next reply is */
+static unsigned answered[16], clear[16]; /* each sender's requests that it answered, and those of them whose reserved bits were clear */
 
 /* Serves a frame. The third reply is lost, the sixth arrives 25 turns late. */
 static void device_frame(unsigned turn, hg_frame frame)
@@ -93,6 +96,9 @@ static void device_frame(unsigned turn, hg_frame frame)
     hg_served served = hg_bus_serve(directory, memory, sizeof memory, frame);
     if (!served.frames)
         return;
+    uint8_t from = hg_bus_unpack(frame.id).parts.from;
+    answered[from]++;
+    clear[from] += served.clear;
     replies++;
     if (replies == 3)
         printf("turn %3u  bus     loses the reply 0x%08" PRIX32 "\n", turn, served.frame.id);
@@ -121,6 +127,30 @@ static void other_turn(unsigned turn)
         other_sends(turn, (hg_parts){.offset = 0, .kind = HG_REQ, .from = OTHER, .to = DASH, .table = 6}, 3);
     if (turn == 9) /* to somebody else: 4 */
         other_sends(turn, (hg_parts){.offset = 0, .kind = HG_RSP, .from = OTHER, .to = 1, .table = 6}, 8);
+}
+
+/* ---- The board: asks the device too, and keeps the last reply to it ---- */
+
+static hg_frame board_got;
+
+/* Asks for two bytes of table 7, with bits set in the third request byte that packing leaves 0. */
+static void board_asks(unsigned turn, uint16_t offset, uint8_t bits)
+{
+    hg_packed packed = hg_bus_pack((hg_parts){.offset = offset, .kind = HG_REQ, .from = BOARD, .to = DEVICE, .table = READ_TABLE});
+    hg_request_bytes asked = hg_bus_request_bytes((hg_request){.table = 6, .count = 2, .offset = 128});
+    hg_frame frame = {packed.id, 3, {asked.bytes[0], asked.bytes[1], asked.bytes[2] | bits}};
+    printf("turn %3u  board   REQ 0x%08" PRIX32 ": request bytes %02X %02X %02X\n", turn, frame.id, frame.bytes[0], frame.bytes[1],
+           frame.bytes[2]);
+    board_got = (hg_frame){0};
+    if (packed.number == 0 && asked.number == 0)
+        bus_send(turn + 1, BOARD, frame);
+}
+
+static void board_frame(hg_frame frame)
+{
+    hg_parts parts = hg_bus_unpack(frame.id).parts;
+    if (parts.to == BOARD && parts.kind == HG_RSP)
+        board_got = frame;
 }
 
 /* ---- The dash: one bridge and its two buffers, in the loop's own storage ---- */
@@ -203,6 +233,8 @@ static void loop_turn(void)
             device_frame(turn, event.frame);
         if (event.sender != DASH)
             dash_frame(event.frame);
+        if (event.sender != BOARD)
+            board_frame(event.frame);
     }
 }
 
@@ -328,6 +360,27 @@ static bool late_answer(void)
     return read_eight(last, 250);
 }
 
+/* The board asks, and is answered two turns later; false where that is not the table's two bytes. */
+static bool board_read(uint16_t offset, uint8_t bits)
+{
+    board_asks(turn, offset, bits);
+    loop_turn();
+    loop_turn();
+    bool same = board_got.len == 2 && memcmp(board_got.bytes, read_table + offset, 2) == 0;
+    printf("turn %3u  board   takes  0x%08" PRIX32 ": %u bytes, %s\n", turn, board_got.id, board_got.len, same ? "the table's" : "NOT the table's");
+    return same;
+}
+
+/* Bit 4 of the third request byte is set, then not; false where an answer is wrong, or what the device counted. */
+static bool reserved_bit(void)
+{
+    if (!board_read(READ_OFFSET, 0x10) || !board_read(READ_OFFSET, 0))
+        return false;
+    printf("          device  answered %u requests of the dash, %u of them clear; %u of the board, %u of them clear\n", answered[DASH], clear[DASH],
+           answered[BOARD], clear[BOARD]);
+    return clear[DASH] == answered[DASH] && answered[BOARD] == 2 && clear[BOARD] == 1;
+}
+
 int main(void)
 {
     device_start();
@@ -344,5 +397,5 @@ int main(void)
     if (!check("fuel map six", HG_DIFFERENT))
         return 1;
     rested_reset();
-    return late_answer() ? 0 : 1;
+    return late_answer() && reserved_bit() ? 0 : 1;
 }

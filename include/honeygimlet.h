@@ -13,7 +13,7 @@
  * them different memory do not meet. No call's time grows with a product of two lengths. What it grows with, and the bytes of stack
  * that a call takes at most, beside its arguments, its answer and what memcpy takes (the first row that fits):
  *
- *   hg_bus_*                                  nothing                               180
+ *   hg_bus_*                                  nothing                               192
  *   hg_bridge_*                               nothing                               733
  *   hg_mlg_read_block                         record length                          72
  *   hg_mlg_write_data                         record length                          16
@@ -50,7 +50,7 @@ enum {
     HG_FRAME_TOO_LONG = 3,   /* frame length over 8 */
     HG_OTHER_DEVICE = 4,     /* to another device */
     HG_TYPE = 5,             /* type not served */
-    HG_REQUEST_BITS = 6,     /* length or reserved request bits wrong */
+    HG_WRONG_LENGTH = 6,     /* length of a frame wrong for its type */
     HG_NO_RIGHT = 7,         /* table empty, or lacks the right; device or table out of range */
     HG_RANGE = 8,            /* range past the table's end; offset, or offset and count, too large */
     HG_COUNT = 9,            /* count not allowed */
@@ -121,7 +121,7 @@ HG_SIZE(hg_request, 4);
 
 typedef struct {
     hg_request request;
-    uint8_t number;
+    uint8_t clear; /* 1 if the reserved bits were 0, else 0 */
 } hg_request_read;
 HG_SIZE(hg_request_read, 6);
 
@@ -137,10 +137,16 @@ hg_packed hg_bus_pack(hg_parts parts);
 /* The parts of an identifier. Numbers: 1, 2. */
 hg_unpacked hg_bus_unpack(uint32_t id);
 
-/* The request in three bytes. Number: 6 (a reserved bit is set). */
+/*
+ * The request in three bytes. Their reserved bits, the top three of the first and bit 4 of the third, are ignored; `clear` is 1 if all four
+ * were 0, else 0. It refuses nothing.
+ */
 hg_request_read hg_bus_read_request(uint8_t first, uint8_t second, uint8_t third);
 
-/* The three bytes of a request. Numbers: 7 (table over 31), 9 (count over 15), 8 (offset over 2,047). */
+/*
+ * The three bytes of a request, with the reserved bits 0: those of a request that was read are the bytes it was read from exactly where
+ * `clear` was 1. Numbers: 7 (table over 31), 9 (count over 15), 8 (offset over 2,047).
+ */
 hg_request_bytes hg_bus_request_bytes(hg_request request);
 
 /* ---- Table holder ---- */
@@ -155,10 +161,11 @@ typedef struct {
 } hg_directory;
 HG_SIZE(hg_directory, 102);
 
-/* An answer: a number, how many frames it has (0 or 1), and the frame, all 0 where there is none. */
+/* An answer: a number, how many frames it has (0 or 1), the mark `clear`, and the frame, all 0 where there is none. */
 typedef struct {
     uint8_t number;
     uint8_t frames;
+    uint8_t clear; /* 1 if a REQ or a protocol query was answered and its reserved bits were 0, else 0 */
     hg_frame frame;
 } hg_served;
 HG_SIZE(hg_served, 20);
@@ -166,8 +173,11 @@ HG_SIZE(hg_served, 20);
 /*
  * What a holder of tables does with a frame. `len` is the sum of the sizes.
  * CMD (length 1..8, right 2) stores its bytes at the offset of the table and has no answer; REQ (length 3, count 1..8, right 1
- * or 2) answers with an RSP of the table's bytes; XTND with the first byte 0x80 (length 4, count 1 or 5) answers with the
- * protocol's version, or that and the two blocking factors.
+ * or 2) answers with an RSP of the table's bytes; XTND with the first byte 0x80, the protocol query (length 4, request bytes after the
+ * first, count 1 or 5), answers with the protocol's version, or that and the two blocking factors.
+ * Reserved bits of a request are ignored, as by hg_bus_read_request: a set one changes `clear` and nothing else of the answer. `clear` is
+ * 1 where a REQ or a protocol query was answered and its reserved bits were 0; it is 0 where one was set, for every other frame, and in
+ * every refusal.
  * Numbers: 11, 10, 1, 2, 3, 4, 5, 6, 7, 9, 8, save that XTND of length 0 is 6.
  * Changes the addressed bytes of memory for a CMD answered 0, and nothing else.
  */

@@ -50,11 +50,12 @@ pub struct Request {
     pub offset: u16,
 }
 
+/// `clear` is 1 if all reserved bits were 0, else 0.
 #[repr(C)]
 #[derive(Clone, Copy, Debug, Default, PartialEq, Eq)]
 pub struct RequestRead {
     pub request: Request,
-    pub number: u8,
+    pub clear: u8,
 }
 
 #[repr(C)]
@@ -74,11 +75,13 @@ pub struct Directory {
     pub own: u8,
 }
 
+/// `clear` is 1 for an answered REQ or protocol query whose reserved bits were 0, else 0.
 #[repr(C)]
 #[derive(Clone, Copy, Debug, Default, PartialEq, Eq)]
 pub struct Served {
     pub number: u8,
     pub frames: u8,
+    pub clear: u8,
     pub frame: Frame,
 }
 

@@ -3,7 +3,7 @@
 use crate::abi::*;
 use crate::judge::Judge;
 use crate::kinds::KINDS;
-use crate::model::{bridge, counter_after, identifier, mlg, value};
+use crate::model::{bridge, counter_after, identifier, mlg, value, CMD, REQ, XTND};
 use crate::rng::Rng;
 use crate::side::{Buffers, BuffersMut, Model, Side};
 
@@ -28,8 +28,21 @@ faults! {
     // identifier and request bytes
     SpareBitsBefore2To29,
     RefusedPartsShown,
-    ReservedBitIgnored,
     CountOver8InRequestBytes,
+    // reserved bits of a request, read by itself
+    TableReadWithTopBits,
+    CountReadWithBit4,
+    NothingReadUnlessClear,
+    ReadAlwaysClear,
+    ReadNeverClear,
+    ReadClearExchanged,
+    ReadClearByTopBitsAlone,
+    ReadClearByBit4Alone,
+    ReadClearUnlessBothAreSet,
+    ReadClearByBits5And6Alone,
+    ReadClearByBit7Alone,
+    TopBitPacked,
+    Bit4Packed,
     // holder
     MemoryLengthBefore11,
     TotalOf32769,
@@ -39,6 +52,38 @@ faults! {
     XtndLength0Is5,
     GarbagePastReply,
     CmdClearsLastByte,
+    // reserved bits of a REQ or a query, and the mark beside its answer
+    ReplyTableWithTopBits,
+    TopBitsAre7,
+    Bit4IsCounted,
+    ReqWithTopBitsIs6,
+    ReqWithBit4Is6,
+    QueryWithTopBitsIs6,
+    QueryWithBit4Is6,
+    ReservedBitsOfRefusedAre6,
+    NotClearIsSilent,
+    AnswerNeverClear,
+    AnswerAlwaysClear,
+    ReqNeverClear,
+    ReqAlwaysClear,
+    QueryNeverClear,
+    QueryAlwaysClear,
+    AnswerClearExchanged,
+    AnswerClearByTopBitsAlone,
+    AnswerClearByBit4Alone,
+    AnswerClearUnlessBothAreSet,
+    AnswerClearByBits5And6Alone,
+    AnswerClearByBit7Alone,
+    QueryReadFromByte0,
+    QueryClearByByte2,
+    ReqClearAsAQuery,
+    CmdIsClear,
+    CmdClearAsAReq,
+    ReqWithoutRightIsClear,
+    ReqPastTheEndIsClear,
+    ReqOfNoCountIsClear,
+    QueryOfNoCountIsClear,
+    RefusedFramesAreClear,
     // bridge
     BufferBeforeState,
     OpensWithTicket0AtEnd,
@@ -230,6 +275,88 @@ impl Faulty {
     }
 }
 
+/// Whether the reserved bits of request bytes are set: the top three of the first, bit 4 of the third.
+fn reserved(bytes: &[u8]) -> (bool, bool) {
+    (bytes[0] & 0xE0 != 0, bytes[2] & 0x10 != 0)
+}
+
+/// What this side reads in three bytes; `read` is the model's.
+fn read_with(fault: Fault, bytes: [u8; 3], mut read: RequestRead) -> RequestRead {
+    let (top, bit_4) = reserved(&bytes);
+    let [first, _, third] = bytes;
+    match fault {
+        TableReadWithTopBits => read.request.table = first,
+        CountReadWithBit4 => read.request.count = third % 32,
+        NothingReadUnlessClear if read.clear == 0 => read.request = Request::default(),
+        _ => {}
+    }
+    let clear = match fault {
+        ReadAlwaysClear => true,
+        ReadNeverClear => false,
+        ReadClearExchanged => read.clear == 0,
+        ReadClearByTopBitsAlone => !top,
+        ReadClearByBit4Alone => !bit_4,
+        ReadClearUnlessBothAreSet => !(top && bit_4),
+        ReadClearByBits5And6Alone => first & 0x60 == 0 && !bit_4,
+        ReadClearByBit7Alone => first < 128 && !bit_4,
+        _ => read.clear == 1,
+    };
+    RequestRead { clear: clear as u8, ..read }
+}
+
+/// The request bytes of a frame that has them: a REQ, or a protocol query.
+fn request_bytes_of(kind: u8, frame: &Frame) -> Option<&[u8]> {
+    match (kind, frame.len, frame.bytes[0]) {
+        (REQ, 3, _) => Some(&frame.bytes[..3]),
+        (XTND, 4, 0x80) => Some(&frame.bytes[1..4]),
+        _ => Option::None,
+    }
+}
+
+/// The mark of this side beside an answer to request bytes; `clear` is the model's.
+fn clear_beside(fault: Fault, kind: u8, frame: &Frame, bytes: &[u8], clear: bool) -> bool {
+    let (top, bit_4) = reserved(bytes);
+    match (fault, kind) {
+        (AnswerNeverClear, _) | (ReqNeverClear, REQ) | (QueryNeverClear, XTND) => false,
+        (AnswerAlwaysClear, _) | (ReqAlwaysClear, REQ) | (QueryAlwaysClear, XTND) => true,
+        (AnswerClearExchanged, _) => !clear,
+        (AnswerClearByTopBitsAlone, _) => !top,
+        (AnswerClearByBit4Alone, _) => !bit_4,
+        (AnswerClearUnlessBothAreSet, _) => !(top && bit_4),
+        (AnswerClearByBits5And6Alone, _) => bytes[0] & 0x60 == 0 && !bit_4,
+        (AnswerClearByBit7Alone, _) => bytes[0] < 128 && !bit_4,
+        (QueryClearByByte2, XTND) => !top && frame.bytes[2] & 0x10 == 0,
+        (ReqClearAsAQuery, REQ) => reserved(&frame.bytes[1..4]) == (false, false),
+        _ => clear,
+    }
+}
+
+/// What this side answers to a frame with request bytes; `answer` is the model's.
+fn answer_with(fault: Fault, kind: u8, frame: &Frame, bytes: &[u8], mut answer: Served) -> Served {
+    let (top, bit_4) = reserved(bytes);
+    let refused = |number| Served { number, ..Served::default() };
+    match (fault, answer.number) {
+        (TopBitsAre7, 0) if top => return refused(7),
+        (Bit4IsCounted, 0 | 8) if bit_4 => return refused(9),
+        (ReqWithTopBitsIs6, 0) if top && kind == REQ => return refused(6),
+        (ReqWithBit4Is6, 0) if bit_4 && kind == REQ => return refused(6),
+        (QueryWithTopBitsIs6, 0) if top && kind == XTND => return refused(6),
+        (QueryWithBit4Is6, 0) if bit_4 && kind == XTND => return refused(6),
+        (ReservedBitsOfRefusedAre6, 7..=9) if top || bit_4 => return refused(6),
+        (NotClearIsSilent, 0) if top || bit_4 => return Served::default(),
+        // table bits 4 and up, from identifier bit 2 on
+        (ReplyTableWithTopBits, 0) => answer.frame.id |= (bytes[0] as u32 >> 4) << 2,
+        _ => {}
+    }
+    let clear = match (fault, answer.number, kind) {
+        (_, 0, _) => clear_beside(fault, kind, frame, bytes, answer.clear == 1),
+        (ReqWithoutRightIsClear, 7, _) | (ReqPastTheEndIsClear, 8, _) => !top && !bit_4,
+        (ReqOfNoCountIsClear, 9, REQ) | (QueryOfNoCountIsClear, 9, XTND) => !top && !bit_4,
+        _ => false,
+    };
+    Served { clear: clear as u8, ..answer }
+}
+
 /// The rests after a turn answered 0, of this side: `b` is the state before it, `after` the model's, `sent` whether it yielded a frame.
 fn rests_after(fault: Fault, b: &Bridge, after: &Bridge, sent: bool) -> [u8; 4] {
     let last = after.last as usize;
@@ -387,15 +514,21 @@ impl Side for Faulty {
     }
 
     fn read_request(&self, first: u8, second: u8, third: u8) -> RequestRead {
-        let third = if self.has(ReservedBitIgnored) { third & 0xEF } else { third };
-        Model.read_request(first, second, third)
+        read_with(self.0, [first, second, third], Model.read_request(first, second, third))
     }
 
     fn request_bytes(&self, request: Request) -> RequestBytes {
         if self.has(CountOver8InRequestBytes) && request.table < 32 && request.count > 8 {
             return RequestBytes { number: 9, bytes: [0; 3] };
         }
-        Model.request_bytes(request)
+        let mut answer = Model.request_bytes(request);
+        if self.has(TopBitPacked) && answer.number == 0 {
+            answer.bytes[0] |= 0x80;
+        }
+        if self.has(Bit4Packed) && answer.number == 0 {
+            answer.bytes[2] |= 0x10;
+        }
+        answer
     }
 
     fn serve(&self, mut directory: Directory, memory: &mut [u8], mut frame: Frame) -> Served {
@@ -413,8 +546,21 @@ impl Side for Faulty {
         if self.has(RspServed) && kind == 2 {
             frame.id &= !(7 << 15);
         }
+        if self.has(QueryReadFromByte0) && kind == XTND && frame.bytes[0] == 0x80 {
+            frame.bytes[1..4].rotate_right(1);
+            frame.bytes[1] = 0x80;
+        }
         let before = memory.to_vec();
         let mut answer = Model.serve(directory, memory, frame);
+        if let Some(bytes) = request_bytes_of(kind, &frame) {
+            answer = answer_with(self.0, kind, &frame, bytes, answer);
+        }
+        answer.clear = match (self.0, answer.number) {
+            (CmdIsClear, 0) if kind == CMD => 1,
+            (CmdClearAsAReq, 0) if kind == CMD && frame.len == 3 => (reserved(&frame.bytes) == (false, false)) as u8,
+            (RefusedFramesAreClear, 1..) => 1,
+            _ => answer.clear,
+        };
         if self.has(RangeBeforeCount) && answer.number == 9 && kind == 1 {
             answer.number = 8;
         }

@@ -2,7 +2,7 @@
 
 use crate::abi::*;
 use crate::model::bridge::fresh;
-use crate::model::{CMD, REQ};
+use crate::model::{CMD, REQ, RSP, XTND};
 use crate::side::{Buffers, BuffersMut, Side};
 use std::fmt::Debug;
 
@@ -22,6 +22,8 @@ pub fn all(side: &dyn Side) -> Vec<Reckoning> {
     let mut list = List(Vec::new());
     identifiers(side, &mut list);
     requests(side, &mut list);
+    packing_after_reading(side, &mut list);
+    reserved_bits(side, &mut list);
     wire_examples(side, &mut list);
     ranges(side, &mut list);
     bridge_read(side, &mut list);
@@ -62,20 +64,84 @@ fn identifiers(side: &dyn Side, list: &mut List) {
 }
 
 fn requests(side: &dyn Side, list: &mut List) {
-    let asked = |table, offset, count| RequestRead { request: Request { table, count, offset }, number: 0 };
-    list.add("06 10 02", side.read_request(0x06, 0x10, 0x02), asked(6, 128, 2));
-    list.add("06 10 12", side.read_request(0x06, 0x10, 0x12), RequestRead { number: 6, ..RequestRead::default() });
-    list.add("1F FF E8", side.read_request(0x1F, 0xFF, 0xE8), asked(31, 2047, 8));
+    let asked = |table, offset, count, clear| RequestRead { request: Request { table, count, offset }, clear };
+    list.add("06 10 02", side.read_request(0x06, 0x10, 0x02), asked(6, 128, 2, 1));
+    // 02, C-16: "case `06 10 12` in 01 is now a request for two bytes"
+    list.add("06 10 12", side.read_request(0x06, 0x10, 0x12), asked(6, 128, 2, 0));
+    list.add("1F FF E8", side.read_request(0x1F, 0xFF, 0xE8), asked(31, 2047, 8, 1));
+    for first in [0x26, 0x46, 0x86, 0xE6] {
+        list.add(&format!("{first:02X} 10 02"), side.read_request(first, 0x10, 0x02), asked(6, 128, 2, 0));
+    }
+    list.add("FF FF FF", side.read_request(0xFF, 0xFF, 0xFF), asked(31, 2047, 15, 0));
 
-    // table 7 with 0B B8 at offset 6, asked by device 5 with `06 10 02`
-    let mut directory = Directory::default();
-    directory.sizes[7] = 16;
-    directory.rights[7] = 1;
-    let mut memory = [0; 16];
-    memory[6..8].copy_from_slice(&[0x0B, 0xB8]);
+    let (directory, mut memory) = table_7();
     let answer = side.serve(directory, &mut memory, frame(0x18A838, &[0x06, 0x10, 0x02]));
     let reply = frame(0x20102B0, &[0x0B, 0xB8]);
-    list.add("0B B8 come back under 0x20102B0", answer, Served { number: 0, frames: 1, frame: reply });
+    list.add("0B B8 come back under 0x20102B0", answer, Served { number: 0, frames: 1, clear: 1, frame: reply });
+}
+
+/// Table 7 with 0B B8 at offset 6, to be asked by device 5 with `06 10 02`; blocking factors 0102 and 0304.
+fn table_7() -> (Directory, [u8; 16]) {
+    let mut directory = Directory { table_blocking: 0x0102, write_blocking: 0x0304, ..Directory::default() };
+    (directory.sizes[7], directory.rights[7]) = (16, 1);
+    let mut memory = [0; 16];
+    memory[6..8].copy_from_slice(&[0x0B, 0xB8]);
+    (directory, memory)
+}
+
+/// 02, C-16: "Packing still writes zeros, so packing after reading returns the same bytes only for clear ones."
+fn packing_after_reading(side: &dyn Side, list: &mut List) {
+    let (mut same, mut clear, mut both, mut zeros) = (0, 0, 0, 0);
+    for (first, third) in (0..=255).flat_map(|first| (0..=255).map(move |third| (first, third))) {
+        let second = first ^ third;
+        let read = side.read_request(first, second, third);
+        let packed = side.request_bytes(read.request);
+        let returned = packed.number == 0 && packed.bytes == [first, second, third];
+        same += returned as u32;
+        clear += (read.clear == 1) as u32;
+        both += (returned && read.clear == 1) as u32;
+        zeros += (packed.number == 0 && packed.bytes == [first % 32, second, third & 0xEF]) as u32;
+    }
+    // of 256 first bytes 32 are clear, of 256 third bytes 128
+    list.add("packing after reading returns the same bytes", (same, clear, both), (4096, 4096, 4096));
+    list.add("packing after reading writes zeros", zeros, 65_536);
+}
+
+/// 02, C-16: table 7 asked with the reserved bits clear, with each group set, and with both: a set one changes the mark alone;
+/// "6 no longer covers reserved bits"; the mark is 0 in a refusal, and "for other frames".
+fn reserved_bits(side: &dyn Side, list: &mut List) {
+    let id = |kind| side.pack(Parts { offset: 6, kind, from: 5, to: 0, table: 7 }).id;
+    let (command, request, response, query) = (id(CMD), id(REQ), id(RSP), id(XTND));
+    let (at_15, table_8) = (request + (9 << 18), request + 8);
+    let refused = |number| Served { number, ..Served::default() };
+    let groups = [(0x06, 0, 1), (0x06, 0x10, 0), (0x26, 0, 0), (0x46, 0, 0), (0x86, 0, 0), (0xE6, 0x10, 0)];
+    for (first, bit_4, clear) in groups {
+        let answered = |bytes: &[u8]| Served { number: 0, frames: 1, clear, frame: frame(0x20102B0, bytes) };
+        let cases: [(&str, u32, &[u8], Served); 13] = [
+            ("two bytes", request, &[first, 0x10, bit_4 + 2], answered(&[0x0B, 0xB8])),
+            ("a query of one byte", query, &[0x80, first, 0x10, bit_4 + 1], answered(&[2])),
+            ("a query of five", query, &[0x80, first, 0x10, bit_4 + 5], answered(&[2, 1, 2, 3, 4])),
+            ("nine bytes", request, &[first, 0x10, bit_4 + 9], refused(9)),
+            ("past the end", at_15, &[first, 0x10, bit_4 + 2], refused(8)),
+            ("an empty table", table_8, &[first, 0x10, bit_4 + 2], refused(7)),
+            ("a short request", request, &[first, 0x10], refused(6)),
+            ("a long request", request, &[first, 0x10, bit_4 + 2, 0], refused(6)),
+            ("a query of two", query, &[0x80, first, 0x10, bit_4 + 2], refused(9)),
+            ("a long query", query, &[0x80, first, 0x10, bit_4 + 1, 0], refused(6)),
+            ("no query", query, &[0x0C, first, 0x10, bit_4 + 1], refused(5)),
+            ("an RSP", response, &[first, 0x10, bit_4 + 2], refused(5)),
+            ("a CMD without the right", command, &[first, 0x10, bit_4 + 2], refused(7)),
+        ];
+        for (name, id, bytes, wanted) in cases {
+            let (directory, mut memory) = table_7();
+            let answer = side.serve(directory, &mut memory, frame(id, bytes));
+            list.add(&format!("{name}, {bytes:02X?}"), answer, wanted);
+        }
+    }
+    let (mut directory, mut memory) = table_7();
+    directory.rights[7] = 2;
+    let answer = side.serve(directory, &mut memory, frame(command, &[0x06, 0x10, 0x02]));
+    list.add("the mark of a CMD is 0", (answer, memory[6..9].to_vec()), (Served::default(), vec![0x06, 0x10, 0x02]));
 }
 
 /// Document 002's own examples (4.1, 4.2), whose identifiers are those on the wire: device 7
@@ -95,7 +161,8 @@ fn wire_examples(side: &dyn Side, list: &mut List) {
     ];
     for (name, id, bytes, reply, data) in examples {
         let answer = side.serve(directory, &mut memory, frame(id, &bytes));
-        list.add(&format!("002: {name}"), answer, Served { number: 0, frames: 1, frame: frame(reply, data) });
+        let wanted = Served { number: 0, frames: 1, clear: 1, frame: frame(reply, data) };
+        list.add(&format!("002: {name}"), answer, wanted);
     }
 }
 

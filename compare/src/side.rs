@@ -66,9 +66,9 @@ pub trait Side {
 
 pub struct Model;
 
-fn served(answer: Result<Option<Frame>, Number>) -> Served {
+fn served(answer: Result<Option<holder::Answer>, Number>) -> Served {
     match answer {
-        Ok(Some(frame)) => Served { number: 0, frames: 1, frame },
+        Ok(Some((frame, clear))) => Served { number: 0, frames: 1, clear: clear as u8, frame },
         Ok(None) => Served::default(),
         Err(number) => Served { number, ..Served::default() },
     }
@@ -134,10 +134,8 @@ impl Side for Model {
     }
 
     fn read_request(&self, first: u8, second: u8, third: u8) -> RequestRead {
-        match request::read(first, second, third) {
-            Ok(request) => RequestRead { request, number: 0 },
-            Err(number) => RequestRead { request: Request::default(), number },
-        }
+        let (request, clear) = request::read(first, second, third);
+        RequestRead { request, clear: clear as u8 }
     }
 
     fn request_bytes(&self, request: Request) -> RequestBytes {
@@ -148,9 +146,9 @@ impl Side for Model {
     }
 
     fn serve(&self, directory: Directory, memory: &mut [u8], frame: Frame) -> Served {
-        served(holder::serve(&directory, memory, &frame).map(|(after, frame)| {
+        served(holder::serve(&directory, memory, &frame).map(|(after, answer)| {
             memory.copy_from_slice(&after);
-            frame
+            answer
         }))
     }
 

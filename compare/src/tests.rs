@@ -2,8 +2,9 @@
 //! the customer's demands.
 
 use crate::abi::*;
+use crate::kinds::holder::{random_directory, random_frame};
 use crate::model::bridge::{self, fresh, Buffers};
-use crate::model::{be32, frd, holder, identifier, listing, mlg, request, value, zero_ended, Number, REQ};
+use crate::model::{be32, frd, holder, identifier, listing, mlg, request, value, zero_ended, Number, REQ, XTND};
 use crate::rng::Rng;
 
 #[test]
@@ -22,10 +23,56 @@ fn every_request_is_written_and_read() {
             for offset in 0..2048 {
                 let asked = Request { table, count, offset };
                 let [first, second, third] = request::bytes_of(asked).unwrap();
-                assert_eq!(request::read(first, second, third), Ok(asked));
+                assert_eq!(request::read(first, second, third), (asked, true));
             }
         }
     }
+}
+
+/// 02, C-16: "Packing still writes zeros, so packing after reading returns the same bytes only for clear ones.", for all bytes.
+#[test]
+fn packing_after_reading() {
+    for bytes in 0..1u32 << 24 {
+        let [_, first, second, third] = bytes.to_be_bytes();
+        let (asked, clear) = request::read(first, second, third);
+        let packed = request::bytes_of(asked).unwrap();
+        assert_eq!(packed == [first, second, third], clear);
+        assert_eq!(packed, [first % 32, second, third - third / 16 % 2 * 16]);
+    }
+}
+
+/// 02, C-16: a REQ or a protocol query is answered, or refused, as the same with its reserved bits 0; the mark says whether they were.
+#[test]
+fn reserved_bits_change_the_mark_alone() {
+    let mut rng = Rng::new(1, 105, 0);
+    let (mut marks, mut refused) = ([0; 2], [0; 12]);
+    for _ in 0..20_000 {
+        let directory = random_directory(&mut rng);
+        let memory = rng.bytes(holder::total(&directory));
+        let frame = random_frame(&mut rng, &directory);
+        let at = match (identifier::unpack(frame.id).map(|parts| parts.kind), frame.bytes[0]) {
+            (Ok(REQ), _) => 0,
+            (Ok(XTND), 0x80) => 1,
+            _ => {
+                let answer = holder::serve(&directory, &memory, &frame);
+                assert!(answer.is_err() || answer.unwrap().1.is_none());
+                continue;
+            }
+        };
+        let mut cleared = frame;
+        cleared.bytes[at] %= 32;
+        cleared.bytes[at + 2] &= 0xEF;
+        let wanted = holder::serve(&directory, &memory, &cleared);
+        let answer = holder::serve(&directory, &memory, &frame);
+        match &answer {
+            Ok((_, answer)) => marks[answer.unwrap().1 as usize] += 1,
+            Err(number) => refused[*number as usize] += (frame != cleared) as u32,
+        }
+        let marked = wanted.map(|(memory, answer)| (memory, answer.map(|(reply, _)| (reply, frame == cleared))));
+        assert_eq!(answer, marked);
+    }
+    assert!(marks.iter().all(|count| *count > 1000), "{marks:?}");
+    assert!([3, 4, 6, 7, 8, 9, 11].iter().all(|number| refused[*number] > 10), "{refused:?}");
 }
 
 /// XTND: length 0 is 6, another first byte is 5 at any length, then 6, then 9; the query's
@@ -38,20 +85,21 @@ fn protocol_query() {
     assert_eq!(answer(0, [0x80, 6, 0, 1, 0, 0, 0, 0]), Err(6));
     assert_eq!(answer(1, [0x0C, 6, 0, 1, 0, 0, 0, 0]), Err(5));
     assert_eq!(answer(3, [0x80, 6, 0, 1, 0, 0, 0, 0]), Err(6));
-    assert_eq!(answer(4, [0x80, 0x26, 0, 1, 0, 0, 0, 0]), Err(6));
     assert_eq!(answer(4, [0x80, 6, 0, 2, 0, 0, 0, 0]), Err(9));
     let reply = identifier::pack(Parts { offset: 0, kind: 2, from: 3, to: 9, table: 6 }).unwrap();
     let long = Frame { id: reply, len: 5, bytes: [2, 1, 2, 3, 4, 0, 0, 0] };
-    assert_eq!(answer(4, [0x80, 6, 0, 5, 9, 9, 9, 9]), Ok((vec![], Some(long))));
+    assert_eq!(answer(4, [0x80, 6, 0, 5, 9, 9, 9, 9]), Ok((vec![], Some((long, true)))));
     let short = Frame { id: reply, len: 1, bytes: [2, 0, 0, 0, 0, 0, 0, 0] };
-    assert_eq!(answer(4, [0x80, 6, 0, 1, 9, 9, 9, 9]), Ok((vec![], Some(short))));
+    assert_eq!(answer(4, [0x80, 6, 0, 1, 9, 9, 9, 9]), Ok((vec![], Some((short, true)))));
+    assert_eq!(answer(4, [0x80, 0x26, 0, 1, 9, 9, 9, 9]), Ok((vec![], Some((short, false)))));
+    assert_eq!(answer(4, [0x80, 6, 0, 0x11, 9, 9, 9, 9]), Ok((vec![], Some((short, false)))));
 }
 
 /// A device's reply to a request, with bytes.
 fn reply_to(frame: &Frame, bytes: &[u8]) -> Frame {
     let to = identifier::unpack(frame.id).unwrap();
     let [a, b, c, ..] = frame.bytes;
-    let asked = request::read(a, b, c).unwrap();
+    let (asked, _) = request::read(a, b, c);
     let parts = Parts { offset: asked.offset, kind: 2, from: to.to, to: to.from, table: asked.table };
     holder::frame(parts, &bytes[..asked.count as usize])
 }
@@ -221,9 +269,12 @@ fn turns_with_holder(dash: &mut Dash, directory: &Directory, memory: &mut Vec<u8
     while dash.status(1) == 15 {
         let frame = dash.turn().unwrap();
         if missed != Some(turns) {
-            let (filled, reply) = holder::serve(directory, memory, &frame).unwrap();
+            let (filled, answer) = holder::serve(directory, memory, &frame).unwrap();
             *memory = filled;
-            reply.iter().for_each(|reply| dash.frame(reply));
+            if let Some((reply, clear)) = answer {
+                assert!(clear); // what a bridge asks has zeros in its reserved bits
+                dash.frame(&reply);
+            }
         }
         turns += 1;
     }
@@ -312,7 +363,7 @@ impl Record {
     fn turned(&mut self, asked: Option<Frame>) {
         self.since = self.since.map(|turns| turns.map(|turns| turns.saturating_add(1)));
         if let Some(Frame { bytes: [a, b, c, ..], .. }) = asked {
-            self.since[request::read(a, b, c).unwrap().offset as usize / bridge::PART] = Some(0);
+            self.since[request::read(a, b, c).0.offset as usize / bridge::PART] = Some(0);
         }
     }
 
@@ -390,7 +441,7 @@ fn late_replies_bring_no_old_bytes() {
         for turn in 0..1000 {
             open.extend(random_read(&mut dash, &mut rng));
             if let Some(asked) = dash.turn() {
-                let reply = holder::serve(&directory, &table, &asked).unwrap().1.unwrap();
+                let (reply, _) = holder::serve(&directory, &table, &asked).unwrap().1.unwrap();
                 replies.push((turn + rng.below(slowest), reply)); // the turn after which it arrives
             }
             let (due, later): (Vec<_>, Vec<_>) = replies.into_iter().partition(|(due, _)| *due <= turn);

@@ -72,10 +72,10 @@ structs! {
     "hg_unpacked" Unpacked { parts, number }
     "hg_frame" Frame { id, len, bytes }
     "hg_request" Request { table, count, offset }
-    "hg_request_read" RequestRead { request, number }
+    "hg_request_read" RequestRead { request, clear }
     "hg_request_bytes" RequestBytes { number, bytes }
     "hg_directory" Directory { sizes, rights, table_blocking, write_blocking, own }
-    "hg_served" Served { number, frames, frame }
+    "hg_served" Served { number, frames, clear, frame }
     "hg_slot" Slot { ticket, offset, phase, kind, device, table, count, progress, sends, left }
     "hg_bridge" Bridge { slots, issued, own, last, rests }
     "hg_opened" Opened { bridge, ticket, number }
@@ -96,7 +96,7 @@ structs! {
 /// The constants of the header: 01's and 02's numbers, types, places and lengths, and the model's.
 #[rustfmt::skip]
 const CONSTANTS: [(&str, usize); 86] = [
-    ("DONE", 0), ("ID_TOO_LARGE", 1), ("SPARE_BITS", 2), ("FRAME_TOO_LONG", 3), ("OTHER_DEVICE", 4), ("TYPE", 5), ("REQUEST_BITS", 6),
+    ("DONE", 0), ("ID_TOO_LARGE", 1), ("SPARE_BITS", 2), ("FRAME_TOO_LONG", 3), ("OTHER_DEVICE", 4), ("TYPE", 5), ("WRONG_LENGTH", 6),
     ("NO_RIGHT", 7), ("RANGE", 8), ("COUNT", 9), ("MEMORY_LENGTH", 10), ("UNSOUND", 11), ("NO_SLOT", 12), ("NO_TICKET", 13),
     ("UNKNOWN_TICKET", 14), ("NOT_FINISHED", 15), ("GAVE_UP", 16), ("NO_MATCH", 17), ("DIFFERENT", 18), ("RESTING", 19), ("CUT_SHORT", 20),
     ("WRONG_NAME", 21), ("VERSION", 22), ("DISAGREE", 23), ("FIELD_TYPE", 24), ("BLOCK_TYPE", 25), ("SUM", 26), ("OUTPUT_TOO_SMALL", 27), ("TEXT", 28),
@@ -151,7 +151,8 @@ fn identifiers() {
 
 fn requests() {
     call("hg_bus_read_request", Model.read_request(0x16, 0x9A, 0x4B));
-    call("hg_bus_read_request", Model.read_request(0x16, 0x9A, 0x5B));
+    call("hg_bus_read_request", Model.read_request(0x16, 0x9A, 0x5B)); // bit 4 set
+    call("hg_bus_read_request", Model.read_request(0xB6, 0x9A, 0x4B)); // two of the top bits
     call("hg_bus_request_bytes", Model.request_bytes(Request { table: 22, count: 11, offset: 1234 }));
     call("hg_bus_request_bytes", Model.request_bytes(Request { table: 22, count: 16, offset: 1234 }));
 }
@@ -169,7 +170,12 @@ fn holder() {
     };
     serve(directory, 50, command);
     serve(directory, 50, to_22(REQ, &[0x04, 0x25, 0x86])); // six bytes, to table 4 and offset 300
+    serve(directory, 50, to_22(REQ, &[0x04, 0x25, 0x96])); // the same with bit 4 set, and with two of the top bits
+    serve(directory, 50, to_22(REQ, &[0xA4, 0x25, 0x86]));
+    serve(directory, 50, to_22(REQ, &[0x04, 0x25, 0x89])); // nine bytes
     serve(directory, 50, to_22(XTND, &[0x80, 0x04, 0x25, 0x85]));
+    serve(directory, 50, to_22(XTND, &[0x80, 0x04, 0x25, 0x95]));
+    serve(directory, 50, to_22(XTND, &[0x80, 0xA4, 0x25, 0x85]));
     serve(Directory { own: 16, ..directory }, 50, command);
     serve(directory, 49, command);
     serve(directory, 50, Frame { len: 9, ..command });

@@ -318,7 +318,7 @@ fn random_reply(rng: &mut Rng, manner: &Manner, state: &Bridge, lent: Buffers, p
     if rng.percent(manner.wrong_frames / 2) && !past.requests.is_empty() {
         // the device's reply to a request sent earlier, perhaps late or given already
         let sent = rng.pick(&past.requests);
-        let asked = request::read(sent.bytes[0], sent.bytes[1], sent.bytes[2]).unwrap_or_default();
+        let (asked, _) = request::read(sent.bytes[0], sent.bytes[1], sent.bytes[2]);
         let to = identifier::unpack(sent.id).unwrap();
         if asked.count <= 8 {
             parts = Parts { offset: asked.offset, kind: RSP, from: to.to, to: to.from, table: asked.table };

@@ -1,6 +1,7 @@
 //! Holder calls: directories sound and unsound, memory right and wrong, frames that are
-//! served or nearly served.
+//! served or nearly served, half of the requests and queries with reserved bits set.
 
+use super::request::with_reserved_bits;
 use super::Outcome;
 use crate::abi::{Directory, Frame, Parts, Request};
 use crate::judge::{Judge, Lent};
@@ -28,10 +29,12 @@ pub fn run(rng: &mut Rng, judge: &mut Judge) -> Outcome {
         let input = || format!("{directory:?}\nmemory {start:?}\nframes, the last one differs: {frames:?}");
         let answers = Model.serve(directory, model.get_mut(), frame);
         let by_library = judge.library.serve(directory, library.get_mut(), frame);
-        let name = match identifier::unpack(frame.id).map(|parts| parts.kind) {
-            Ok(CMD) => "serve CMD",
-            Ok(REQ) => "serve REQ",
-            Ok(XTND) => "serve XTND",
+        let name = match (identifier::unpack(frame.id).map(|parts| parts.kind), answers.clear) {
+            (Ok(CMD), _) => "serve CMD",
+            (Ok(REQ), 1) => "serve REQ, clear",
+            (Ok(REQ), _) => "serve REQ",
+            (Ok(XTND), 1) => "serve XTND, clear",
+            (Ok(XTND), _) => "serve XTND",
             _ => "serve other",
         };
         judge.answer(name, answers, by_library, &input)?;
@@ -40,7 +43,7 @@ pub fn run(rng: &mut Rng, judge: &mut Judge) -> Outcome {
     Ok(())
 }
 
-fn random_directory(rng: &mut Rng) -> Directory {
+pub fn random_directory(rng: &mut Rng) -> Directory {
     let mut directory = Directory {
         table_blocking: rng.u16(),
         write_blocking: rng.u16(),
@@ -74,7 +77,7 @@ fn random_directory(rng: &mut Rng) -> Directory {
 }
 
 /// A frame that would be served, with nothing to a few things changed.
-fn random_frame(rng: &mut Rng, directory: &Directory) -> Frame {
+pub fn random_frame(rng: &mut Rng, directory: &Directory) -> Frame {
     let table = (0..4).map(|_| rng.below(32)).find(|table| directory.sizes[*table] > 0).unwrap_or(0);
     let size = directory.sizes[table] as usize;
     let count = rng.within(1, 8);
@@ -103,7 +106,10 @@ fn random_frame(rng: &mut Rng, directory: &Directory) -> Frame {
     if rng.one_in(12) {
         parts.table = rng.below(32) as u8;
     }
-    let bytes = request::bytes_of(asked).unwrap();
+    let mut bytes = request::bytes_of(asked).unwrap();
+    if rng.percent(67) {
+        bytes = with_reserved_bits(rng, bytes);
+    }
     let mut frame = Frame { id: identifier::pack(parts).unwrap(), len: count as u8, bytes: [0; 8] };
     frame.bytes.copy_from_slice(&rng.bytes(8));
     match parts.kind {
@@ -115,6 +121,11 @@ fn random_frame(rng: &mut Rng, directory: &Directory) -> Frame {
             frame.len = 4;
             frame.bytes[0] = 0x80;
             frame.bytes[1..4].copy_from_slice(&bytes);
+        }
+        _ if rng.one_in(4) => {
+            // it looks like a request
+            frame.len = 3;
+            frame.bytes[..3].copy_from_slice(&bytes);
         }
         _ => {}
     }

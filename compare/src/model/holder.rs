@@ -1,7 +1,10 @@
-//! 01 "Table holder".
+//! 01 "Table holder"; 02, C-16: the mark beside the answer to a request, whether its reserved bits were clear.
 
 use super::{identifier, request, Number, CMD, REQ, RSP, XTND};
 use crate::abi::{Directory, Frame, Parts, Request};
+
+/// 02, C-16: the mark is handed back "beside its answer frame to REQ and the protocol query": whether the reserved bits were clear.
+pub type Answer = (Frame, bool);
 
 /// Size 0..2,056, total at most 32,768, right 0..2, own number 0..15.
 pub fn sound(directory: &Directory) -> bool {
@@ -40,8 +43,8 @@ pub fn addressed(own: u8, frame: &Frame) -> Result<Parts, Number> {
 }
 
 /// Order: 11, 10, 1, 2, 3, 4, 5, 6, 7, 9, 8; XTND of length 0 is 6.
-/// Hands back the memory afterwards and the answering frame, if any.
-pub fn serve(directory: &Directory, memory: &[u8], frame: &Frame) -> Result<(Vec<u8>, Option<Frame>), Number> {
+/// Hands back the memory afterwards, and the answering frame with its mark, if any.
+pub fn serve(directory: &Directory, memory: &[u8], frame: &Frame) -> Result<(Vec<u8>, Option<Answer>), Number> {
     if !sound(directory) {
         return Err(11);
     }
@@ -77,12 +80,12 @@ fn command(directory: &Directory, memory: &[u8], parts: Parts, bytes: &[u8]) -> 
 }
 
 /// REQ, length 3, count 1..8, needs a right: answers RSP to the sender, with the
-/// reply table and offset asked for.
-fn answer_request(directory: &Directory, memory: &[u8], parts: Parts, bytes: &[u8]) -> Result<Frame, Number> {
+/// reply table and offset asked for. "6 no longer covers reserved bits".
+fn answer_request(directory: &Directory, memory: &[u8], parts: Parts, bytes: &[u8]) -> Result<Answer, Number> {
     if bytes.len() != 3 {
         return Err(6);
     }
-    let asked = request::read(bytes[0], bytes[1], bytes[2])?;
+    let (asked, clear) = request::read(bytes[0], bytes[1], bytes[2]);
     let size = directory.sizes[parts.table as usize] as usize;
     if size == 0 || directory.rights[parts.table as usize] == 0 {
         return Err(7);
@@ -94,12 +97,12 @@ fn answer_request(directory: &Directory, memory: &[u8], parts: Parts, bytes: &[u
         return Err(8);
     }
     let place = start(directory, parts.table) + parts.offset as usize;
-    Ok(reply(directory, parts, asked, &memory[place..place + asked.count as usize]))
+    Ok((reply(directory, parts, asked, &memory[place..place + asked.count as usize]), clear))
 }
 
 /// XTND, first byte 0x80, length 4, request bytes after it, count 1 or 5: the byte 2,
 /// or 2 then the table and write blocking factors. Other first bytes: 5.
-fn protocol_query(directory: &Directory, parts: Parts, bytes: &[u8]) -> Result<Frame, Number> {
+fn protocol_query(directory: &Directory, parts: Parts, bytes: &[u8]) -> Result<Answer, Number> {
     if bytes.is_empty() {
         return Err(6);
     }
@@ -109,12 +112,12 @@ fn protocol_query(directory: &Directory, parts: Parts, bytes: &[u8]) -> Result<F
     if bytes.len() != 4 {
         return Err(6);
     }
-    let asked = request::read(bytes[1], bytes[2], bytes[3])?;
+    let (asked, clear) = request::read(bytes[1], bytes[2], bytes[3]);
     let [table_high, table_low] = directory.table_blocking.to_be_bytes();
     let [write_high, write_low] = directory.write_blocking.to_be_bytes();
     match asked.count {
-        1 => Ok(reply(directory, parts, asked, &[2])),
-        5 => Ok(reply(directory, parts, asked, &[2, table_high, table_low, write_high, write_low])),
+        1 => Ok((reply(directory, parts, asked, &[2]), clear)),
+        5 => Ok((reply(directory, parts, asked, &[2, table_high, table_low, write_high, write_low]), clear)),
         _ => Err(9),
     }
 }
