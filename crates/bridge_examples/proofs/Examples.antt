@@ -11,13 +11,13 @@ use native.Mathlib.Decide.{decLt}
 use lib.ListN.{length, getD, List·getD-eq-default}
 use lib.Dec.{eqb, ltb, leb}
 use borrow.Author.Tests.{eqb-true, eqb-false, eq-eqb, lt-ltb, le-ltb, ltb-true, leb-true, not-true}
-use Rattle.bus_rules.specs.Ident.{idOf, idFrom, idTable, idOffset}
+use Rattle.bus_rules.specs.Ident.{idOf, idFrom, idTable, idKind, idOffset}
 use Rattle.bus_rules.specs.Frames.{frameWith, content, req, rsp}
 use Rattle.bus_rules.specs.Request.{request}
 use Rattle.bus_rules.specs.Holder.{serveOf, answerWith, Gives}
 use Rattle.bus_rules.specs.declared.Served.{Served}
 use Rattle.bus_rules.specs.Device.{Device}
-use Rattle.bus_rules.proofs.Replies.{answerer-unchanged}
+use Rattle.bus_rules.proofs.Replies.{asked-unchanged}
 use Rattle.bridge_rules.specs.State.{Frame, rest, lowestGivable}
 use Rattle.bridge_rules.specs.Answers.{Buffers, plain, rightLengths}
 use Rattle.bridge_rules.specs.Opening.{Ask, read, check, isWrite, isCheck, askDevice, askTable, askOffset, askCount, askGiven}
@@ -30,7 +30,8 @@ use Rattle.bridge_rules.specs.Replies.{requestFrame, matchesFrame, Matches, Sen
 use Rattle.bridge_rules.specs.Device.{Timeline, Arrives, Own, range, NotAfter, Meanwhile, Prompt, Quiet, Arrivals, Unwritten, Premises}
 use Rattle.bridge_rules.specs.Demand3.{showing}
 use Rattle.bridge_examples.specs.Examples.{directory, memory, lower, upper, holding, after, run, reply, DoneRead, ShowsOther, answering, before}
-use Rattle.bridge_examples.specs.Examples.{onTime, toCallOne, alone, unchanging, AloneShows, together, written, TogetherShows, restarted, writtenOnce}
+use Rattle.bridge_examples.specs.Examples.{onTime, toCallOne, alone, twoApart, unchanging, AloneShows, burntTable, burntBetween, BurntShows}
+use Rattle.bridge_examples.specs.Examples.{together, written, TogetherShows, restarted, writtenOnce}
 use Rattle.bridge_examples.specs.Examples.{RestartedShows, torn, overwritten, TornShows, forged}
 use Rattle.bridge_examples.specs.Examples.{ForgedShows, late, lateThenOwn, LateShows, tooLate, slow}
 use Rattle.bridge_examples.specs.Examples.{TooLateShows, hasty, HastyShows, CheckedWrite, eight, ten, readingBack, stored, StoredShows, unplugged}
@@ -207,10 +208,10 @@ module _ (cs : List Call) where
 
 -- a reply that is the device's own, as the holder's rules give it
 own-reply : (r : Run) (t : Timeline) (m : ℕ) (q g : Frame) → t .asked m < m → accepted r (t .asked m) ≡ true
-    → answer r (t .asked m) .sent ≡ some q → t .when (t .asked m) ≤ t .answered m → t .answered m ≤ t .when m
+    → answer r (t .asked m) .sent ≡ some q → idKind (q .id) ≡ req → t .when (t .asked m) ≤ t .answered m → t .answered m ≤ t .when m
     → serveOf (t .device (t .answered m)) q ≡ answerWith 1 g → Own r t m g
 unfolding answerWith
-own-reply r t m q g e a y s u h = record {
+own-reply r t m q g e a y k s u h = record {
   request = q;
   reply = g;
   before = t .device (t .answered m);
@@ -220,7 +221,7 @@ own-reply r t m q g e a y s u h = record {
   sinceAsked = s;
   untilArrived = u;
   gives = given;
-  after = sym (answerer-unchanged (t .device (t .answered m)) q g given);
+  after = sym (asked-unchanged (t .device (t .answered m)) q k);
   sameId = refl;
   sameLen = refl;
   sameBytes = refl;
@@ -424,13 +425,27 @@ alone-read : DoneRead alone 0 5 (106 ∷ 107 ∷ 108 ∷ 109 ∷ 110 ∷ 111 ∷
 unfolding everything every shaped shapedLent alone reply alone-x
 alone-read = done-read alone alone-x 5 _ refl refl (omega arith) refl refl
 
-alone-own2 : Own (run alone) unchanging 2 (reply 5 0 (106 ∷ 107 ∷ 108 ∷ 109 ∷ 110 ∷ 111 ∷ 112 ∷ 113 ∷ []))
-unfolding everything alone reply directory memory
-alone-own2 = own-reply (run alone) unchanging 2 (frameWith 0x1882B8 (6 ∷ 0 ∷ 8 ∷ [])) _ (omega arith) refl refl (omega arith) (omega arith) refl
+-- where the device answers the two requests so, the range unwritten, the premises hold
+module _ (device : ℕ → Device) (g : serveOf (device 3) (frameWith 0x1882B8 (6 ∷ 0 ∷ 8 ∷ []))
+    ≡ answerWith 1 (reply 5 0 (106 ∷ 107 ∷ 108 ∷ 109 ∷ 110 ∷ 111 ∷ 112 ∷ 113 ∷ [])))
+    (h : serveOf (device 7) (frameWith 0x3882B8 (6 ∷ 1 ∷ 2 ∷ [])) ≡ answerWith 1 (reply 5 8 (114 ∷ 115 ∷ []))) where
+  alone-own2 : Own (run alone) (twoApart device) 2 (reply 5 0 (106 ∷ 107 ∷ 108 ∷ 109 ∷ 110 ∷ 111 ∷ 112 ∷ 113 ∷ []))
+  unfolding everything alone reply
+  alone-own2 = own-reply (run alone) (twoApart device) 2 _ _ (omega arith) refl refl refl (omega arith) (omega arith) g
 
-alone-own4 : Own (run alone) unchanging 4 (reply 5 8 (114 ∷ 115 ∷ []))
-unfolding everything alone reply directory memory
-alone-own4 = own-reply (run alone) unchanging 4 (frameWith 0x3882B8 (6 ∷ 1 ∷ 2 ∷ [])) _ (omega arith) refl refl (omega arith) (omega arith) refl
+  alone-own4 : Own (run alone) (twoApart device) 4 (reply 5 8 (114 ∷ 115 ∷ []))
+  unfolding everything alone reply
+  alone-own4 = own-reply (run alone) (twoApart device) 4 _ _ (omega arith) refl refl refl (omega arith) (omega arith) h
+
+  alone-premises : Unwritten (run alone) alone-x (twoApart device) (Meanwhile (run alone) alone-x 5 (twoApart device) 3)
+      → Premises (run alone) alone-x 5 (twoApart device) 3
+  unfolding everything every underFive allZero alone reply alone-x alone-read
+  alone-premises u = record {
+    arrivals = on-time alone (alone-read .lawful) (twoApart device) alone-x 5 (λ m. refl) refl
+        (two-own alone (alone-read .lawful) (twoApart device) alone-x 5 2 4 _ _ refl refl refl alone-own2 refl alone-own4);
+    first = not-after alone (alone-read .lawful) 2 3 (twoApart device) refl (λ m l. omega arith) alone-x 5;
+    unwritten = u;
+  }
 
 alone-replied : Replied (run alone) alone-x 1 4
 unfolding everything requestOf replyOf alone reply alone-x alone-read
@@ -438,22 +453,48 @@ alone-replied = replied-next alone (alone-read .lawful) alone-x 5 1 3 _ _ (alone
     refl refl refl refl refl
 
 alone-shows : AloneShows
-unfolding everything every underFive allZero alone reply alone-x alone-read directory memory
+unfolding everything alone reply alone-x alone-read directory memory
 alone-shows = record {
   shows = record {
     reader = alone-read;
-    premises = record {
-      arrivals = on-time alone (alone-read .lawful) unchanging alone-x 5 (λ m. refl) refl
-          (two-own alone (alone-read .lawful) unchanging alone-x 5 2 4 _ _ refl refl refl alone-own2 refl alone-own4);
-      first = not-after alone (alone-read .lawful) 2 3 unchanging refl (λ m l. omega arith) alone-x 5;
-      unwritten = steady (run alone) alone-x unchanging _ holding (λ τ a. refl);
-    };
+    premises = alone-premises (λ τ. holding) refl refl (steady (run alone) alone-x unchanging _ holding (λ τ a. refl));
     meanwhile = until (run alone) alone-x 5 unchanging 3 5 1 4 (omega arith) (omega arith) alone-replied (omega arith);
     same = refl;
   };
   asked = refl;
   answered = refl;
   arrived = refl;
+}
+
+-- ── a burn between its two answers ─────────────────────────────────────────────────────────────────────────────────
+
+burnt-unwritten : (During : ℕ → Type 0) → Unwritten (run alone) alone-x burntBetween During
+unfolding everything alone-x directory memory burntTable
+burnt-unwritten During = record {
+  sameTables = λ τ τ′ a b. tables (ltb τ 4) ∙ sym (tables (ltb τ′ 4));
+  unchanged = λ τ τ′ a b. bytes (ltb τ 4) ∙ sym (bytes (ltb τ′ 4));
+}
+  where
+    tables : (b : Bool) → cond b holding burntTable .directory ≡ directory
+    tables true = refl
+    tables false = refl
+
+    bytes : (b : Bool) → range (run alone) alone-x (cond b holding burntTable) ≡ range (run alone) alone-x holding
+    bytes true = refl
+    bytes false = refl
+
+burnt-shows : BurntShows
+unfolding everything alone reply alone-x alone-read directory memory burntTable
+burnt-shows = record {
+  shows = record {
+    reader = alone-read;
+    premises = alone-premises (burntBetween .device) refl refl (burnt-unwritten _);
+    meanwhile = until (run alone) alone-x 5 burntBetween 3 5 1 4 (omega arith) (omega arith) alone-replied (omega arith);
+    same = refl;
+  };
+  answered = (refl, refl);
+  earlier = refl;
+  later = refl;
 }
 
 -- ── together ───────────────────────────────────────────────────────────────────────────────────────────────────────
@@ -468,12 +509,12 @@ together-read = done-read together together-x 33 _ refl refl (omega arith) refl 
 
 together-own28 : Own (run together) written 28 (reply 5 128 (1 ∷ 2 ∷ 108 ∷ 109 ∷ 110 ∷ 111 ∷ 112 ∷ 113 ∷ []))
 unfolding everything together reply directory memory after
-together-own28 = own-reply (run together) written 28 (frameWith 0x1882B8 (6 ∷ 16 ∷ 8 ∷ [])) _ (omega arith) refl refl (omega arith) (omega arith)
+together-own28 = own-reply (run together) written 28 (frameWith 0x1882B8 (6 ∷ 16 ∷ 8 ∷ [])) _ (omega arith) refl refl refl (omega arith) (omega arith)
     refl
 
 together-own30 : Own (run together) written 30 (reply 5 136 (114 ∷ 115 ∷ []))
 unfolding everything together reply directory memory after
-together-own30 = own-reply (run together) written 30 (frameWith 0x3882B8 (6 ∷ 17 ∷ 2 ∷ [])) _ (omega arith) refl refl (omega arith) (omega arith)
+together-own30 = own-reply (run together) written 30 (frameWith 0x3882B8 (6 ∷ 17 ∷ 2 ∷ [])) _ (omega arith) refl refl refl (omega arith) (omega arith)
     refl
 
 -- the device is the same all the while
@@ -521,7 +562,7 @@ restarted-read = done-read restarted restarted-x 6 _ refl refl (omega arith) ref
 
 restarted-own5 : Own (run restarted) writtenOnce 5 (frameWith (idOf 0 rsp 5 3 6) (1 ∷ 2 ∷ []))
 unfolding everything restarted directory memory after
-restarted-own5 = own-reply (run restarted) writtenOnce 5 (frameWith (idOf 6 req 3 5 7) (6 ∷ 0 ∷ 2 ∷ [])) _ (omega arith) refl refl (omega arith)
+restarted-own5 = own-reply (run restarted) writtenOnce 5 (frameWith (idOf 6 req 3 5 7) (6 ∷ 0 ∷ 2 ∷ [])) _ (omega arith) refl refl refl (omega arith)
     (omega arith) refl
 
 restarted-replied : Replied (run restarted) restarted-x 0 5
@@ -560,11 +601,11 @@ torn-read = done-read torn torn-x 7 _ refl refl (omega arith) refl refl
 
 torn-own2 : Own (run torn) overwritten 2 (reply 5 0 (106 ∷ 107 ∷ 108 ∷ 109 ∷ 110 ∷ 111 ∷ 112 ∷ 113 ∷ []))
 unfolding everything torn reply directory memory
-torn-own2 = own-reply (run torn) overwritten 2 (frameWith 0x1882B8 (6 ∷ 0 ∷ 8 ∷ [])) _ (omega arith) refl refl (omega arith) (omega arith) refl
+torn-own2 = own-reply (run torn) overwritten 2 (frameWith 0x1882B8 (6 ∷ 0 ∷ 8 ∷ [])) _ (omega arith) refl refl refl (omega arith) (omega arith) refl
 
 torn-own6 : Own (run torn) overwritten 6 (reply 5 8 (3 ∷ 4 ∷ []))
 unfolding everything torn reply directory memory after
-torn-own6 = own-reply (run torn) overwritten 6 (frameWith 0x3882B8 (6 ∷ 1 ∷ 2 ∷ [])) _ (omega arith) refl refl (omega arith) (omega arith) refl
+torn-own6 = own-reply (run torn) overwritten 6 (frameWith 0x3882B8 (6 ∷ 1 ∷ 2 ∷ [])) _ (omega arith) refl refl refl (omega arith) (omega arith) refl
 
 torn-replied : Replied (run torn) torn-x 1 6
 unfolding everything requestOf replyOf torn reply torn-x torn-read
@@ -609,7 +650,7 @@ forged-read = done-read forged forged-x 5 _ refl refl (omega arith) refl refl
 
 forged-own2 : Own (run forged) unchanging 2 (reply 5 0 (106 ∷ 107 ∷ 108 ∷ 109 ∷ 110 ∷ 111 ∷ 112 ∷ 113 ∷ []))
 unfolding everything forged reply directory memory
-forged-own2 = own-reply (run forged) unchanging 2 (frameWith 0x1882B8 (6 ∷ 0 ∷ 8 ∷ [])) _ (omega arith) refl refl (omega arith) (omega arith) refl
+forged-own2 = own-reply (run forged) unchanging 2 (frameWith 0x1882B8 (6 ∷ 0 ∷ 8 ∷ [])) _ (omega arith) refl refl refl (omega arith) (omega arith) refl
 
 forged-others : (m : ℕ) (f : Frame) → m ≢ 4 → Arrives (run forged) forged-x 5 m f → Own (run forged) unchanging m f
 unfolding everything every underFive forged reply forged-x
@@ -625,7 +666,7 @@ forged-forgery : ¬ Own (run forged) unchanging 4 (reply 5 8 (0 ∷ 0 ∷ []))
 unfolding everything forged reply directory memory
 forged-forgery o =
     let q : frameWith 0x3882B8 (6 ∷ 1 ∷ 2 ∷ []) ≡ o .request = some-eq (o .yields) in
-    let d : holding ≡ o .before = o .after ∙ answerer-unchanged (o .before) (o .request) (o .reply) (o .gives) in
+    let d : holding ≡ o .before = o .after ∙ asked-unchanged (o .before) (o .request) (ap (λ (f : Frame). idKind (f .id)) (sym q)) in
     let g : reply 5 8 (114 ∷ 115 ∷ []) ≡ o .reply = ap (λ (s : Served). s .frame) (ap₂ serveOf d q) ∙ o .gives .1 in
     let z : _≡_ {A = ℕ} 0 114 = ap (λ (l : List ℕ). getD l 0 0) (o .sameBytes ∙ sym (ap content g)) in
     omega arith
@@ -655,11 +696,11 @@ late-read = done-read late late-x 7 _ refl refl (omega arith) refl refl
 
 late-own5 : Own (run late) lateThenOwn 5 (reply 5 0 lower)
 unfolding everything late reply directory memory
-late-own5 = own-reply (run late) lateThenOwn 5 (frameWith (idOf 0 req 0 5 7) (6 ∷ 0 ∷ 8 ∷ [])) _ (omega arith) refl refl (omega arith) (omega arith) refl
+late-own5 = own-reply (run late) lateThenOwn 5 (frameWith (idOf 0 req 0 5 7) (6 ∷ 0 ∷ 8 ∷ [])) _ (omega arith) refl refl refl (omega arith) (omega arith) refl
 
 late-own6 : Own (run late) lateThenOwn 6 (reply 5 128 upper)
 unfolding everything late reply directory memory
-late-own6 = own-reply (run late) lateThenOwn 6 (frameWith (idOf 8 req 0 5 7) (6 ∷ 16 ∷ 8 ∷ [])) _ (omega arith) refl refl (omega arith) (omega arith) refl
+late-own6 = own-reply (run late) lateThenOwn 6 (frameWith (idOf 8 req 0 5 7) (6 ∷ 16 ∷ 8 ∷ [])) _ (omega arith) refl refl refl (omega arith) (omega arith) refl
 
 late-replied : Replied (run late) late-x 0 6
 unfolding everything requestOf replyOf late reply late-x late-read
@@ -703,7 +744,7 @@ too-late-read = done-read tooLate too-late-x 66 _ refl refl (omega arith) refl r
 
 too-late-own : Own (run tooLate) slow 65 (reply 5 0 lower)
 unfolding everything tooLate reply directory memory
-too-late-own = own-reply (run tooLate) slow 65 _ _ (omega arith) refl refl (omega arith) (omega arith) refl
+too-late-own = own-reply (run tooLate) slow 65 _ _ (omega arith) refl refl refl (omega arith) (omega arith) refl
 
 too-late-replied : Replied (run tooLate) too-late-x 0 65
 unfolding everything requestOf replyOf tooLate reply too-late-x too-late-read
@@ -735,7 +776,7 @@ hasty-read = done-read hasty hasty-x 65 _ refl refl (omega arith) refl refl
 
 hasty-own : Own (run hasty) slow 64 (reply 5 0 lower)
 unfolding everything hasty reply directory memory
-hasty-own = own-reply (run hasty) slow 64 _ _ (omega arith) refl refl (omega arith) (omega arith) refl
+hasty-own = own-reply (run hasty) slow 64 _ _ (omega arith) refl refl refl (omega arith) (omega arith) refl
 
 hasty-sent : Sent (run hasty) hasty-y 0 1
 unfolding everything every requestOf hasty reply hasty-y
@@ -793,11 +834,11 @@ module _ (a b : ℕ) where
       t = onTime device
 
       own4 : Own (run (readingBack a b)) t 4 (reply 5 0 eight)
-      own4 = own-reply (run (readingBack a b)) t 4 _ _ (omega arith) refl refl (omega arith) (omega arith)
+      own4 = own-reply (run (readingBack a b)) t 4 _ _ (omega arith) refl refl refl (omega arith) (omega arith)
           (ap (λ (d : Device). serveOf d (frameWith 0x1882B8 (6 ∷ 0 ∷ 8 ∷ []))) (same 4 (omega arith)) ∙ g)
 
       own6 : Own (run (readingBack a b)) t 6 (reply 5 8 (a ∷ b ∷ []))
-      own6 = own-reply (run (readingBack a b)) t 6 _ _ (omega arith) refl refl (omega arith) (omega arith)
+      own6 = own-reply (run (readingBack a b)) t 6 _ _ (omega arith) refl refl refl (omega arith) (omega arith)
           (ap (λ (d : Device). serveOf d (frameWith 0x3882B8 (6 ∷ 1 ∷ 2 ∷ []))) (same 6 (omega arith)) ∙ h)
 
 -- ── done ───────────────────────────────────────────────────────────────────────────────────────────────────────────
@@ -870,12 +911,12 @@ module _ (bs : List ℕ) where
   after-next : (device : ℕ → Device) → serveOf (device 66) (frameWith (idOf 8 req 0 5 7) (6 ∷ 0 ∷ 8 ∷ [])) ≡ answerWith 1 last-reply
       → Own (run (afterClosing bs)) (onTime device) 66 last-reply
   unfolding everything afterClosing
-  after-next device g = own-reply (run (afterClosing bs)) (onTime device) 66 _ _ (omega arith) refl refl (omega arith) (omega arith) g
+  after-next device g = own-reply (run (afterClosing bs)) (onTime device) 66 _ _ (omega arith) refl refl refl (omega arith) (omega arith) g
 
   after-late : (device : ℕ → Device) → serveOf (device 66) (frameWith (idOf 0 req 0 5 7) (6 ∷ 0 ∷ 8 ∷ [])) ≡ answerWith 1 last-reply
       → Own (run (afterClosing bs)) (toCallOne device) 66 last-reply
   unfolding everything afterClosing
-  after-late device g = own-reply (run (afterClosing bs)) (toCallOne device) 66 _ _ (omega arith) refl refl (omega arith) (omega arith) g
+  after-late device g = own-reply (run (afterClosing bs)) (toCallOne device) 66 _ _ (omega arith) refl refl refl (omega arith) (omega arith) g
 
   module _ (w : Lawful (run (afterClosing bs))) where
     after-replied : Replied (run (afterClosing bs)) after-x 0 66
@@ -956,7 +997,7 @@ check-read = done-read resetCheck check-x 7 _ refl refl (omega arith) refl refl
 
 check-own : Own (run resetCheck) lateChecked 6 (reply 5 0 eight)
 unfolding everything resetCheck reply directory memory after
-check-own = own-reply (run resetCheck) lateChecked 6 _ _ (omega arith) refl refl (omega arith) (omega arith) refl
+check-own = own-reply (run resetCheck) lateChecked 6 _ _ (omega arith) refl refl refl (omega arith) (omega arith) refl
 
 check-sent : Sent (run resetCheck) check-y 0 2
 unfolding everything every requestOf resetCheck reply check-y
@@ -974,6 +1015,7 @@ check-shows = record {
 pub examples : Examples
 examples = record {
   aloneShows = alone-shows;
+  burntShows = burnt-shows;
   togetherShows = together-shows;
   restartedShows = restarted-shows;
   tornShows = torn-shows;

@@ -9,7 +9,7 @@ use mathlib.Core.Bool.{true, cond}
 use lib.ListN.{replicate}
 use lib.Dec.{ltb}
 use Rattle.bus_rules.specs.Ident.{idOf}
-use Rattle.bus_rules.specs.Frames.{cmd, req, rsp, frameWith}
+use Rattle.bus_rules.specs.Frames.{cmd, req, rsp, burn, frameWith}
 use Rattle.bus_rules.specs.Request.{request}
 use Rattle.bus_rules.specs.Device.{Device, device}
 use Rattle.bus_rules.specs.Holder.{deviceAfter}
@@ -43,8 +43,9 @@ lower = 100 ∷ 101 ∷ 102 ∷ 103 ∷ 104 ∷ 105 ∷ 106 ∷ 107 ∷ []
 abbrev pub upper : List ℕ
 upper = 108 ∷ 109 ∷ 110 ∷ 111 ∷ 112 ∷ 113 ∷ 114 ∷ 115 ∷ []
 
+-- its flash is 16 zeros
 abbrev pub holding : Device
-holding = device directory memory
+holding = device directory memory (replicate 16 0)
 
 -- what becomes of a device by a CMD from bridge 0 that writes at an offset of table 7
 unfoldable pub after : Device → (offset : ℕ) → List ℕ → Device
@@ -111,8 +112,11 @@ alone =
     ∷ []
 
 -- events are two moments apart, and a reply arrives one moment after it is given
+abbrev pub twoApart : (ℕ → Device) → Timeline
+twoApart device = record { when = λ k. 2 * k; device = device; asked = before; answered = λ m. 2 * m - 1 }
+
 abbrev pub unchanging : Timeline
-unchanging = record { when = λ k. 2 * k; device = λ τ. holding; asked = before; answered = λ m. 2 * m - 1 }
+unchanging = twoApart (λ τ. holding)
 
 pub record AloneShows : Type 0 where
   pub shows : Shows alone 0 5 (106 ∷ 107 ∷ 108 ∷ 109 ∷ 110 ∷ 111 ∷ 112 ∷ 113 ∷ 114 ∷ 115 ∷ []) unchanging 3 5
@@ -120,6 +124,22 @@ pub record AloneShows : Type 0 where
   pub asked : unchanging .when (unchanging .asked 2) ≡ 2
   pub answered : unchanging .answered 2 ≡ 3
   pub arrived : unchanging .when 2 ≡ 4
+
+-- ── The same, and a burn between its two answers: no write of the range ────────────────────────────────────────────
+
+-- 02, C-11: device 5 burns its table 7 at moment 4, asked by device 9
+unfoldable pub burntTable : Device
+burntTable = deviceAfter holding (frameWith (idOf 0 burn 9 5 7) [])
+
+abbrev pub burntBetween : Timeline
+burntBetween = twoApart (λ τ. cond (ltb τ 4) holding burntTable)
+
+pub record BurntShows : Type 0 where
+  pub shows : Shows alone 0 5 (106 ∷ 107 ∷ 108 ∷ 109 ∷ 110 ∷ 111 ∷ 112 ∷ 113 ∷ 114 ∷ 115 ∷ []) burntBetween 3 5
+  -- it answers at moments 3 and 7; the burn was served: the flash has the table's bytes from then on
+  pub answered : (burntBetween .answered 2 ≡ 3) × (burntBetween .answered 4 ≡ 7)
+  pub earlier : burntBetween .device 3 .flash ≡ replicate 16 0
+  pub later : burntBetween .device 4 .flash ≡ memory
 
 -- ── A lost reply, foreign frames, a second asker, and a write before and after ─────────────────────────────────────
 
@@ -452,6 +472,7 @@ pub record LateCheckShows : Type 0 where
 -- all of it
 pub record Examples : Type 0 where
   pub aloneShows : AloneShows
+  pub burntShows : BurntShows
   pub togetherShows : TogetherShows
   pub restartedShows : RestartedShows
   pub tornShows : TornShows

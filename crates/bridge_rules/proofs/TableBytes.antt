@@ -11,7 +11,7 @@ use lib.ListN.{length, take, drop}
 use lib.Seq.{take-length}
 use Rattle.bus_rules.specs.Frames.{req, rsp, frameWith, content}
 use Rattle.bus_rules.specs.Device.{Device, ownOf, rangeOf}
-use Rattle.bus_rules.specs.Holder.{requestAt, tableOf, Gives}
+use Rattle.bus_rules.specs.Holder.{requestAt, tableOf, deviceAfter, Gives}
 use Rattle.bus_rules.specs.Ident.{idOf, idOffset, idKind, idFrom, idTable}
 use Rattle.bus_rules.specs.Request.{request}
 use Rattle.bridge_rules.specs.State.{Frame, Slot, done, asks, carries}
@@ -28,7 +28,7 @@ use Rattle.bridge_rules.specs.Demand3.{join, brought, showing}
 use Rattle.bridge_rules.specs.Corollaries.{SinceTaken}
 use Rattle.bus_rules.proofs.IdentLaws.{offset-of-id, table-of-id, from-small}
 use Rattle.bus_rules.proofs.Ranges.{range-part, range-whole, range-short}
-use Rattle.bus_rules.proofs.Replies.{command-unanswered, request-answered, answerer-own, answerer-unchanged, request-read}
+use Rattle.bus_rules.proofs.Replies.{command-unanswered, request-answered, answerer-own, request-read}
 use Rattle.bridge_rules.proofs.FrameLaws.{len-eight, len-inside, id-of, content-of, read-is}
 use Rattle.bridge_rules.proofs.RequestSlots.{asked-kind, carried-kind}
 use Rattle.bridge_rules.proofs.Search.{contradiction, and-true}
@@ -51,21 +51,21 @@ opening-no-turn : (r : Run) (x : Transfer r) → ¬ (accepted r (x .at) ≡ true
 unfolding accepted
 opening-no-turn r x a = contradiction (and-true _ _ a .0) (ap isTurn (x .call))
 
--- the frame that a request for a slot's chunk gets
+-- the frame that a request for a slot's chunk gets: its bytes are the range in the device after it
 record Answered (d : Device) (own k : ℕ) (y : Slot) (g : Frame) : Type 0 where
   offset : idOffset (g .id) ≡ 128 * k + y .progress
   bytes : content g ≡ rangeOf d (y .table) (y .offset + y .progress) (chunkLen (y .count) (y .progress))
 
-answered : (d : Device) (own k : ℕ) (y : Slot) (b : Buffers) (g : Frame) → k < 4 → own ≤ 15 → ReadyOk y
-    → asks (y .kind) ≡ true → Gives d (sentFrame own k y b) g → Answered d own k y g
-answered d own k y b g kb o r u e = record {
+answered : (d after : Device) (own k : ℕ) (y : Slot) (b : Buffers) (g : Frame) → k < 4 → own ≤ 15 → ReadyOk y
+    → asks (y .kind) ≡ true → Gives d (sentFrame own k y b) g → after ≡ deviceAfter d (sentFrame own k y b) → Answered after own k y g
+answered d after own k y b g kb o r u e h = record {
   offset = ap (λ (f : Frame). idOffset (f .id)) gq ∙ ap idOffset (id-of _ _)
       ∙ offset-of-id (requestAt q 0 .offset) rsp (ownOf d) (idFrom (q .id)) (requestAt q 0 .table)
       (omega (arith, fields .1, r .partway .below, r .held .args .few)) (omega arith) (omega (arith, answerer-own d q g eq))
       (omega (arith, from-small (q .id))) (omega (arith, fields .0)) ∙ fields .1;
   bytes = ap content gq ∙ content-of _ _ short
-      ∙ ap (rangeOf d (tableOf q) (idOffset (q .id))) (fields .2)
-      ∙ ap₂ (λ (a c : ℕ). rangeOf d a c (chunkLen (y .count) (y .progress))) (ap idTable (id-of _ _)
+      ∙ ap (rangeOf after (tableOf q) (idOffset (q .id))) (fields .2)
+      ∙ ap₂ (λ (a c : ℕ). rangeOf after a c (chunkLen (y .count) (y .progress))) (ap idTable (id-of _ _)
       ∙ table-of-id (y .offset + y .progress) req own (y .device) (y .table) low (omega arith) own< device< table<)
       (ap idOffset (id-of _ _) ∙ offset-of-id (y .offset + y .progress) req own (y .device) (y .table) low (omega arith) own< device< table<);
 }
@@ -100,11 +100,11 @@ answered d own k y b g kb o r u e = record {
     kind = ap (λ (f : Frame). idKind (f .id)) (sym (read-is own k y b u)) ∙ asked-kind own k y b r o u
 
     gq : g ≡ frameWith (idOf (requestAt q 0 .offset) rsp (ownOf d) (idFrom (q .id)) (requestAt q 0 .table))
-        (rangeOf d (tableOf q) (idOffset (q .id)) (requestAt q 0 .count))
-    gq = request-answered d q g eq kind
+        (rangeOf after (tableOf q) (idOffset (q .id)) (requestAt q 0 .count))
+    gq = request-answered d q g eq after (h ∙ ap (deviceAfter d) (read-is own k y b u)) kind
 
-    short : length (rangeOf d (tableOf q) (idOffset (q .id)) (requestAt q 0 .count)) ≤ 8
-    short = omega (arith, range-short d (tableOf q) (idOffset (q .id)) (requestAt q 0 .count), fields .2, len-eight (y .count) (y .progress))
+    short : length (rangeOf after (tableOf q) (idOffset (q .id)) (requestAt q 0 .count)) ≤ 8
+    short = omega (arith, range-short after (tableOf q) (idOffset (q .id)) (requestAt q 0 .count), fields .2, len-eight (y .count) (y .progress))
 
 range-chunk : (r : Run) (x : Transfer r) (d : Device) (c : ℕ) → 8 * c < askCount (x .ask)
     → take (lenOf r x c) (drop (8 * c) (range r x d)) ≡ rangeOf d (askTable (x .ask)) (askOffset (x .ask) + 8 * c) (lenOf r x c)
@@ -189,22 +189,18 @@ module _ (r : Run) (w : Lawful r) (x : Transfer r) (n : ℕ) (t : Timeline) (pre
       d : Device
       d = t .device (t .answered m)
 
-      same-device : d ≡ ow .before
-      same-device = ow .after ∙ answerer-unchanged (ow .before) (ow .request) (ow .reply) (ow .gives)
-
       ownS : state r j .own ≤ 15
       ownS = storage-sound r w j .0 .own
 
-      sv : Gives d (sentFrame (state r j .own) (slotOf r y) (aged (slotAt r y j)) (buffers r j)) (ow .reply)
-      sv = subst (λ (e : Device). Gives e (sentFrame (state r j .own) (slotOf r y) (aged (slotAt r y j)) (buffers r j)) (ow .reply)) (sym same-device)
-          (subst (λ (f : Frame). Gives (ow .before) f (ow .reply)) (sd .is) (ow .gives))
+      sv : Gives (ow .before) (sentFrame (state r j .own) (slotOf r y) (aged (slotAt r y j)) (buffers r j)) (ow .reply)
+      sv = subst (λ (f : Frame). Gives (ow .before) f (ow .reply)) (sd .is) (ow .gives)
 
       sa : Same (slotAt r y j) (aged (slotAt r y j))
       sa = aged-same (slotAt r y j)
 
       kinds : (carries (aged (slotAt r y j) .kind) ≡ true) ⊎ (asks (aged (slotAt r y j) .kind) ≡ true)
           → Answers c m
-      kinds (inl u) = absurd (command-unanswered d (sentFrame (state r j .own) (slotOf r y) (aged (slotAt r y j)) (buffers r j)) (ow .reply)
+      kinds (inl u) = absurd (command-unanswered (ow .before) (sentFrame (state r j .own) (slotOf r y) (aged (slotAt r y j)) (buffers r j)) (ow .reply)
           sv (carried-kind (state r j .own) (slotOf r y) (aged (slotAt r y j)) (buffers r j) k ownS u))
       kinds (inr u) = record {
         sent = record {
@@ -220,8 +216,8 @@ module _ (r : Run) (w : Lawful r) (x : Transfer r) (n : ℕ) (t : Timeline) (pre
       }
         where
           an : Answered d (state r j .own) (slotOf r y) (aged (slotAt r y j)) (ow .reply)
-          an = answered d (state r j .own) (slotOf r y) (aged (slotAt r y j)) (buffers r j) (ow .reply)
-              (openedAt r w y .bound) ownS k u sv
+          an = answered (ow .before) d (state r j .own) (slotOf r y) (aged (slotAt r y j)) (buffers r j) (ow .reply)
+              (openedAt r w y .bound) ownS k u sv (ow .after ∙ ap (deviceAfter (ow .before)) (sd .is))
 
           sent : Sent r y (k .partway .chunk) j
           sent = sender-sent r w j (ow .request) (ow .turned) (ow .yields) sd u

@@ -1,4 +1,5 @@
 // The table holder.
+use crate::BURN;
 use crate::CMD;
 use crate::Directory;
 use crate::Frame;
@@ -15,14 +16,14 @@ use crate::requests::read_request;
 use crate::rows::parts_of;
 use crate::rows::table_of;
 ghost use mathlib.Core.Path.{_≡_};
-ghost use Prim.Native.Nat.{_+_, _*_, _≤_, _<_};
+ghost use Prim.Native.Nat.{ℕ, _+_, _*_, _≤_, _<_};
 ghost use lib.ListN.{length, take, drop};
 ghost use Rattle.wire.specs.Order.{_orElse_};
 ghost use Rattle.bus_rules.specs.Ident.{partsOf};
-ghost use Rattle.bus_rules.specs.Frames.{headNumber};
-ghost use Rattle.bus_rules.specs.Device.{Device, device, startOf, sizeOf, rightOf, totalOf, soundTables, directoryNumber, memoryNumber};
-ghost use Rattle.bus_rules.specs.Holder.{commandNumber, requestNumber, queryNumber, kindNumber, serveNumber, readAt, requestAt, sizeAt, rightAt};
-ghost use Rattle.bus_rules.specs.Holder.{noAnswer, replyTo, placeOf, protocol, actOf, actAfter, serveOf, deviceAfter};
+ghost use Rattle.bus_rules.specs.Frames.{buildOf, headNumber};
+ghost use Rattle.bus_rules.specs.Device.{Device, device, startOf, sizeOf, rightOf, totalOf, copyTable, soundTables, directoryNumber, memoryNumber};
+ghost use Rattle.bus_rules.specs.Holder.{commandNumber, requestNumber, burnNumber, queryNumber, kindNumber, serveNumber, readAt, requestAt, sizeAt, rightAt};
+ghost use Rattle.bus_rules.specs.Holder.{tableOf, noAnswer, answerWith, replyTo, acknowledgement, protocol, actOf, actAfter, serveOf, deviceAfter};
 ghost use Rattle.bus_rules.specs.Demand2.{Demand2};
 ghost use Rattle.bus_rules.specs.Examples.{Examples};
 
@@ -95,16 +96,17 @@ pub fn directory_number(d: Directory) -> u8
     tables_number(d, tables_of(d))
 }
 
-// 11 for an unsound directory, 10 for memory of another length n than its total, else 0.
-pub fn memory_number(d: Directory, n: usize) -> u8
-    ensures { λ r. ⌜ r ≡ memoryNumber d n ⌝ }
+// 11 for an unsound directory, 10 for memory or flash of another length than its total, else 0.
+pub fn memory_number(d: Directory, memory: usize, flash: usize) -> u8
+    ensures { λ r. ⌜ r ≡ memoryNumber d memory flash ⌝ }
 {
     let t = tables_of(d);
     let unsound = tables_number(d, t);
     if unsound != 0 {
         return unsound;
     }
-    if n != t.total as usize {
+    let total = t.total as usize;
+    if (memory != total) | (flash != total) {
         return 10;
     }
     0
@@ -152,6 +154,21 @@ fn request_number(len: u8, size: u16, right: u8, offset: u16, count: u8) -> u8
     0
 }
 
+fn burn_number(len: u8, size: u16, right: u8) -> u8
+    ensures { λ r. ⌜ r ≡ burnNumber len size right ⌝ }
+{
+    if len != 0 {
+        return 6;
+    }
+    if size == 0 {
+        return 7;
+    }
+    if right != 2 {
+        return 7;
+    }
+    0
+}
+
 fn query_number(len: u8, first: u8, count: u8) -> u8
     ensures { λ r. ⌜ r ≡ queryNumber len first count ⌝ }
 {
@@ -187,6 +204,9 @@ fn kind_number(t: Table, p: Parts, f: Frame) -> u8
     if p.kind == REQ {
         return request_number(f.len, t.size, t.right, p.offset, f.bytes[2] % 16);
     }
+    if p.kind == BURN {
+        return burn_number(f.len, t.size, t.right);
+    }
     5
 }
 
@@ -218,6 +238,18 @@ fn no_answer(number: u8) -> Served
     }
 }
 
+// One frame, and the mark beside it.
+fn answer(clear: u8, p: Parts, bytes: &[u8]) -> Served
+    ensures { λ r. ⌜ r ≡ answerWith clear (buildOf p (now (bytes .entry))) ⌝ }
+{
+    Served {
+        number: 0,
+        frames: 1,
+        clear,
+        frame: build(p, bytes),
+    }
+}
+
 // RSP, to the table and offset that the request asks for, and its mark.
 fn reply(own: u8, to: u8, q: RequestRead, bytes: &[u8]) -> Served
     requires { ⌜ (own ≤ 15) × (to ≤ 15) × (q .request .table ≤ 31) × (q .request .offset ≤ 2047) × (length (now bytes) ≤ 8) ⌝ }
@@ -230,12 +262,7 @@ fn reply(own: u8, to: u8, q: RequestRead, bytes: &[u8]) -> Served
         to,
         table: q.request.table,
     };
-    Served {
-        number: 0,
-        frames: 1,
-        clear: q.clear,
-        frame: build(parts, bytes),
-    }
+    answer(q.clear, parts, bytes)
 }
 
 // 2, then the two blocking factors, high byte first.
@@ -268,11 +295,42 @@ fn answer_request(own: u8, to: u8, at: usize, memory: &[u8], f: Frame) -> Served
     reply(own, to, q, &memory[at..end])
 }
 
-// What a frame that is not refused does; its offset lies at the place given, and p are the parts of its identifier.
-fn act(d: Directory, at: usize, memory: &mut [u8], p: Parts, f: Frame) -> Served
-    requires { ⌜ (serveNumber (device d (now memory)) f ≡ 0) × (at ≡ placeOf (device d (now memory)) f) × (p ≡ partsOf (f .id)) ⌝ }
-    ensures { λ r. ⌜ (r ≡ actOf (device d (now (memory .entry))) f) × (now (memory .exit) ≡ actAfter (device d (now (memory .entry))) f .memory) ⌝ }
+// A table of one memory copied to another.
+fn copy_table(t: Table, from: &[u8], to: &mut [u8])
+    requires { ⌜ (t .start + t .size ≤ length (now from)) × (t .start + t .size ≤ length (now to)) ⌝ }
+    ensures { λ _. ⌜ ((d : Directory) (k : ℕ) → t .start ≡ startOf d k → t .size ≡ sizeOf d k
+        → now (to .exit) ≡ copyTable d k (now (from .entry)) (now (to .entry))) ⌝ }
 {
+    let start = t.start as usize;
+    let end = start + t.size as usize;
+    wire::put(to, start, &from[start..end]);
+}
+
+// The answer to a BURN that is not refused, to its sender; p are the parts of its identifier.
+fn acknowledge(own: u8, p: Parts) -> Served
+    requires { ⌜ (own ≤ 15) × (p .from ≤ 15) × (p .table ≤ 31) ⌝ }
+    ensures { λ r. ⌜ r ≡ acknowledgement own (p .from) (p .table) ⌝ }
+{
+    let parts = Parts {
+        offset: 0,
+        kind: XTND,
+        from: own,
+        to: p.from,
+        table: p.table,
+    };
+    let bytes = [0x0e, 0x01];
+    answer(0, parts, &bytes)
+}
+
+// What a frame that is not refused does; t is the table that it addresses, p the parts of its identifier.
+fn act(d: Directory, t: Table, memory: &mut [u8], flash: &mut [u8], p: Parts, f: Frame) -> Served
+    requires { ⌜ (serveNumber (device d (now memory) (now flash)) f ≡ 0) × (t .start ≡ startOf d (tableOf f)) × (t .size ≡ sizeOf d (tableOf f))
+        × (p ≡ partsOf (f .id)) ⌝ }
+    ensures { λ r. ⌜ (r ≡ actOf (device d (now (memory .entry)) (now (flash .entry))) f)
+        × (now (memory .exit) ≡ actAfter (device d (now (memory .entry)) (now (flash .entry))) f .memory)
+        × (now (flash .exit) ≡ actAfter (device d (now (memory .entry)) (now (flash .entry))) f .flash) ⌝ }
+{
+    let at = t.start as usize + p.offset as usize;
     if p.kind == CMD {
         copy_content(memory, at, f);
         return no_answer(0);
@@ -280,18 +338,25 @@ fn act(d: Directory, at: usize, memory: &mut [u8], p: Parts, f: Frame) -> Served
     if p.kind == REQ {
         return answer_request(d.own, p.from, at, &memory[..], f);
     }
+    if p.kind == BURN {
+        copy_table(t, &memory[..], flash);
+        return acknowledge(d.own, p);
+    }
     answer_query(d, p.from, f)
 }
 
-// What the holder of these tables, which lie back to back in memory, does with a frame.
-pub fn serve(d: Directory, memory: &mut [u8], f: Frame) -> Served
-    ensures { λ r. ⌜ (r ≡ serveOf (device d (now (memory .entry))) f) × (now (memory .exit) ≡ deviceAfter (device d (now (memory .entry))) f .memory) ⌝ }
-    ensures demand2 { λ r. ⌜ Demand2 (device d (now (memory .entry))) f r (device d (now (memory .exit))) ⌝ }
+// What the holder of these tables, which lie back to back in memory and in flash, does with a frame.
+pub fn serve(d: Directory, memory: &mut [u8], flash: &mut [u8], f: Frame) -> Served
+    ensures { λ r. ⌜ (r ≡ serveOf (device d (now (memory .entry)) (now (flash .entry))) f)
+        × (now (memory .exit) ≡ deviceAfter (device d (now (memory .entry)) (now (flash .entry))) f .memory)
+        × (now (flash .exit) ≡ deviceAfter (device d (now (memory .entry)) (now (flash .entry))) f .flash) ⌝ }
+    ensures demand2 { λ r. ⌜ Demand2 (device d (now (memory .entry)) (now (flash .entry))) f r
+        (device d (now (memory .exit)) (now (flash .exit))) ⌝ }
     ensures examples { λ _. ⌜ Examples ⌝ }
 {
     // Looked up before the directory is judged: a processor does both at once.
     let t = table_at(d, table_of(f.id) as usize);
-    let unsound = memory_number(d, memory.len());
+    let unsound = memory_number(d, memory.len(), flash.len());
     if unsound != 0 {
         return no_answer(unsound);
     }
@@ -300,5 +365,5 @@ pub fn serve(d: Directory, memory: &mut [u8], f: Frame) -> Served
     if number != 0 {
         return no_answer(number);
     }
-    act(d, t.start as usize + p.offset as usize, memory, p, f)
+    act(d, t, memory, flash, p, f)
 }

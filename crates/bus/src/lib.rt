@@ -5,6 +5,7 @@ pub mod ident;
 pub mod requests;
 mod rows;
 
+pub use bus_rules::BURN;
 pub use bus_rules::CMD;
 pub use bus_rules::Directory;
 pub use bus_rules::Frame;

@@ -1,8 +1,8 @@
 -- The holder's definitions by cases, and what an answer of 0 says.
-use mathlib.Core.Path.{_≡_, refl, sym, _∙_, ap₂}
+use mathlib.Core.Path.{_≡_, refl, sym, _∙_, ap, ap₂, subst}
 use mathlib.Core.List.{List}
 use mathlib.Core.Logic.{_⊎_, inl, inr, _≢_}
-use mathlib.Core.Bool.{Bool, true, false, cond}
+use mathlib.Core.Bool.{Bool, true, false}
 use Prim.Native.Nat.{ℕ, zero, suc, _+_, _≤_}
 use native.Mathlib.Omega.{arith}
 use lib.Dec.{eqb}
@@ -11,55 +11,103 @@ use borrow.Author.Tests.{ltb-false, eqb-true, eqb-false, eq-eqb, ne-eqb, not-fal
 use Rattle.wire.specs.Order.{_if_else_}
 use Rattle.wire.proofs.Orders.{if-zero, else-zero}
 use Rattle.bus_rules.specs.Ident.{idFrom, idKind, idOffset}
-use Rattle.bus_rules.specs.Frames.{Frame, cmd, req, xtnd, headNumber}
-use Rattle.bus_rules.specs.Device.{Device, device, ownOf, rangeOf, totalOf, memoryNumber}
-use Rattle.bus_rules.specs.Holder.{commandNumber, requestNumber, queryNumber, kindNumber, serveNumber, byteOf, readAt, requestAt}
-use Rattle.bus_rules.specs.Holder.{tableOf, sizeAt, rightAt, byKind, noAnswer, replyTo, placeOf, protocol, actOf, storing, actAfter}
-use Rattle.bus_rules.specs.Holder.{servedBy, afterBy, serveOf, deviceAfter}
+use Rattle.bus_rules.specs.Frames.{Frame, cmd, req, burn, xtnd, headNumber}
+use Rattle.bus_rules.specs.Device.{Directory, Device, device, ownOf, rangeOf, totalOf, memoryNumber}
+use Rattle.bus_rules.specs.Holder.{commandNumber, requestNumber, burnNumber, queryNumber, kindNumber, serveNumber, byteOf, readAt, requestAt}
+use Rattle.bus_rules.specs.Holder.{tableOf, sizeAt, rightAt, byKind, noAnswer, replyTo, acknowledgement, placeOf, protocol, actOf, storing, burning}
+use Rattle.bus_rules.specs.Holder.{Served, answerWith, actAfter, servedBy, afterBy, serveOf, deviceAfter}
 use Rattle.bus_rules.specs.Demand2.{SoundDirectory}
 use Rattle.bus_rules.proofs.IdentLaws.{table-small}
 use Rattle.bus_rules.proofs.Directories.{memory-zero, table-within}
+
+-- ── What is chosen by type ─────────────────────────────────────────────────────────────────────────────────────────
+
+module _ {A : Type 0} (k : ℕ) (c r b x o : A) where
+  by-command : k ≡ cmd → byKind k c r b x o ≡ c
+  unfolding byKind
+  by-command h = rw (eq-eqb _ _ h)
+
+  by-request : k ≡ req → byKind k c r b x o ≡ r
+  unfolding byKind
+  by-request h = rw (ne-eqb k cmd (λ z. omega arith), eq-eqb _ _ h)
+
+  by-burn : k ≡ burn → byKind k c r b x o ≡ b
+  unfolding byKind
+  by-burn h = rw (ne-eqb k cmd (λ z. omega arith), ne-eqb k req (λ z. omega arith), eq-eqb _ _ h)
+
+  by-query : k ≡ xtnd → byKind k c r b x o ≡ x
+  unfolding byKind
+  by-query h = rw (ne-eqb k cmd (λ z. omega arith), ne-eqb k req (λ z. omega arith), ne-eqb k burn (λ z. omega arith), eq-eqb _ _ h)
+
+  by-other : k ≢ cmd → k ≢ req → k ≢ burn → k ≢ xtnd → byKind k c r b x o ≡ o
+  unfolding byKind
+  by-other u v w z = rw (ne-eqb _ _ u, ne-eqb _ _ v, ne-eqb _ _ w, ne-eqb _ _ z)
+
+-- a type is one of the four, or another
+pub by-type : {P : Type 0} (k : ℕ) → (k ≡ cmd → P) → (k ≡ req → P) → (k ≡ burn → P) → (k ≡ xtnd → P) → (k ≢ cmd → k ≢ req → k ≢ burn → k ≢ xtnd → P) → P
+by-type {P} k c r b x o = go (eqb k cmd) (eqb k req) (eqb k burn) (eqb k xtnd) refl refl refl refl
+  where
+    go : (s t u v : Bool) → eqb k cmd ≡ s → eqb k req ≡ t → eqb k burn ≡ u → eqb k xtnd ≡ v → P
+    go true t u v e g h i = c (eqb-true _ _ e)
+    go false true u v e g h i = r (eqb-true _ _ g)
+    go false false true v e g h i = b (eqb-true _ _ h)
+    go false false false true e g h i = x (eqb-true _ _ i)
+    go false false false false e g h i = o (eqb-false _ _ e) (eqb-false _ _ g) (eqb-false _ _ h) (eqb-false _ _ i)
+
+-- what one device holds, another that is the same holds
+pub same-memories : {a b : Device} → a ≡ b → (b .memory ≡ a .memory) × (b .flash ≡ a .flash)
+same-memories h = (sym (ap (λ (v : Device). v .memory) h), sym (ap (λ (v : Device). v .flash) h))
 
 -- ── Numbers by type ────────────────────────────────────────────────────────────────────────────────────────────────
 
 module _ (e : Device) (f : Frame) where
   pub command-case : idKind (f .id) ≡ cmd → kindNumber e f ≡ commandNumber (f .len) (sizeAt e f) (rightAt e f) (idOffset (f .id))
-  unfolding kindNumber byKind
-  command-case h = rw (eq-eqb _ _ h)
+  unfolding kindNumber
+  command-case h = by-command _ _ _ _ _ _ h
 
   pub request-case : idKind (f .id) ≡ req
       → kindNumber e f ≡ requestNumber (f .len) (sizeAt e f) (rightAt e f) (idOffset (f .id)) (requestAt f 0 .count)
-  unfolding kindNumber byKind
-  request-case h = rw (ne-eqb (idKind (f .id)) cmd (λ z. omega arith), eq-eqb _ _ h)
+  unfolding kindNumber
+  request-case h = by-request _ _ _ _ _ _ h
+
+  pub burn-case : idKind (f .id) ≡ burn → kindNumber e f ≡ burnNumber (f .len) (sizeAt e f) (rightAt e f)
+  unfolding kindNumber
+  burn-case h = by-burn _ _ _ _ _ _ h
 
   pub query-case : idKind (f .id) ≡ xtnd → kindNumber e f ≡ queryNumber (f .len) (byteOf f 0) (requestAt f 1 .count)
-  unfolding kindNumber byKind
-  query-case h = rw (ne-eqb (idKind (f .id)) cmd (λ z. omega arith), ne-eqb (idKind (f .id)) req (λ z. omega arith), eq-eqb _ _ h)
+  unfolding kindNumber
+  query-case h = by-query _ _ _ _ _ _ h
 
-  pub other-case : idKind (f .id) ≢ cmd → idKind (f .id) ≢ req → idKind (f .id) ≢ xtnd → kindNumber e f ≡ 5
-  unfolding kindNumber byKind
-  other-case c r x = rw (ne-eqb _ _ c, ne-eqb _ _ r, ne-eqb _ _ x)
+  pub other-case : idKind (f .id) ≢ cmd → idKind (f .id) ≢ req → idKind (f .id) ≢ burn → idKind (f .id) ≢ xtnd → kindNumber e f ≡ 5
+  unfolding kindNumber
+  other-case c r b x = by-other _ _ _ _ _ _ c r b x
 
 -- ── Actions by type ────────────────────────────────────────────────────────────────────────────────────────────────
 
 module _ (e : Device) (f : Frame) where
   pub act-command : idKind (f .id) ≡ cmd → (actOf e f ≡ noAnswer 0) × (actAfter e f ≡ storing e f)
-  unfolding actOf actAfter byKind
-  act-command h = (rw (eq-eqb _ _ h), rw (eq-eqb _ _ h))
+  unfolding actOf actAfter
+  act-command h = (by-command _ _ _ _ _ _ h, by-command _ _ _ _ _ _ h)
 
   pub act-request : idKind (f .id) ≡ req
       → (actOf e f ≡ replyTo (ownOf e) (idFrom (f .id)) (readAt f 0) (rangeOf e (tableOf f) (idOffset (f .id)) (requestAt f 0 .count))) × (actAfter e f ≡ e)
-  unfolding actOf actAfter byKind
-  act-request h =
-      let n = ne-eqb (idKind (f .id)) cmd (λ z. omega arith) in
-      (rw (n, eq-eqb _ _ h), rw n)
+  unfolding actOf actAfter
+  act-request h = (by-request _ _ _ _ _ _ h, by-request _ _ _ _ _ _ h)
+
+  pub act-burn : idKind (f .id) ≡ burn
+      → (actOf e f ≡ acknowledgement (ownOf e) (idFrom (f .id)) (tableOf f)) × (actAfter e f ≡ burning e f)
+  unfolding actOf actAfter
+  act-burn h = (by-burn _ _ _ _ _ _ h, by-burn _ _ _ _ _ _ h)
 
   pub act-query : idKind (f .id) ≡ xtnd
       → (actOf e f ≡ replyTo (ownOf e) (idFrom (f .id)) (readAt f 1) (take (requestAt f 1 .count) (protocol (e .directory)))) × (actAfter e f ≡ e)
-  unfolding actOf actAfter byKind
-  act-query h =
-      let n = ne-eqb (idKind (f .id)) cmd (λ z. omega arith) in
-      (rw (n, ne-eqb (idKind (f .id)) req (λ z. omega arith), eq-eqb _ _ h), rw n)
+  unfolding actOf actAfter
+  act-query h = (by-query _ _ _ _ _ _ h, by-query _ _ _ _ _ _ h)
+
+  act-other : idKind (f .id) ≢ cmd → idKind (f .id) ≢ req → idKind (f .id) ≢ burn → idKind (f .id) ≢ xtnd
+      → (actOf e f ≡ noAnswer 0) × (actAfter e f ≡ e)
+  unfolding actOf actAfter
+  act-other c r b x = (by-other _ _ _ _ _ _ c r b x, by-other _ _ _ _ _ _ c r b x)
 
   pub served-case : serveNumber e f ≡ 0 → (serveOf e f ≡ actOf e f) × (deviceAfter e f ≡ actAfter e f)
   unfolding serveOf deviceAfter servedBy afterBy
@@ -71,27 +119,51 @@ module _ (e : Device) (f : Frame) where
   refused-case zero h ne = absurd (ne refl)
   refused-case (suc n) h ne = (rw h, rw h)
 
-  -- no frame but a CMD changes the device
-  pub only-command-changes : idKind (f .id) ≢ cmd → deviceAfter e f ≡ e
-  unfolding deviceAfter afterBy actAfter
-  only-command-changes k = go (serveNumber e f)
+  -- what holds of a device that stored or burnt, and of one that is unchanged, holds of the device after any frame
+  after-any : (P : Device → Type 0) → (idKind (f .id) ≡ cmd → P (storing e f)) → (idKind (f .id) ≡ burn → P (burning e f)) → P e → P (deviceAfter e f)
+  after-any P c b same = go (serveNumber e f) refl
     where
-      go : (n : ℕ) → afterBy n (cond (eqb (idKind (f .id)) cmd) (storing e f) e) e ≡ e
-      go zero = rw (ne-eqb _ _ k)
-      go (suc n) = refl
+      go : (n : ℕ) → serveNumber e f ≡ n → P (deviceAfter e f)
+      go zero z = subst P (sym (served-case z .1)) (by-type (idKind (f .id)) (λ k. subst P (sym (act-command k .1)) (c k))
+          (λ k. subst P (sym (act-request k .1)) same) (λ k. subst P (sym (act-burn k .1)) (b k)) (λ k. subst P (sym (act-query k .1)) same)
+          (λ u v w x. subst P (sym (act-other u v w x .1)) same))
+      go (suc n) z = subst P (sym (refused-case (suc n) z (λ q. omega arith) .1)) same
+
+  -- no frame but a CMD or a BURN changes the device
+  pub unchanged : idKind (f .id) ≢ cmd → idKind (f .id) ≢ burn → deviceAfter e f ≡ e
+  unchanged c b = after-any (λ v. v ≡ e) (λ k. absurd (c k)) (λ k. absurd (b k)) refl
+
+  -- no frame but a BURN changes the flash
+  pub same-flash : idKind (f .id) ≢ burn → deviceAfter e f .flash ≡ e .flash
+  unfolding storing
+  same-flash b = after-any (λ v. v .flash ≡ e .flash) (λ k. refl) (λ k. absurd (b k)) refl
 
   -- no frame changes the directory
   pub same-directory : deviceAfter e f .directory ≡ e .directory
-  unfolding deviceAfter afterBy actAfter storing
-  same-directory = go (serveNumber e f) (eqb (idKind (f .id)) cmd)
-    where
-      go : (n : ℕ) (b : Bool) → afterBy n (cond b (storing e f) e) e .directory ≡ e .directory
-      go zero true = refl
-      go zero false = refl
-      go (suc n) b = refl
+  unfolding storing burning
+  same-directory = after-any (λ v. v .directory ≡ e .directory) (λ k. refl) (λ k. refl) refl
 
-  pub device-after : (m : List ℕ) → m ≡ deviceAfter e f .memory → device (e .directory) m ≡ deviceAfter e f
-  device-after m h = ap₂ device (sym same-directory) h
+  pub device-after : (m p : List ℕ) → m ≡ deviceAfter e f .memory → p ≡ deviceAfter e f .flash → device (e .directory) m p ≡ deviceAfter e f
+  device-after m p h g =
+      ap (λ (d : Directory). device d m p) (sym same-directory) ∙ ap₂ (device (deviceAfter e f .directory)) h g
+
+  -- what is done is answered 0
+  act-zero : actOf e f .number ≡ 0
+  unfolding replyTo acknowledgement answerWith noAnswer
+  act-zero = by-type (idKind (f .id)) (λ k. number (act-command k .0)) (λ k. number (act-request k .0)) (λ k. number (act-burn k .0))
+      (λ k. number (act-query k .0)) (λ c r b x. number (act-other c r b x .0))
+    where
+      number : {a b : Served} → a ≡ b → a .number ≡ b .number
+      number h = ap (λ (s : Served). s .number) h
+
+  -- the answer's number is the judgement's
+  pub number-is : serveOf e f .number ≡ serveNumber e f
+  unfolding serveOf servedBy noAnswer
+  number-is = go (serveNumber e f)
+    where
+      go : (n : ℕ) → servedBy n (actOf e f) .number ≡ n
+      go zero = act-zero
+      go (suc n) = refl
 
 -- ── What 0 says ────────────────────────────────────────────────────────────────────────────────────────────────────
 
@@ -133,23 +205,24 @@ query-zero len first count h =
 -- a frame that is not refused
 pub record Accepted (e : Device) (f : Frame) : Type 0 where
   pub directory : SoundDirectory (e .directory)
-  pub total : length (e .memory) ≡ totalOf (e .directory)
+  pub memory : length (e .memory) ≡ totalOf (e .directory)
+  pub flash : length (e .flash) ≡ totalOf (e .directory)
   pub head : headNumber (ownOf e) f ≡ 0
   pub kind : kindNumber e f ≡ 0
 
 pub accepted : (e : Device) (f : Frame) → serveNumber e f ≡ 0 → Accepted e f
 unfolding serveNumber
 accepted e f h =
-    let h1 = else-zero (memoryNumber (e .directory) (length (e .memory))) _ h in
+    let h1 = else-zero (memoryNumber (e .directory) (length (e .memory)) (length (e .flash))) _ h in
     let h2 = else-zero (headNumber (ownOf e) f) (kindNumber e f) (h1 .1) in
-    let h3 = memory-zero (e .directory) (length (e .memory)) (h1 .0) in
-    record { directory = h3 .0; total = h3 .1; head = h2 .0; kind = h2 .1 }
+    let h3 = memory-zero (e .directory) (length (e .memory)) (length (e .flash)) (h1 .0) in
+    record { directory = h3 .0; memory = h3 .1; flash = h3 .2; head = h2 .0; kind = h2 .1 }
 
 module _ (e : Device) (f : Frame) (a : Accepted e f) where
   -- a range of the addressed table lies within the memory
   in-memory : (k : ℕ) → idOffset (f .id) + k ≤ sizeAt e f → placeOf e f + k ≤ length (e .memory)
   unfolding placeOf
-  in-memory k h = omega (arith, table-within (e .directory) (tableOf f) (omega (arith, table-small (f .id))), a .total)
+  in-memory k h = omega (arith, table-within (e .directory) (tableOf f) (omega (arith, table-small (f .id))), a .memory)
 
   pub command-fits : idKind (f .id) ≡ cmd
       → (idOffset (f .id) + f .len ≤ sizeAt e f) × (placeOf e f + f .len ≤ length (e .memory))
@@ -173,9 +246,6 @@ module _ (e : Device) (f : Frame) (a : Accepted e f) where
   pub query-length : idKind (f .id) ≡ xtnd → f .len ≡ 4
   query-length k = query-zero _ _ _ (sym (query-case e f k) ∙ a .kind) .0
 
-  pub is-query : idKind (f .id) ≢ cmd → idKind (f .id) ≢ req → idKind (f .id) ≡ xtnd
-  is-query c r = go (eqb (idKind (f .id)) xtnd) refl
-    where
-      go : (b : Bool) → eqb (idKind (f .id)) xtnd ≡ b → idKind (f .id) ≡ xtnd
-      go true h = eqb-true _ _ h
-      go false h = absurd (omega (arith, sym (other-case e f c r (eqb-false (idKind (f .id)) xtnd h)) ∙ a .kind))
+  -- it is of one of the four types
+  pub served-type : {P : Type 0} → (idKind (f .id) ≡ cmd → P) → (idKind (f .id) ≡ req → P) → (idKind (f .id) ≡ burn → P) → (idKind (f .id) ≡ xtnd → P) → P
+  served-type c r b x = by-type (idKind (f .id)) c r b x (λ u v w y. absurd (omega (arith, sym (other-case e f u v w y) ∙ a .kind)))

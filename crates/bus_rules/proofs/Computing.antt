@@ -6,9 +6,10 @@ use Rattle.bus_rules.specs.Ident.{unpackNumber, unpackOf}
 use Rattle.bus_rules.specs.Frames.{content, padded, frameWith, buildOf, noFrame, headNumber, receiveNumber, readHeadOf}
 use Rattle.bus_rules.specs.Request.{requestOf, clearOf, readRequestOf, request, requestBytesNumber, wroteRequest, requestBytesOf}
 use Rattle.bus_rules.specs.Device.{sizeOf, rightOf, startOf, totalOf, soundTables, soundDirectory, directoryNumber, lengthNumber}
-use Rattle.bus_rules.specs.Device.{memoryNumber, rangeOf}
-use Rattle.bus_rules.specs.Holder.{commandNumber, requestNumber, queryNumber, byteOf, readAt, requestAt, byKind, kindNumber, serveNumber}
-use Rattle.bus_rules.specs.Holder.{noAnswer, answerWith, replyTo, placeOf, protocol, actOf, storing, actAfter, servedBy, afterBy, serveOf, deviceAfter}
+use Rattle.bus_rules.specs.Device.{memoryNumber, rangeOf, copyTable}
+use Rattle.bus_rules.specs.Holder.{commandNumber, requestNumber, burnNumber, queryNumber, byteOf, readAt, requestAt, byKind, kindNumber, serveNumber}
+use Rattle.bus_rules.specs.Holder.{noAnswer, answerWith, replyTo, acknowledgement, placeOf, protocol, actOf, storing, burning, actAfter}
+use Rattle.bus_rules.specs.Holder.{servedBy, afterBy, serveOf, deviceAfter}
 
 unfoldable pub orders : Unit {0}
 unfolding _if_else_ _orElse_ answer result
@@ -27,15 +28,15 @@ unfolding requestOf clearOf readRequestOf request requestBytesNumber wroteReques
 requests = tt
 
 unfoldable pub devices : Unit {0}
-unfolding sizeOf rightOf startOf totalOf soundTables soundDirectory directoryNumber lengthNumber memoryNumber rangeOf
+unfolding sizeOf rightOf startOf totalOf soundTables soundDirectory directoryNumber lengthNumber memoryNumber rangeOf copyTable
 devices = tt
 
 unfoldable pub numbers : Unit {0}
-unfolding commandNumber requestNumber queryNumber byteOf readAt requestAt byKind kindNumber serveNumber
+unfolding commandNumber requestNumber burnNumber queryNumber byteOf readAt requestAt byKind kindNumber serveNumber
 numbers = tt
 
 unfoldable pub answers : Unit {0}
-unfolding noAnswer answerWith replyTo placeOf protocol actOf storing actAfter servedBy afterBy serveOf deviceAfter
+unfolding noAnswer answerWith replyTo acknowledgement placeOf protocol actOf storing burning actAfter servedBy afterBy serveOf deviceAfter
 answers = tt
 
 unfoldable pub bus : Unit {0}

@@ -1,27 +1,26 @@
 -- Demand 2 of the table holder, proved.
 use mathlib.Core.Path.{_≡_, refl, sym, _∙_, ap, subst}
 use mathlib.Core.Logic.{_⊎_, inl, inr, _≢_}
-use mathlib.Core.Bool.{Bool, true, false, cond}
 use mathlib.Core.List.{List, [], _∷_}
-use lib.Dec.{eqb}
-use Prim.Native.Nat.{ℕ, zero, suc, _+_, _/_, _%_, _≤_, _<_}
+use Prim.Native.Nat.{ℕ, _+_, _/_, _%_, _≤_, _<_}
 use native.Mathlib.Omega.{arith}
 use lib.ListN.{length, getD, take, drop}
 use lib.Seq.{length-sets, getD-take, getD-drop, length-take-le}
 use Rattle.wire.proofs.Puts.{sets-in, sets-outside}
 use Rattle.bus_rules.specs.Ident.{idFrom, idKind, idOffset}
-use Rattle.bus_rules.specs.Frames.{Frame, cmd, req, rsp, xtnd, padded, content, frameWith}
+use Rattle.bus_rules.specs.Frames.{Frame, cmd, req, rsp, burn, xtnd, padded, content, frameWith}
 use Rattle.bus_rules.specs.Request.{Request, RequestRead, requestOf, readRequestOf}
 use Rattle.bus_rules.specs.Device.{Device, ownOf, rangeOf, startOf, sizeOf}
 use Rattle.bus_rules.specs.Holder.{Served, serveNumber, byteOf, readAt, requestAt, tableOf, sizeAt, noAnswer, answerWith, replyTo, placeOf, protocol}
-use Rattle.bus_rules.specs.Holder.{byKind, actOf, storing, servedBy, serveOf, deviceAfter}
-use Rattle.bus_rules.specs.Demand2.{CommandServed, Replied, RequestServed, QueryServed, ServeNumber, Demand2}
-use Rattle.bus_rules.proofs.IdentLaws.{unpack-id, from-small}
+use Rattle.bus_rules.specs.Holder.{acknowledgement, storing, burning, serveOf, deviceAfter}
+use Rattle.bus_rules.specs.Demand2.{CommandServed, Replied, RequestServed, Acknowledged, BurnServed, QueryServed, ServeNumber, Demand2}
+use Rattle.bus_rules.proofs.IdentLaws.{unpack-id, from-small, table-small}
 use Rattle.bus_rules.proofs.FrameLaws.{IsFrame, padded-length, padded-in, padded-after, content-length, content-at, head-short, part-length}
 use Rattle.bus_rules.proofs.Cases.{Accepted, accepted, command-fits, request-fits, query-fits}
-use Rattle.bus_rules.proofs.Cases.{act-command, act-request, act-query, served-case, refused-case}
+use Rattle.bus_rules.proofs.Cases.{act-command, act-request, act-burn, act-query, served-case, refused-case, same-flash, same-directory, number-is}
 use Rattle.bus_rules.proofs.ServeNumber.{serve-numbers}
 use Rattle.bus_rules.proofs.Directories.{table-apart}
+use Rattle.bus_rules.proofs.CopiedTables.{burn-copied, kept-by-all}
 use Rattle.bus_rules.proofs.Ignored.{ignored}
 use Rattle.bus_rules.proofs.ReservedBits.{mark, request-cleared, query-cleared}
 
@@ -52,6 +51,25 @@ module _ (d : Device) (f : Frame) (r : RequestRead) (bs : List ℕ) (own : ownOf
   pub reply-padded : replyTo (ownOf d) (idFrom (f .id)) r bs .frame .bytes ≡ padded bs
   unfolding replyTo answerWith frameWith
   reply-padded = refl
+
+-- and an acknowledgement
+acknowledged : (d : Device) (f : Frame) → ownOf d ≤ 15 → Acknowledged d f (acknowledgement (ownOf d) (idFrom (f .id)) (tableOf f))
+unfolding acknowledgement answerWith frameWith padded
+acknowledged d f own =
+    record {
+      done = refl;
+      one = refl;
+      ident = unpack-id (record { offset = 0; kind = xtnd; from = ownOf d; to = idFrom (f .id); table = tableOf f })
+          (record {
+            offset = omega arith;
+            kind = omega arith;
+            from = omega arith;
+            to = omega (arith, from-small (f .id));
+            table = omega (arith, table-small (f .id));
+          });
+      len = refl;
+      bytes = refl;
+    }
 
 -- ── Frames that are not refused ────────────────────────────────────────────────────────────────────────────────────
 
@@ -122,6 +140,22 @@ module _ (d : Device) (f : Frame) (w : IsFrame f)
             ∙ range-byte (q .count) i lt);
       }
 
+  burn-served : idKind (f .id) ≡ burn → BurnServed d f (serveOf d f) (deviceAfter d f)
+  unfolding burning
+  burn-served k =
+      let a = act-burn d f k in
+      let s = served-case d f z in
+      let e : deviceAfter d f ≡ burning d f = s .1 ∙ a .1 in
+      let copied = burn-copied d f z k in
+      record {
+        reply = rw (s .0, a .0) (acknowledged d f (ok .directory .own));
+        sameTables = rw e;
+        sameMemory = rw e;
+        burnt = copied;
+        lasts = λ gs n i l. kept-by-all gs (deviceAfter d f) (d .directory) (tableOf f) i (same-directory d f)
+            (omega (arith, table-small (f .id))) l n ∙ copied .equal i l;
+      }
+
   protocol-length : length (protocol (d .directory)) ≡ 5
   unfolding protocol
   protocol-length = refl
@@ -173,30 +207,6 @@ module _ (d : Device) (f : Frame) (w : IsFrame f)
 -- ── All of it ──────────────────────────────────────────────────────────────────────────────────────────────────────
 
 module _ (d : Device) (f : Frame) where
-  -- the answer's number is the judgement's
-  act-zero : actOf d f .number ≡ 0
-  unfolding actOf byKind replyTo answerWith noAnswer
-  act-zero = go (eqb (idKind (f .id)) cmd) (eqb (idKind (f .id)) req) (eqb (idKind (f .id)) xtnd)
-    where
-      to : ℕ
-      to = idFrom (f .id)
-
-      go : (a b c : Bool) → (cond a (noAnswer 0) (cond b
-          (replyTo (ownOf d) to (readAt f 0) (rangeOf d (tableOf f) (idOffset (f .id)) (requestAt f 0 .count)))
-          (cond c (replyTo (ownOf d) to (readAt f 1) (take (requestAt f 1 .count) (protocol (d .directory)))) (noAnswer 0)))) .number ≡ 0
-      go true b c = refl
-      go false true c = refl
-      go false false true = refl
-      go false false false = refl
-
-  pub number-is : serveOf d f .number ≡ serveNumber d f
-  unfolding serveOf servedBy noAnswer
-  number-is = go (serveNumber d f)
-    where
-      go : (n : ℕ) → servedBy n (actOf d f) .number ≡ n
-      go zero = act-zero
-      go (suc n) = refl
-
   refused : (n : ℕ) → serveNumber d f ≡ n → n ≢ 0 → (serveOf d f .frames ≡ 0) × (serveOf d f ≡ noAnswer n) × (deviceAfter d f ≡ d)
   unfolding noAnswer
   refused n h k = let r = refused-case d f n h k in (ap (λ (s : Served). s .frames) (r .0), r .0, r .1)
@@ -206,11 +216,13 @@ module _ (d : Device) (f : Frame) where
   demand2 s after e g w tb wb =
       rw (e, g)
       (record {
-        number = subst (ServeNumber d f) (sym number-is) (serve-numbers d f);
-        refused = refused (serveOf d f .number) (sym number-is);
-        command = λ z. command-served d f w tb wb (sym number-is ∙ z);
-        request = λ z. request-served d f w tb wb (sym number-is ∙ z);
-        query = λ z. query-served d f w tb wb (sym number-is ∙ z);
+        number = subst (ServeNumber d f) (sym (number-is d f)) (serve-numbers d f);
+        refused = refused (serveOf d f .number) (sym (number-is d f));
+        command = λ z. command-served d f w tb wb (sym (number-is d f) ∙ z);
+        request = λ z. request-served d f w tb wb (sym (number-is d f) ∙ z);
+        burning = λ z. burn-served d f w tb wb (sym (number-is d f) ∙ z);
+        query = λ z. query-served d f w tb wb (sym (number-is d f) ∙ z);
+        sameFlash = same-flash d f;
         mark = mark d f;
         requestCleared = request-cleared d f w;
         queryCleared = query-cleared d f w;

@@ -1,13 +1,13 @@
 -- Laws of directories: where tables lie, and what a sound directory says.
 use mathlib.Core.Path.{_≡_, refl}
 use mathlib.Core.Logic.{_⊎_, inl, inr, _≢_}
-use mathlib.Core.Bool.{Bool, true, false, _&&_}
+use mathlib.Core.Bool.{Bool, true, false, not, _&&_, _||_}
 use Prim.Native.Nat.{ℕ, zero, suc, _+_, _-_, _≤_, _<_}
 use native.Mathlib.Numerals.{add-one}
 use native.Mathlib.Nat.{zero-add, suc-add}
 use native.Mathlib.Omega.{arith}
 use native.Mathlib.Decide.{decLt}
-use lib.Dec.{leb}
+use lib.Dec.{leb, eqb}
 use borrow.Author.Tests.{leb-true, le-leb, lt-leb, not-false, eqb-true}
 use Rattle.wire.proofs.Orders.{order, if-zero, else-zero}
 use Rattle.bus_rules.specs.Device.{Directory, startOf, totalOf, sizeOf, rightOf, soundTables, soundDirectory}
@@ -47,19 +47,34 @@ table-apart d k t i from len l h n = go (decLt k t)
     go (yes p) = inl (omega (arith, l, table-before d k t p))
     go (no p) = inr (omega (arith, h, table-before d t k (omega (arith, p, n))))
 
--- ── Conjunctions ───────────────────────────────────────────────────────────────────────────────────────────────────
+-- ── Tests ──────────────────────────────────────────────────────────────────────────────────────────────────────────
+
+pub apart : (b : Bool) → b ≡ true → b ≡ false → ⊥
+apart true e f = let z : _≡_ {A = Bool} true false = f in let w : _≡_ {A = ℕ} 0 1 = cc in omega arith
+apart false e f = let z : _≡_ {A = Bool} false true = e in let w : _≡_ {A = ℕ} 0 1 = cc in omega arith
 
 pub both : (a b : Bool) → (a && b) ≡ true → (a ≡ true) × (b ≡ true)
 both true b e = (refl, e)
-both false b e = absurd (let z : _≡_ {A = Bool} false true = e in let w : _≡_ {A = ℕ} 0 1 = cc in omega arith)
+both false b e = absurd (apart false e refl)
 
 left-false : (a b : Bool) → a ≡ false → (a && b) ≡ false
-left-false true b e = absurd (let z : _≡_ {A = Bool} true false = e in let w : _≡_ {A = ℕ} 0 1 = cc in omega arith)
+left-false true b e = absurd (apart true refl e)
 left-false false b e = refl
 
 right-false : (a b : Bool) → b ≡ false → (a && b) ≡ false
 right-false true b e = e
 right-false false b e = refl
+
+-- that one of two tests fails is false: both hold
+pub neither-not : (a b : Bool) → (not a || not b) ≡ false → (a ≡ true) × (b ≡ true)
+neither-not true true e = (refl, refl)
+neither-not true false e = absurd (apart true refl e)
+neither-not false b e = absurd (apart true refl e)
+
+-- where it is true they do not both hold
+pub not-both : (a b : Bool) → (not a || not b) ≡ true → a ≡ true → b ≡ true → ⊥
+not-both true b e g h = apart (not b) e (rw h)
+not-both false b e g h = apart false g refl
 
 -- ── Sound tables ───────────────────────────────────────────────────────────────────────────────────────────────────
 
@@ -132,10 +147,13 @@ pub sound-directory : (d : Directory) → directoryNumber d ≡ 0 → SoundDirec
 unfolding directoryNumber
 sound-directory d e = sound-says d (not-false _ (if-zero 10 _ _ e .0))
 
-pub right-length : (d : Directory) (n : ℕ) → lengthNumber d n ≡ 0 → n ≡ totalOf d
+right-lengths : (d : Directory) (n m : ℕ) → lengthNumber d n m ≡ 0 → (n ≡ totalOf d) × (m ≡ totalOf d)
 unfolding lengthNumber
-right-length d n e = eqb-true _ _ (not-false _ (if-zero 9 _ _ e .0))
+right-lengths d n m e = let h = neither-not (eqb n (totalOf d)) (eqb m (totalOf d)) (if-zero 9 _ _ e .0) in (eqb-true _ _ (h .0), eqb-true _ _ (h .1))
 
-pub memory-zero : (d : Directory) (n : ℕ) → memoryNumber d n ≡ 0 → SoundDirectory d × (n ≡ totalOf d)
+pub memory-zero : (d : Directory) (n m : ℕ) → memoryNumber d n m ≡ 0 → SoundDirectory d × (n ≡ totalOf d) × (m ≡ totalOf d)
 unfolding memoryNumber
-memory-zero d n e = let h = else-zero (directoryNumber d) (lengthNumber d n) e in (sound-directory d (h .0), right-length d n (h .1))
+memory-zero d n m e =
+    let h = else-zero (directoryNumber d) (lengthNumber d n m) e in
+    let l = right-lengths d n m (h .1) in
+    (sound-directory d (h .0), l .0, l .1)

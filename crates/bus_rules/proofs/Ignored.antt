@@ -1,22 +1,19 @@
 -- Input bytes past a frame's length are ignored.
 use mathlib.Core.Path.{_≡_, refl, sym, _∙_, ap}
 use mathlib.Core.Logic.{_≢_}
-use mathlib.Core.Bool.{Bool, true, false}
 use mathlib.Core.List.{List}
 use Prim.Native.Nat.{ℕ, zero, suc, _+_, _<_}
 use native.Mathlib.Omega.{arith}
-use lib.Dec.{eqb}
 use lib.ListN.{getD}
-use borrow.Author.Tests.{eqb-true, eqb-false}
 use Rattle.bus_rules.specs.Ident.{idKind}
-use Rattle.bus_rules.specs.Frames.{Frame, cmd, req, content}
+use Rattle.bus_rules.specs.Frames.{Frame, content}
 use Rattle.bus_rules.specs.Request.{RequestRead}
 use Rattle.bus_rules.specs.Device.{Device}
 use Rattle.bus_rules.specs.Holder.{serveNumber, byteOf, readAt, requestAt, placeOf, storing, answerWith, serveOf, deviceAfter}
 use Rattle.bus_rules.proofs.FrameLaws.{content-at}
-use Rattle.bus_rules.proofs.Cases.{Accepted, accepted, is-query, request-length, query-length}
+use Rattle.bus_rules.proofs.Cases.{Accepted, accepted, served-type, request-length, query-length}
 use Rattle.bus_rules.proofs.Cases.{act-command, served-case}
-use Rattle.bus_rules.proofs.SameReplies.{Alike, alike-itself, number-same, refused-same, device-same, request-reply, query-reply}
+use Rattle.bus_rules.proofs.SameReplies.{Alike, alike-itself, number-same, refused-same, device-same, burn-same, request-reply, query-reply}
 
 -- ── Two frames that agree up to their length ───────────────────────────────────────────────────────────────────────
 
@@ -59,29 +56,22 @@ module _ (d : Device) (f g : Frame) (same-id : g .id ≡ f .id) (same-len : g .l
 
   -- frames that are not refused do the same
   served-same : serveNumber d f ≡ 0 → (serveOf d g ≡ serveOf d f) × (deviceAfter d g ≡ deviceAfter d f)
-  served-same z = go (eqb (idKind (f .id)) cmd) (eqb (idKind (f .id)) req) refl refl
+  served-same z = served-type d f ok
+      (λ c. let x = served-case d g (number-same d f g alike ∙ z) in
+      let y = served-case d f z in
+      let u = act-command d g (ap idKind same-id ∙ c) in
+      let v = act-command d f c in
+      (x .0 ∙ u .0 ∙ sym (y .0 ∙ v .0), x .1 ∙ u .1 ∙ store-same ∙ sym (y .1 ∙ v .1)))
+      (λ c. let l = request-length d f ok c in
+      let m = same-mark 0 (omega arith) in
+      (request-reply d f g alike z c ∙ m ∙ sym (request-reply d f f (alike-itself f) z c), device-same d f g alike (λ y. omega arith) (λ y. omega arith)))
+      (burn-same d f g alike z)
+      (λ c. let l = query-length d f ok c in
+      let m = same-mark 1 (omega arith) in
+      (query-reply d f g alike z c ∙ m ∙ sym (query-reply d f f (alike-itself f) z c), device-same d f g alike (λ y. omega arith) (λ y. omega arith)))
     where
       ok : Accepted d f
       ok = accepted d f z
-
-      go : (a b : Bool) → eqb (idKind (f .id)) cmd ≡ a → eqb (idKind (f .id)) req ≡ b → (serveOf d g ≡ serveOf d f) × (deviceAfter d g ≡ deviceAfter d f)
-      go true b e h =
-          let c = eqb-true (idKind (f .id)) cmd e in
-          let x = served-case d g (number-same d f g alike ∙ z) in
-          let y = served-case d f z in
-          let u = act-command d g (ap idKind same-id ∙ c) in
-          let v = act-command d f c in
-          (x .0 ∙ u .0 ∙ sym (y .0 ∙ v .0), x .1 ∙ u .1 ∙ store-same ∙ sym (y .1 ∙ v .1))
-      go false true e h =
-          let c = eqb-true (idKind (f .id)) req h in
-          let l = request-length d f ok c in
-          let m = same-mark 0 (omega arith) in
-          (request-reply d f g alike z c ∙ m ∙ sym (request-reply d f f (alike-itself f) z c), device-same d f g alike (eqb-false _ _ e))
-      go false false e h =
-          let c = is-query d f ok (eqb-false _ _ e) (eqb-false _ _ h) in
-          let l = query-length d f ok c in
-          let m = same-mark 1 (omega arith) in
-          (query-reply d f g alike z c ∙ m ∙ sym (query-reply d f f (alike-itself f) z c), device-same d f g alike (eqb-false _ _ e))
 
   pub ignored : (serveOf d g ≡ serveOf d f) × (deviceAfter d g ≡ deviceAfter d f)
   ignored = go (serveNumber d f) refl

@@ -7,6 +7,7 @@ pub mod RowTheorems
 pub mod Directories
 pub mod Ranges
 pub mod Cases
+pub mod CopiedTables
 pub mod ServeNumber
 pub mod SameReplies
 pub mod Ignored

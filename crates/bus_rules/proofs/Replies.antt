@@ -1,5 +1,5 @@
 -- What a device that keeps the holder's rules replies, for a layer that hears only the bus: a CMD gets no reply; a REQ's reply goes to
--- the asked table and offset, and its bytes are the range; a device that replies has an own number of at most 15 and is unchanged.
+-- the asked table and offset, its bytes are the range in the device after it, which is unchanged; a device that replies has an own number of at most 15.
 use Prim.Native.Nat.{ℕ, zero, suc, _*_, _≤_}
 use mathlib.Core.Path.{_≡_, refl, sym, _∙_, ap}
 use native.Mathlib.Omega.{arith}
@@ -9,7 +9,11 @@ use Rattle.bus_rules.specs.Request.{request, requestOf, readRequestOf}
 use Rattle.bus_rules.specs.Device.{Device, ownOf, rangeOf}
 use Rattle.bus_rules.specs.Holder.{Served, byteOf, readAt, requestAt, tableOf, serveNumber, noAnswer, answerWith, replyTo, actOf}
 use Rattle.bus_rules.specs.Holder.{servedBy, serveOf, deviceAfter, Gives}
-use Rattle.bus_rules.proofs.Cases.{accepted, act-command, act-request, only-command-changes}
+use Rattle.bus_rules.proofs.Cases.{accepted, act-command, act-request, unchanged}
+
+-- a REQ changes nothing, answered or not
+pub asked-unchanged : (d : Device) (q : Frame) → idKind (q .id) ≡ req → deviceAfter d q ≡ d
+asked-unchanged d q k = unchanged d q (λ e. omega arith) (λ e. omega arith)
 
 module _ (d : Device) (q g : Frame) (e : Gives d q g) where
   -- a frame that is answered is not refused
@@ -26,16 +30,15 @@ module _ (d : Device) (q g : Frame) (e : Gives d q g) where
   unfolding noAnswer
   command-unanswered k = omega (arith, ap (λ (s : Served). s .frames) (sym (act-command d q k .0)) ∙ answered-act .1)
 
-  pub request-answered : idKind (q .id) ≡ req → g ≡ frameWith (idOf (requestAt q 0 .offset) rsp (ownOf d) (idFrom (q .id)) (requestAt q 0 .table))
-      (rangeOf d (tableOf q) (idOffset (q .id)) (requestAt q 0 .count))
+  pub request-answered : (after : Device) → after ≡ deviceAfter d q → idKind (q .id) ≡ req
+      → g ≡ frameWith (idOf (requestAt q 0 .offset) rsp (ownOf d) (idFrom (q .id)) (requestAt q 0 .table))
+      (rangeOf after (tableOf q) (idOffset (q .id)) (requestAt q 0 .count))
   unfolding replyTo answerWith requestAt
-  request-answered k = sym (answered-act .2) ∙ ap (λ (s : Served). s .frame) (act-request d q k .0)
+  request-answered after h k =
+      rw (h ∙ asked-unchanged d q k) (sym (answered-act .2) ∙ ap (λ (s : Served). s .frame) (act-request d q k .0))
 
   pub answerer-own : ownOf d ≤ 15
   answerer-own = accepted d q (answered-act .0) .directory .own
-
-  pub answerer-unchanged : deviceAfter d q ≡ d
-  answerer-unchanged = only-command-changes d q command-unanswered
 
 -- request bytes are read as they were written
 pub request-read : (id p len a : ℕ) → len ≤ 8 → p ≡ 8 * a

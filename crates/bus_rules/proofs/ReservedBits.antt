@@ -1,25 +1,22 @@
 -- Reserved bits change the mark and nothing else: a request with these bits cleared gets the same number and reply; and what the mark says.
 use mathlib.Core.Path.{_≡_, refl, sym, _∙_, ap, subst}
 use mathlib.Core.Logic.{_⊎_, inl, inr, ⊎-elim, _≢_}
-use mathlib.Core.Bool.{Bool, true, false}
 use mathlib.Core.List.{List, [], _∷_}
 use Prim.Native.Nat.{ℕ, zero, suc, _+_, _≤_, _<_}
 use native.Mathlib.Nat.{zero-add}
 use native.Mathlib.Omega.{arith}
-use lib.Dec.{eqb}
 use lib.ListN.{length, getD}
-use borrow.Author.Tests.{eqb-true, eqb-false}
 use Rattle.wire.proofs.Puts.{sets-in, sets-outside}
 use Rattle.bus_rules.specs.Ident.{idKind}
-use Rattle.bus_rules.specs.Frames.{Frame, cmd, req, xtnd}
+use Rattle.bus_rules.specs.Frames.{Frame, cmd, req, burn, xtnd}
 use Rattle.bus_rules.specs.Request.{RequestRead, readRequestOf}
 use Rattle.bus_rules.specs.Rows.{cleared}
 use Rattle.bus_rules.specs.Device.{Device}
-use Rattle.bus_rules.specs.Holder.{Served, serveNumber, byteOf, readAt, requestAt, noAnswer, answerWith, serveOf, deviceAfter}
+use Rattle.bus_rules.specs.Holder.{Served, serveNumber, byteOf, readAt, requestAt, noAnswer, answerWith, acknowledgement, serveOf, deviceAfter}
 use Rattle.bus_rules.specs.Demand2.{Clear, clearedAt, AsCleared, ClearAnswered, Mark}
 use Rattle.bus_rules.proofs.FrameLaws.{IsFrame}
 use Rattle.bus_rules.proofs.RequestLaws.{mark-small, clear-exactly, read-cleared}
-use Rattle.bus_rules.proofs.Cases.{accepted, is-query, act-command, served-case, refused-case}
+use Rattle.bus_rules.proofs.Cases.{accepted, served-type, act-command, act-burn, served-case, refused-case}
 use Rattle.bus_rules.proofs.SameReplies.{Alike, alike-itself, refused-same, device-same, request-reply, query-reply}
 
 -- ── Reserved bits cleared ──────────────────────────────────────────────────────────────────────────────────────────
@@ -81,17 +78,17 @@ module _ (f : Frame) (w : IsFrame f) (i : ℕ) (l : i < 6) where
   }
 
 module _ (d : Device) (f : Frame) (w : IsFrame f) where
-  -- of a frame that is no CMD, where frames that are read alike get the same reply but for the mark
-  as-cleared : (i : ℕ) → i < 6 → Alike f (clearedAt f i) → idKind (f .id) ≢ cmd
+  -- of a frame that is neither CMD nor BURN, where frames that are read alike get the same reply but for the mark
+  as-cleared : (i : ℕ) → i < 6 → Alike f (clearedAt f i) → idKind (f .id) ≢ cmd → idKind (f .id) ≢ burn
       → (serveNumber d f ≡ 0 → (g : Frame) → Alike f g → serveOf d g ≡ answerWith (readAt g i .clear) (serveOf d f .frame))
       → AsCleared d f i (serveOf d f) (deviceAfter d f)
   unfolding answerWith
-  as-cleared i l a k r = record {
+  as-cleared i l a k b r = record {
     isClear = is-clear f w i l;
     number = same (serveNumber d f) refl .0;
     frames = same (serveNumber d f) refl .1;
     frame = same (serveNumber d f) refl .2;
-    device = device-same d f (clearedAt f i) a k;
+    device = device-same d f (clearedAt f i) a k b;
   }
     where
       g : Frame
@@ -112,24 +109,24 @@ module _ (d : Device) (f : Frame) (w : IsFrame f) where
 
   pub request-cleared : idKind (f .id) ≡ req → AsCleared d f 0 (serveOf d f) (deviceAfter d f)
   request-cleared k =
-      as-cleared 0 (omega arith) (alike-cleared f w 0 (omega arith) (λ e. refl) (λ e. absurd (omega arith))) (λ e. omega arith)
+      as-cleared 0 (omega arith) (alike-cleared f w 0 (omega arith) (λ e. refl) (λ e. absurd (omega arith))) (λ e. omega arith) (λ e. omega arith)
       (λ z g a. request-reply d f g a z k)
 
   pub query-cleared : idKind (f .id) ≡ xtnd → AsCleared d f 1 (serveOf d f) (deviceAfter d f)
   query-cleared k =
-      as-cleared 1 (omega arith) (alike-cleared f w 1 (omega arith) (λ e. absurd (omega arith)) (λ e. refl)) (λ e. omega arith)
+      as-cleared 1 (omega arith) (alike-cleared f w 1 (omega arith) (λ e. absurd (omega arith)) (λ e. refl)) (λ e. omega arith) (λ e. omega arith)
       (λ z g a. query-reply d f g a z k)
 
 -- ── The mark ───────────────────────────────────────────────────────────────────────────────────────────────────────
 
 module _ (d : Device) (f : Frame) where
-  -- of an answer without a frame
-  unmarked : (n : ℕ) → serveOf d f ≡ noAnswer n → ¬ ClearAnswered f (serveOf d f) → Mark f (serveOf d f)
-  unfolding noAnswer
-  unmarked n e never = record {
-    small = rw e (omega arith);
-    exactly = (λ c. absurd (omega (arith, c, ap (λ (s : Served). s .clear) e)), λ h. absurd (never h));
-  }
+  -- of an answer with mark 0
+  unmarked : serveOf d f .clear ≡ 0 → ¬ ClearAnswered f (serveOf d f) → Mark f (serveOf d f)
+  unmarked e never = record { small = omega (arith, e); exactly = (λ c. absurd (omega (arith, c, e)), λ h. absurd (never h)) }
+
+  -- of a frame that is neither a REQ nor XTND
+  other : {s : Served} → serveOf d f ≡ s → s .clear ≡ 0 → idKind (f .id) ≢ req → idKind (f .id) ≢ xtnd → Mark f (serveOf d f)
+  other e n r x = unmarked (ap (λ (s : Served). s .clear) e ∙ n) (λ c. ⊎-elim (λ y. r (y .0)) (λ y. x (y .0)) (c .1))
 
   -- of an answer to a request whose bytes start at byte i
   marked : (i : ℕ) (g : Frame) → serveOf d f ≡ answerWith (readAt f i .clear) g
@@ -142,24 +139,16 @@ module _ (d : Device) (f : Frame) where
 
   -- by type, where the frame is not refused
   served-mark : serveNumber d f ≡ 0 → Mark f (serveOf d f)
-  unfolding noAnswer answerWith
-  served-mark z = go (eqb (idKind (f .id)) cmd) (eqb (idKind (f .id)) req) refl refl
-    where
-      go : (a b : Bool) → eqb (idKind (f .id)) cmd ≡ a → eqb (idKind (f .id)) req ≡ b → Mark f (serveOf d f)
-      go true b e h =
-          let k = eqb-true (idKind (f .id)) cmd e in
-          unmarked 0 (served-case d f z .0 ∙ act-command d f k .0)
-          (λ c. ⊎-elim (λ y. omega (arith, k, y .0)) (λ y. omega (arith, k, y .0)) (c .1))
-      go false true e h =
-          let k = eqb-true (idKind (f .id)) req h in
-          let r = request-reply d f f (alike-itself f) z k in
-          marked 0 _ r (λ c. (ap (λ (s : Served). s .number) r, inl (k, c)))
-          (λ c. ⊎-elim (λ y. y .1) (λ y. absurd (omega (arith, k, y .0))) (c .1))
-      go false false e h =
-          let k = is-query d f (accepted d f z) (eqb-false _ _ e) (eqb-false _ _ h) in
-          let r = query-reply d f f (alike-itself f) z k in
-          marked 1 _ r (λ c. (ap (λ (s : Served). s .number) r, inr (k, c)))
-          (λ c. ⊎-elim (λ y. absurd (omega (arith, k, y .0))) (λ y. y .1) (c .1))
+  unfolding noAnswer answerWith acknowledgement
+  served-mark z = served-type d f (accepted d f z)
+      (λ k. other (served-case d f z .0 ∙ act-command d f k .0) refl (λ y. omega arith) (λ y. omega arith))
+      (λ k. let r = request-reply d f f (alike-itself f) z k in
+      marked 0 _ r (λ c. (ap (λ (s : Served). s .number) r, inl (k, c)))
+      (λ c. ⊎-elim (λ y. y .1) (λ y. absurd (omega (arith, k, y .0))) (c .1)))
+      (λ k. other (served-case d f z .0 ∙ act-burn d f k .0) refl (λ y. omega arith) (λ y. omega arith))
+      (λ k. let r = query-reply d f f (alike-itself f) z k in
+      marked 1 _ r (λ c. (ap (λ (s : Served). s .number) r, inr (k, c)))
+      (λ c. ⊎-elim (λ y. absurd (omega (arith, k, y .0))) (λ y. y .1) (c .1)))
 
   pub mark : Mark f (serveOf d f)
   unfolding noAnswer
@@ -169,4 +158,4 @@ module _ (d : Device) (f : Frame) where
       go zero z = served-mark z
       go (suc n) z =
           let r = refused-case d f (suc n) z (λ e. omega arith) .0 in
-          unmarked (suc n) r (λ c. omega (arith, c .0, ap (λ (s : Served). s .number) r))
+          unmarked (ap (λ (s : Served). s .clear) r) (λ c. omega (arith, c .0, ap (λ (s : Served). s .number) r))

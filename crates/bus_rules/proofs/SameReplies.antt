@@ -10,13 +10,13 @@ use lib.ListN.{take}
 use borrow.Author.Tests.{eqb-true, eqb-false}
 use Rattle.wire.specs.Order.{_if_else_}
 use Rattle.bus_rules.specs.Ident.{idTable, idFrom, idKind, idOffset}
-use Rattle.bus_rules.specs.Frames.{Frame, cmd, req, xtnd, headNumber}
+use Rattle.bus_rules.specs.Frames.{Frame, cmd, req, burn, xtnd, headNumber}
 use Rattle.bus_rules.specs.Request.{Request, RequestRead}
 use Rattle.bus_rules.specs.Device.{Device, ownOf, rangeOf, sizeOf, rightOf}
-use Rattle.bus_rules.specs.Holder.{requestNumber, queryNumber, commandNumber, kindNumber, serveNumber, byteOf, readAt, requestAt, sizeAt, rightAt}
-use Rattle.bus_rules.specs.Holder.{Served, answerWith, replyTo, protocol, actOf, serveOf, deviceAfter}
-use Rattle.bus_rules.proofs.Cases.{accepted, command-case, request-case, query-case, other-case}
-use Rattle.bus_rules.proofs.Cases.{request-length, query-length, act-request, act-query, served-case, refused-case, only-command-changes}
+use Rattle.bus_rules.specs.Holder.{commandNumber, requestNumber, burnNumber, queryNumber, kindNumber, serveNumber, byteOf, readAt, requestAt}
+use Rattle.bus_rules.specs.Holder.{sizeAt, rightAt, Served, answerWith, replyTo, acknowledgement, protocol, actOf, burning, serveOf, deviceAfter}
+use Rattle.bus_rules.proofs.Cases.{accepted, by-type, command-case, request-case, burn-case, query-case, other-case}
+use Rattle.bus_rules.proofs.Cases.{request-length, query-length, act-request, act-query, act-burn, served-case, refused-case, unchanged}
 
 -- of one identifier and length: of a REQ the request is the same, of XTND the first byte and the request after it, each where the length
 -- lets it be read
@@ -77,19 +77,19 @@ module _ (d : Device) (f g : Frame) (a : Alike f g) where
   command-number-same =
       ap₂ (λ (i l : ℕ). commandNumber l (sizeOf (d .directory) (idTable i)) (rightOf (d .directory) (idTable i)) (idOffset i)) (a .id) (a .len)
 
+  burn-number-same : burnNumber (g .len) (sizeAt d g) (rightAt d g) ≡ burnNumber (f .len) (sizeAt d f) (rightAt d f)
+  burn-number-same = ap₂ (λ (i l : ℕ). burnNumber l (sizeOf (d .directory) (idTable i)) (rightOf (d .directory) (idTable i))) (a .id) (a .len)
+
   kind-same : kindNumber d g ≡ kindNumber d f
-  kind-same = go (eqb (idKind (f .id)) cmd) (eqb (idKind (f .id)) req) (eqb (idKind (f .id)) xtnd) refl refl refl
+  kind-same = by-type (idKind (f .id))
+      (λ z. command-case d g (k ∙ z) ∙ command-number-same ∙ sym (command-case d f z))
+      (λ z. request-case d g (k ∙ z) ∙ request-number-same z ∙ sym (request-case d f z))
+      (λ z. burn-case d g (k ∙ z) ∙ burn-number-same ∙ sym (burn-case d f z))
+      (λ z. query-case d g (k ∙ z) ∙ query-number-same z ∙ sym (query-case d f z))
+      (λ c r b x. other-case d g (λ z. c (sym k ∙ z)) (λ z. r (sym k ∙ z)) (λ z. b (sym k ∙ z)) (λ z. x (sym k ∙ z)) ∙ sym (other-case d f c r b x))
     where
       k : idKind (g .id) ≡ idKind (f .id)
       k = ap idKind (a .id)
-
-      go : (a b c : Bool) → eqb (idKind (f .id)) cmd ≡ a → eqb (idKind (f .id)) req ≡ b → eqb (idKind (f .id)) xtnd ≡ c → kindNumber d g ≡ kindNumber d f
-      go true b c e h x = let z = eqb-true (idKind (f .id)) cmd e in command-case d g (k ∙ z) ∙ command-number-same ∙ sym (command-case d f z)
-      go false true c e h x = let z = eqb-true (idKind (f .id)) req h in request-case d g (k ∙ z) ∙ request-number-same z ∙ sym (request-case d f z)
-      go false false true e h x = let z = eqb-true (idKind (f .id)) xtnd x in query-case d g (k ∙ z) ∙ query-number-same z ∙ sym (query-case d f z)
-      go false false false e h x =
-          other-case d g (λ z. eqb-false _ _ e (sym k ∙ z)) (λ z. eqb-false _ _ h (sym k ∙ z)) (λ z. eqb-false _ _ x (sym k ∙ z))
-          ∙ sym (other-case d f (eqb-false _ _ e) (eqb-false _ _ h) (eqb-false _ _ x))
 
   head-same : headNumber (ownOf d) g ≡ headNumber (ownOf d) f
   unfolding headNumber
@@ -105,8 +105,22 @@ module _ (d : Device) (f g : Frame) (a : Alike f g) where
       let y = refused-case d f (suc n) z (λ e. omega arith) in
       (x .0 ∙ sym (y .0), x .1 ∙ sym (y .1))
 
-  pub device-same : idKind (f .id) ≢ cmd → deviceAfter d g ≡ deviceAfter d f
-  device-same k = only-command-changes d g (λ e. k (sym (ap idKind (a .id)) ∙ e)) ∙ sym (only-command-changes d f k)
+  pub device-same : idKind (f .id) ≢ cmd → idKind (f .id) ≢ burn → deviceAfter d g ≡ deviceAfter d f
+  device-same c b =
+      let k = sym (ap idKind (a .id)) in
+      unchanged d g (λ e. c (k ∙ e)) (λ e. b (k ∙ e)) ∙ sym (unchanged d f c b)
+
+  -- what a served BURN does follows from its identifier alone
+  pub burn-same : serveNumber d f ≡ 0 → idKind (f .id) ≡ burn → (serveOf d g ≡ serveOf d f) × (deviceAfter d g ≡ deviceAfter d f)
+  unfolding burning
+  burn-same z k =
+      let x = served-case d g (number-same ∙ z) in
+      let y = served-case d f z in
+      let u = act-burn d g (ap idKind (a .id) ∙ k) in
+      let v = act-burn d f k in
+      let e : acknowledgement (ownOf d) (idFrom (g .id)) (idTable (g .id)) ≡ acknowledgement (ownOf d) (idFrom (f .id)) (idTable (f .id)) = rw (a .id) in
+      let h : burning d g ≡ burning d f = rw (a .id) in
+      (x .0 ∙ u .0 ∙ e ∙ sym (y .0 ∙ v .0), x .1 ∙ u .1 ∙ h ∙ sym (y .1 ∙ v .1))
 
 -- ── Replies ────────────────────────────────────────────────────────────────────────────────────────────────────────
 

@@ -1,12 +1,12 @@
 -- Each number is given exactly when the paper says.
 use mathlib.Core.Path.{_≡_, refl, sym, subst}
 use mathlib.Core.Logic.{_⊎_, inl, inr, _≢_}
-use mathlib.Core.Bool.{Bool, true, false, not}
+use mathlib.Core.Bool.{Bool, true, false, not, _||_}
 use Prim.Native.Nat.{ℕ, zero, suc, _+_, _≤_, _<_, _^_}
 use native.Mathlib.Omega.{arith}
 use lib.Dec.{leb, ltb, eqb}
 use lib.ListN.{length}
-use borrow.Author.Tests.{ltb-true, ltb-false, leb-true, leb-false, eqb-true, eqb-false, not-true, not-false}
+use borrow.Author.Tests.{ltb-true, ltb-false, leb-true, leb-false, eqb-true, eqb-false, eq-eqb, not-true, not-false}
 use Rattle.wire.specs.Order.{_if_else_}
 use Rattle.wire.specs.First.{First, Unless, Zero}
 use Rattle.wire.proofs.Firsts.{link, links, unless, unlesses, neither}
@@ -14,16 +14,12 @@ use Rattle.wire.proofs.Orders.{if-orElse, zero-orElse}
 use Rattle.bus_rules.specs.Ident.{idSpare, idTo}
 use Rattle.bus_rules.specs.Frames.{Frame, headNumber}
 use Rattle.bus_rules.specs.Device.{Device, ownOf, soundDirectory, totalOf, directoryNumber, lengthNumber, memoryNumber}
-use Rattle.bus_rules.specs.Holder.{commandNumber, requestNumber, queryNumber, kindNumber, serveNumber}
-use Rattle.bus_rules.specs.Demand2.{CommandNumber, RequestNumber, QueryNumber, KindNumber, ServeNumber}
-use Rattle.bus_rules.proofs.Directories.{sound-says, says-sound}
-use Rattle.bus_rules.proofs.Cases.{command-case, request-case, query-case, other-case}
+use Rattle.bus_rules.specs.Holder.{commandNumber, requestNumber, burnNumber, queryNumber, kindNumber, serveNumber}
+use Rattle.bus_rules.specs.Demand2.{CommandNumber, RequestNumber, BurnNumber, QueryNumber, KindNumber, ServeNumber}
+use Rattle.bus_rules.proofs.Directories.{apart, sound-says, says-sound, neither-not, not-both}
+use Rattle.bus_rules.proofs.Cases.{command-case, request-case, burn-case, query-case, other-case}
 
 -- ── What a test says ───────────────────────────────────────────────────────────────────────────────────────────────
-
-apart : (b : Bool) → b ≡ true → b ≡ false → ⊥
-apart true e f = let z : _≡_ {A = Bool} true false = f in let w : _≡_ {A = ℕ} 0 1 = cc in omega arith
-apart false e f = let z : _≡_ {A = Bool} false true = e in let w : _≡_ {A = ℕ} 0 1 = cc in omega arith
 
 ne-true : (a b : ℕ) → not (eqb a b) ≡ true → a ≢ b
 ne-true a b e = eqb-false a b (not-true _ e)
@@ -90,6 +86,14 @@ request-numbers len size right offset n =
     (λ e h. omega (arith, eqb-true n 0 e)) (λ e h. omega (arith, ltb-true 8 n e)) (few n)
     (λ y z. range-number size (offset + n))))
 
+burn-numbers : (len size right : ℕ) → Length len 0 (Missing (right ≢ 2) size Zero) (burnNumber len size right)
+unfolding burnNumber
+burn-numbers len size right =
+    unless 6 (not (eqb len 0)) _ (Missing (right ≢ 2) size Zero) (ne-true _ _) (is-false _ _)
+    (λ l. links 7 (eqb size 0) (not (eqb right 2)) _ Zero
+    (λ e. inl (eqb-true _ _ e)) (λ e. inr (ne-true _ _ e)) (λ e g. neither (eqb-false _ _ e) (ne-false _ _ g))
+    (λ s r. refl))
+
 abbrev Queries : ℕ → ℕ → Type 0
 Queries n = Unless ((n ≡ 1) ⊎ (n ≡ 5)) 9 Zero
 
@@ -112,6 +116,7 @@ module _ (e : Device) (f : Frame) where
       record {
         command = λ k. subst (CommandNumber e f) (sym (command-case e f k)) (command-numbers _ _ _ _);
         request = λ k. subst (RequestNumber e f) (sym (request-case e f k)) (request-numbers _ _ _ _ _);
+        burning = λ k. subst (BurnNumber e f) (sym (burn-case e f k)) (burn-numbers _ _ _);
         query = λ k. subst (QueryNumber f) (sym (query-case e f k)) (query-numbers _ _ _);
         other = other-case e f;
       }
@@ -121,7 +126,8 @@ module _ (e : Device) (f : Frame) where
 module _ (e : Device) (f : Frame) where
   -- the four parts of the order as one chain
   whole : serveNumber e f
-      ≡ (11 if not (soundDirectory (e .directory)) else 10 if not (eqb (length (e .memory)) (totalOf (e .directory)))
+      ≡ (11 if not (soundDirectory (e .directory))
+      else 10 if not (eqb (length (e .memory)) (totalOf (e .directory))) || not (eqb (length (e .flash)) (totalOf (e .directory)))
       else 1 if leb (2 ^ 29) (f .id) else 2 if not (eqb (idSpare (f .id)) 0)
       else 3 if ltb 8 (f .len) else 4 if not (eqb (idTo (f .id)) (ownOf e)) else kindNumber e f)
   unfolding serveNumber memoryNumber directoryNumber lengthNumber headNumber
@@ -133,10 +139,11 @@ module _ (e : Device) (f : Frame) where
       let r3 = First (8 < f .len) 3 r4 in
       let r2 = Unless (idSpare (f .id) ≡ 0) 2 r3 in
       let r1 = First (2 ^ 29 ≤ f .id) 1 r2 in
-      let r10 = Unless (length (e .memory) ≡ totalOf (e .directory)) 10 r1 in
+      let r10 = Unless ((length (e .memory) ≡ totalOf (e .directory)) × (length (e .flash) ≡ totalOf (e .directory))) 10 r1 in
       rw whole
       (unless 11 _ _ r10 (λ h s. apart _ (says-sound (e .directory) s) (not-true _ h)) (λ h. sound-says (e .directory) (not-false _ h))
-      (λ s. unless 10 _ _ r1 (ne-true _ _) (is-false _ _)
+      (λ s. unless 10 _ _ r1 (λ h l. not-both _ _ h (eq-eqb _ _ (l .0)) (eq-eqb _ _ (l .1)))
+      (λ h. let l = neither-not _ _ h in (eqb-true _ _ (l .0), eqb-true _ _ (l .1)))
       (λ l. link 1 _ _ r2 (leb-true _ _) (le-false _ _)
       (λ i. unless 2 _ _ r3 (ne-true _ _) (is-false _ _)
       (λ p. link 3 _ _ r4 (ltb-true _ _) (lt-false _ _)

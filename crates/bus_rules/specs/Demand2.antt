@@ -1,18 +1,18 @@
 -- DEMAND 2 of the table holder: a served write sets exactly the addressed bytes; a served request answers exactly the asked
--- bytes. And which number is given exactly when, and 02, C-16's mark. Of a call on the device e and the frame f that answers s and leaves the
--- device after.
+-- bytes. 02, C-11: "Demand 2 then speaks of both memories." And which number is given exactly when, and C-16's mark. Of a call on the device e and
+-- the frame f that answers s and leaves the device after.
 use Prim.Native.Nat.{ℕ, _+_, _≤_, _<_, _^_, _/_, _%_}
 use mathlib.Core.Path.{_≡_}
 use mathlib.Core.Logic.{_⊎_, _↔_, _≢_}
-use mathlib.Core.List.{[], _∷_}
+use mathlib.Core.List.{List, [], _∷_}
 use lib.ListN.{length, getD}
 use lib.Seq.{sets}
 use Rattle.wire.specs.First.{First, Unless, Zero}
 use Rattle.bus_rules.specs.Ident.{idSpare, idTo, idFrom, idKind, idOffset, unpackOf}
-use Rattle.bus_rules.specs.Frames.{Frame, cmd, req, rsp, xtnd, content}
+use Rattle.bus_rules.specs.Frames.{Frame, cmd, req, rsp, burn, xtnd, content}
 use Rattle.bus_rules.specs.Request.{Request}
 use Rattle.bus_rules.specs.Rows.{cleared}
-use Rattle.bus_rules.specs.Device.{Directory, Device, SameTables, ownOf, sizeOf, rightOf, startOf, totalOf}
+use Rattle.bus_rules.specs.Device.{Directory, Device, device, SameTables, ownOf, sizeOf, rightOf, startOf, totalOf}
 use Rattle.bus_rules.specs.Holder.{Served, byteOf, requestAt, tableOf, sizeAt, rightAt, placeOf, noAnswer, serveOf, deviceAfter}
 use Rattle.bus_rules.specs.declared.Unpacked.the-variants as U
 
@@ -57,6 +57,52 @@ pub record QueryServed (e : Device) (f : Frame) (s : Served) (after : Device) : 
       ∷ e .directory .«write_blocking» / 256 ∷ e .directory .«write_blocking» % 256 ∷ 0 ∷ 0 ∷ 0 ∷ []
   pub noOther : (requestAt f 1 .count ≡ 1) ⊎ (requestAt f 1 .count ≡ 5)
 
+-- "makes the flash bytes of that table equal to the table's and touches no other flash byte": of two memories, table k of `from` is copied to
+-- `to`, which is `after` afterwards
+pub record TableCopied (d : Directory) (k : ℕ) (from to after : List ℕ) : Type 0 where
+  pub within : (startOf d k + sizeOf d k ≤ length from) × (startOf d k + sizeOf d k ≤ length to)
+  pub sameLength : length after ≡ length to
+  pub equal : (i : ℕ) → i < sizeOf d k → getD after (startOf d k + i) 0 ≡ getD from (startOf d k + i) 0
+  pub others : (j : ℕ) → (j < startOf d k) ⊎ (startOf d k + sizeOf d k ≤ j) → getD after j 0 ≡ getD to j 0
+  pub otherTables : (l i : ℕ) → l < 32 → i < sizeOf d l → l ≢ k → getD after (startOf d l + i) 0 ≡ getD to (startOf d l + i) 0
+
+-- "XTND to the sender with offset 0, the burnt table, and bytes 0E 01"
+pub record Acknowledged (e : Device) (f : Frame) (s : Served) : Type 0 where
+  pub done : s .number ≡ 0
+  pub one : s .frames ≡ 1
+  pub ident : unpackOf (s .frame .id) ≡ U.Is (record { offset = 0; kind = xtnd; from = ownOf e; to = idFrom (f .id); table = tableOf f })
+  pub len : s .frame .len ≡ 2
+  pub bytes : s .frame .bytes ≡ 0x0E ∷ 0x01 ∷ 0 ∷ 0 ∷ 0 ∷ 0 ∷ 0 ∷ 0 ∷ []
+
+-- a served BURN of table k
+abbrev pub BurnOf : Device → ℕ → Frame → Type 0
+BurnOf e k f = (serveOf e f .number ≡ 0) × (idKind (f .id) ≡ burn) × (tableOf f ≡ k)
+
+-- the device with other working memory: what its host made of it, or loaded at power-up
+abbrev pub lentWith : Device → List ℕ → Device
+lentWith e memory = device (e .directory) memory (e .flash)
+
+-- the device after frames, one after the other, each with the working memory that is lent with it
+unfoldable pub afterAll : Device → List (List ℕ × Frame) → Device
+afterAll e [] = e
+afterAll e (g ∷ gs) = afterAll (deviceAfter (lentWith e (g .0)) (g .1)) gs
+
+-- none of these frames is a served BURN of table k
+unfoldable pub NoBurn : Device → ℕ → List (List ℕ × Frame) → Type 0
+NoBurn e k [] = Unit
+NoBurn e k (g ∷ gs) = ¬ BurnOf (lentWith e (g .0)) k (g .1) × NoBurn (deviceAfter (lentWith e (g .0)) (g .1)) k gs
+
+-- BURN: the table's flash bytes become the table's, no other flash byte changes, and no working byte
+pub record BurnServed (e : Device) (f : Frame) (s : Served) (after : Device) : Type 0 where
+  pub reply : Acknowledged e f s
+  pub sameTables : SameTables e after
+  pub sameMemory : after .memory ≡ e .memory
+  pub burnt : TableCopied (e .directory) (tableOf f) (e .memory) (e .flash) (after .flash)
+  -- "switches off and finds yesterday's map": whatever frames follow, CMDs too, and whatever becomes of working memory between them, the burnt
+  -- bytes last until the table is burnt again
+  pub lasts : (gs : List (List ℕ × Frame)) → NoBurn after (tableOf f) gs → (i : ℕ) → i < sizeAt e f
+      → getD (afterAll after gs .flash) (startOf (e .directory) (tableOf f) + i) 0 ≡ getD (e .memory) (startOf (e .directory) (tableOf f) + i) 0
+
 -- ── Which number ───────────────────────────────────────────────────────────────────────────────────────────────────
 
 -- a table of a sound directory, and a sound directory
@@ -84,6 +130,13 @@ RequestNumber e f =
     (First (sizeAt e f < idOffset (f .id) + requestAt f 0 .count) 8
     Zero)))
 
+-- "offset not looked at", and there is no count: never 8 or 9
+abbrev pub BurnNumber : Device → Frame → ℕ → Type 0
+BurnNumber e f =
+    Unless (f .len ≡ 0) 6
+    (First ((sizeAt e f ≡ 0) ⊎ (rightAt e f ≢ 2)) 7
+    Zero)
+
 abbrev pub QueryNumber : Frame → ℕ → Type 0
 QueryNumber f =
     First (f .len ≡ 0) 6
@@ -92,18 +145,19 @@ QueryNumber f =
     (Unless ((requestAt f 1 .count ≡ 1) ⊎ (requestAt f 1 .count ≡ 5)) 9
     Zero)))
 
--- by type; a type other than CMD, REQ and XTND is 5
+-- by type; a type other than CMD, REQ, BURN and XTND is 5
 pub record KindNumber (e : Device) (f : Frame) (n : ℕ) : Type 0 where
   pub command : idKind (f .id) ≡ cmd → CommandNumber e f n
   pub request : idKind (f .id) ≡ req → RequestNumber e f n
+  pub burning : idKind (f .id) ≡ burn → BurnNumber e f n
   pub query : idKind (f .id) ≡ xtnd → QueryNumber f n
-  pub other : idKind (f .id) ≢ cmd → idKind (f .id) ≢ req → idKind (f .id) ≢ xtnd → n ≡ 5
+  pub other : idKind (f .id) ≢ cmd → idKind (f .id) ≢ req → idKind (f .id) ≢ burn → idKind (f .id) ≢ xtnd → n ≡ 5
 
 -- 11, 10, 1, 2, 3, 4, then by type
 abbrev pub ServeNumber : Device → Frame → ℕ → Type 0
 ServeNumber e f =
     Unless (SoundDirectory (e .directory)) 11
-    (Unless (length (e .memory) ≡ totalOf (e .directory)) 10
+    (Unless ((length (e .memory) ≡ totalOf (e .directory)) × (length (e .flash) ≡ totalOf (e .directory))) 10
     (First (2 ^ 29 ≤ f .id) 1
     (Unless (idSpare (f .id) ≡ 0) 2
     (First (8 < f .len) 3
@@ -145,7 +199,10 @@ pub record Demand2 (e : Device) (f : Frame) (s : Served) (after : Device) : Type
   pub refused : s .number ≢ 0 → (s .frames ≡ 0) × (s ≡ noAnswer (s .number)) × (after ≡ e)
   pub command : s .number ≡ 0 → idKind (f .id) ≡ cmd → CommandServed e f s after
   pub request : s .number ≡ 0 → idKind (f .id) ≡ req → RequestServed e f s after
+  pub burning : s .number ≡ 0 → idKind (f .id) ≡ burn → BurnServed e f s after
   pub query : s .number ≡ 0 → idKind (f .id) ≡ xtnd → QueryServed e f s after
+  -- beyond C-11's words: every frame but a BURN, served or refused, leaves the flash as it was
+  pub sameFlash : idKind (f .id) ≢ burn → after .flash ≡ e .flash
   -- C-16: "with the reserved bits ignored", in refusals too
   pub requestCleared : idKind (f .id) ≡ req → AsCleared e f 0 s after
   pub queryCleared : idKind (f .id) ≡ xtnd → AsCleared e f 1 s after

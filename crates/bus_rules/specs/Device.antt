@@ -1,10 +1,12 @@
--- 01 "Table holder": a device is a directory and the memory in which its tables lie.
+-- 01 "Table holder": a device is a directory and the memory in which its tables lie. 02, C-11: "A second lent memory, as long as the first,
+-- is the flash."
 use Prim.Native.Nat.{ℕ, zero, suc, _+_}
 use mathlib.Core.Path.{_≡_}
-use mathlib.Core.Bool.{Bool, true, not, _&&_}
+use mathlib.Core.Bool.{Bool, true, not, _&&_, _||_}
 use mathlib.Core.List.{List}
 use lib.Dec.{leb, eqb}
 use lib.ListN.{getD, take, drop}
+use lib.Seq.{sets}
 use Rattle.wire.specs.Order.{_if_else_, _orElse_}
 pub use Rattle.bus_rules.specs.declared.Directory.{Directory}
 
@@ -37,31 +39,36 @@ soundDirectory d = leb (d .own) 15 && soundTables d 32 && leb (totalOf d) 32768
 unfoldable pub directoryNumber : Directory → ℕ
 directoryNumber d = 11 if not (soundDirectory d) else 0
 
--- 10: lent memory of wrong length. Memory has exactly the total length
-unfoldable pub lengthNumber : Directory → ℕ → ℕ
-lengthNumber d n = 10 if not (eqb n (totalOf d)) else 0
+-- 10: lent memory of wrong length. Memory has exactly the total length. C-11: "10 also for a flash of the wrong length"
+unfoldable pub lengthNumber : Directory → (memory flash : ℕ) → ℕ
+lengthNumber d memory flash = 10 if not (eqb memory (totalOf d)) || not (eqb flash (totalOf d)) else 0
 
--- 11, 10: what is judged of the directory and the memory's length n
-unfoldable pub memoryNumber : Directory → ℕ → ℕ
-memoryNumber d n = directoryNumber d orElse lengthNumber d n
+-- 11, 10: what is judged of the directory and of the lengths of memory and flash
+unfoldable pub memoryNumber : Directory → (memory flash : ℕ) → ℕ
+memoryNumber d memory flash = directoryNumber d orElse lengthNumber d memory flash
 
 -- ── The device ─────────────────────────────────────────────────────────────────────────────────────────────────────
 
--- all that a frame's answer depends on
+-- all that a frame's answer, and what it leaves, depend on
 pub record Device : Type 0 where
   pub directory : Directory
   pub memory : List ℕ
+  pub flash : List ℕ
 
--- the device of a directory and the memory lent with it
-abbrev pub device : Directory → List ℕ → Device
-device d m = record { directory = d; memory = m }
+-- the device of a directory and of the memory and flash lent with it
+abbrev pub device : Directory → (memory flash : List ℕ) → Device
+device d memory flash = record { directory = d; memory = memory; flash = flash }
 
 abbrev pub ownOf : Device → ℕ
 ownOf e = e .directory .own
 
--- the bytes of a table's range: so many, from an offset on
+-- the bytes of a table's range in working memory: so many, from an offset on
 unfoldable pub rangeOf : Device → (table offset count : ℕ) → List ℕ
 rangeOf e table offset count = take count (drop (startOf (e .directory) table + offset) (e .memory))
+
+-- of two memories: `to`, with table k of `from` copied to its table k
+unfoldable pub copyTable : Directory → ℕ → (from to : List ℕ) → List ℕ
+copyTable d k from to = sets to (startOf d k) (take (sizeOf d k) (drop (startOf d k) from))
 
 -- the same directory, whatever the tables hold
 abbrev pub SameTables : Device → Device → Type 0

@@ -11,26 +11,42 @@ use Rattle.bus_rules.specs.declared.Packed.the-variants as P
 use Rattle.bus_rules.specs.declared.Unpacked.the-variants as U
 use Rattle.bus_rules.specs.Holder.{Served, serveOf, deviceAfter}
 
--- of a device: table 4 has 2 bytes and no right, table 7 has 8 bytes to read, table 15 so many to read and write
+-- of a device: table 4 has 2 bytes and no right, table 7 has 8 bytes to read, table 15 so many to read and write, table 20 has 2 to read and write
 abbrev pub tables : (own size : ℕ) → Directory
 tables own size = record {
-  sizes = replicate 4 0 ++ 2 ∷ 0 ∷ 0 ∷ 8 ∷ replicate 7 0 ++ size ∷ replicate 16 0;
-  rights = replicate 7 0 ++ 1 ∷ replicate 7 0 ++ 2 ∷ replicate 16 0;
+  sizes = replicate 4 0 ++ 2 ∷ 0 ∷ 0 ∷ 8 ∷ replicate 7 0 ++ size ∷ replicate 4 0 ++ 2 ∷ replicate 11 0;
+  rights = replicate 7 0 ++ 1 ∷ replicate 7 0 ++ 2 ∷ replicate 4 0 ++ 2 ∷ replicate 11 0;
   «table_blocking» = 0x0102;
   «write_blocking» = 0x0304;
   own = own;
 }
 
 -- 002's device 0: "RPM .. in table 7, offset 6" is 14 FE, and table 15 is the serial signature, whose last four bytes are given
-abbrev pub holds : (last : List ℕ) → Device
-holds last =
+abbrev pub signatureWith : (last : List ℕ) → List ℕ
+signatureWith last =
+    0x4D ∷ 0x53 ∷ 0x33 ∷ 0x20 ∷ 0x46 ∷ 0x6F ∷ 0x72 ∷ 0x6D ∷ 0x61 ∷ 0x74 ∷ 0x20 ∷ 0x30 ∷ 0x34 ∷ 0x33 ∷ 0x35 ∷ 0x2E ∷ last
+
+abbrev pub holds : (last flash : List ℕ) → Device
+holds last flash =
     device (tables 0 20)
     (0xA0 ∷ 0xA1
     ∷ 0 ∷ 0 ∷ 0 ∷ 0 ∷ 0 ∷ 0 ∷ 0x14 ∷ 0xFE
-    ∷ 0x4D ∷ 0x53 ∷ 0x33 ∷ 0x20 ∷ 0x46 ∷ 0x6F ∷ 0x72 ∷ 0x6D ∷ 0x61 ∷ 0x74 ∷ 0x20 ∷ 0x30 ∷ 0x34 ∷ 0x33 ∷ 0x35 ∷ 0x2E ∷ last)
+    ∷ signatureWith last ++ 0xC2 ∷ 0xC3 ∷ [])
+    flash
+
+-- its signature's last four bytes, and its flash, in which each byte is FF
+abbrev pub lastFour : List ℕ
+lastFour = 0x31 ∷ 0x34 ∷ 0x20 ∷ 0x00 ∷ []
+
+abbrev pub erased : List ℕ
+erased = replicate 32 0xFF
 
 abbrev pub holder : Device
-holder = holds (0x31 ∷ 0x34 ∷ 0x20 ∷ 0x00 ∷ [])
+holder = holds lastFour erased
+
+-- 02, C-11: its flash after table 15 is burnt
+abbrev pub signatureBurnt : List ℕ
+signatureBurnt = replicate 10 0xFF ++ signatureWith lastFour ++ replicate 2 0xFF
 
 -- an identifier by hand: taken apart, row by row from the low end, and put together; and what unpacking and packing answer
 pub record ByHand (id : ℕ) (parts : List ℕ) (p : Parts) : Type 0 where
@@ -46,6 +62,11 @@ frame id len bytes = record { id = id; len = len; bytes = bytes ++ replicate (8 
 -- a frame is answered, with this mark, and the device stays as it was
 abbrev pub Answers : Device → Frame → (clear : ℕ) → Frame → Type 0
 Answers e f clear g = (serveOf e f ≡ record { number = 0; frames = 1; clear = clear; frame = g }) × (deviceAfter e f ≡ e)
+
+-- a frame is answered, with mark 0, and the device's flash is this afterwards, all else as it was
+abbrev pub Burns : Device → Frame → Frame → (flash : List ℕ) → Type 0
+Burns e f g flash =
+    (serveOf e f ≡ record { number = 0; frames = 1; clear = 0; frame = g }) × (deviceAfter e f ≡ device (e .directory) (e .memory) flash)
 
 -- a number and no frame
 abbrev pub alone : ℕ → Served
@@ -87,22 +108,41 @@ pub record Examples : Type 0 where
       (frame 0x20903B0 5 (0x02 ∷ 0x01 ∷ 0x02 ∷ 0x03 ∷ 0x04 ∷ []))
   -- CMD, table 15, offset 17, two bytes
   pub stored : (serveOf holder (frame 0x443878 2 (0xB0 ∷ 0xB1 ∷ 0xFF ∷ [])) ≡ alone 0)
-      × (deviceAfter holder (frame 0x443878 2 (0xB0 ∷ 0xB1 ∷ 0xFF ∷ [])) ≡ holds (0x31 ∷ 0xB0 ∷ 0xB1 ∷ 0x00 ∷ []))
-  -- no memory: 11 before 10, of own number 16 and of a table of 2,057 bytes
-  pub unsound : Refuses (device (tables 16 20) []) (frame 0x40B878 3 (0x06 ∷ 0x00 ∷ 0x04 ∷ [])) 11
-  pub tooLong : Refuses (device (tables 0 2057) []) (frame 0x40B878 3 (0x06 ∷ 0x00 ∷ 0x04 ∷ [])) 11
-  pub noMemory : Refuses (device (tables 0 2056) []) (frame 0x40B878 3 (0x06 ∷ 0x00 ∷ 0x04 ∷ [])) 10
+      × (deviceAfter holder (frame 0x443878 2 (0xB0 ∷ 0xB1 ∷ 0xFF ∷ [])) ≡ holds (0x31 ∷ 0xB0 ∷ 0xB1 ∷ 0x00 ∷ []) erased)
+  -- 02, C-11: BURN of table 15, at offset 2,047, and of table 20; "The reply is XTND to the sender with offset 0, the burnt table, and bytes 0E 01"
+  pub burnt : Burns holder (frame 0x1FFE3878 0 (0xFF ∷ [])) (frame 0x383F8 2 (0x0E ∷ 0x01 ∷ [])) signatureBurnt
+  pub burnt20 : Burns holder (frame 0x23824 0 []) (frame 0x383A4 2 (0x0E ∷ 0x01 ∷ [])) (replicate 30 0xFF ++ 0xC2 ∷ 0xC3 ∷ [])
+  -- the CMD again, on the burnt device: the flash stays; and a BURN of what it stored
+  pub storedLater : deviceAfter (holds lastFour signatureBurnt) (frame 0x443878 2 (0xB0 ∷ 0xB1 ∷ []))
+      ≡ holds (0x31 ∷ 0xB0 ∷ 0xB1 ∷ 0x00 ∷ []) signatureBurnt
+  pub burntAgain : Burns (holds (0x31 ∷ 0xB0 ∷ 0xB1 ∷ 0x00 ∷ []) signatureBurnt) (frame 0x23878 0 []) (frame 0x383F8 2 (0x0E ∷ 0x01 ∷ []))
+      (replicate 10 0xFF ++ signatureWith (0x31 ∷ 0xB0 ∷ 0xB1 ∷ 0x00 ∷ []) ++ replicate 2 0xFF)
+  -- no memory and no flash: 11 before 10, of own number 16 and of a table of 2,057 bytes
+  pub unsound : Refuses (device (tables 16 20) [] []) (frame 0x40B878 3 (0x06 ∷ 0x00 ∷ 0x04 ∷ [])) 11
+  pub tooLong : Refuses (device (tables 0 2057) [] []) (frame 0x40B878 3 (0x06 ∷ 0x00 ∷ 0x04 ∷ [])) 11
+  pub noMemory : Refuses (device (tables 0 2056) [] []) (frame 0x40B878 3 (0x06 ∷ 0x00 ∷ 0x04 ∷ [])) 10
+  -- 10 before 1: memory too short, flash too short, flash too long
+  pub shortMemory : Refuses (device (tables 0 20) (replicate 31 0) erased) (frame 0x20403881 9 []) 10
+  pub shortFlash : Refuses (holds lastFour (replicate 31 0xFF)) (frame 0x20403881 9 []) 10
+  pub longFlash : Refuses (holds lastFour (replicate 33 0xFF)) (frame 0x20403881 9 []) 10
   -- 1, 2, 3, 4: nine bytes to device 1, with a spare bit and bit 29, then without
   pub tooLarge : Refuses holder (frame 0x20403881 9 []) 1
   pub spareBit : Refuses holder (frame 0x403881 9 []) 2
   pub nineLong : Refuses holder (frame 0x403880 9 []) 3
   pub elsewhere : Refuses holder (frame 0x403880 8 []) 4
-  -- RSP gets 5
+  -- RSP gets 5, and so does a BURN's acknowledgement that arrives
   pub reply : Refuses holder (frame 0x413878 1 (0 ∷ [])) 5
+  pub acknowledgement : Refuses holder (frame 0x3B878 2 (0x0E ∷ 0x01 ∷ [])) 5
   -- a REQ of length 2, a query of length 3, XTND of length 0
   pub shortRequest : Refuses holder (frame 0x40B878 2 (0x06 ∷ 0x00 ∷ 0x04 ∷ [])) 6
   pub shortQuery : Refuses holder (frame 0x3B800 3 (0x80 ∷ 0x06 ∷ 0x10 ∷ 0x45 ∷ [])) 6
   pub emptyQuery : Refuses holder (frame 0x3B800 0 (0x81 ∷ [])) 6
+  -- BURN of length 1, of a table that may only be read
+  pub longBurn : Refuses holder (frame 0x23838 1 (0x0E ∷ [])) 6
+  -- BURN of table 7, of table 4, of an empty table
+  pub readOnlyBurn : Refuses holder (frame 0x23838 0 []) 7
+  pub noRightBurn : Refuses holder (frame 0x23820 0 []) 7
+  pub emptyBurn : Refuses (device (tables 0 0) (replicate 12 0) (replicate 12 0xFF)) (frame 0x23878 0 []) 7
   -- CMD to table 7, REQ to table 4
   pub readOnly : Refuses holder (frame 0x183838 2 (0xB0 ∷ 0xB1 ∷ [])) 7
   pub noRight : Refuses holder (frame 0xB820 3 (0x06 ∷ 0x00 ∷ 0x02 ∷ [])) 7

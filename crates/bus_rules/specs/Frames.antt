@@ -11,7 +11,7 @@ use Rattle.bus_rules.specs.declared.Unpacked.{Unpacked}
 use Rattle.bus_rules.specs.declared.Unpacked.the-variants as U
 pub use Rattle.bus_rules.specs.declared.Frame.{Frame}
 
--- the types: 0 CMD, 1 REQ, 2 RSP, 7 XTND
+-- the types: 0 CMD, 1 REQ, 2 RSP, 7 XTND; 02, C-11: 4 BURN
 abbrev pub cmd : ℕ
 cmd = 0
 
@@ -20,6 +20,9 @@ req = 1
 
 abbrev pub rsp : ℕ
 rsp = 2
+
+abbrev pub burn : ℕ
+burn = 4
 
 abbrev pub xtnd : ℕ
 xtnd = 7

@@ -1,17 +1,18 @@
--- 01 "Table holder": what a device answers to a frame, and the device after it, in the paper's order; the mark beside the answer is 02, C-16's.
+-- 01 "Table holder": what a device answers to a frame, and the device after it, in the paper's order; BURN is 02, C-11's, the mark beside the
+-- answer C-16's.
 use Prim.Native.Nat.{ℕ, zero, suc, _+_}
 use mathlib.Core.Path.{_≡_}
 use mathlib.Core.Bool.{cond, not}
-use mathlib.Core.List.{List, _∷_, _++_}
+use mathlib.Core.List.{List, [], _∷_, _++_}
 use lib.Dec.{ltb, eqb}
 use lib.ListN.{length, getD, take}
 use lib.Seq.{sets}
 use Rattle.wire.specs.Order.{_if_else_, _orElse_}
 use Rattle.wire.specs.BigEndian.{beBytes}
 use Rattle.bus_rules.specs.Ident.{idTable, idFrom, idKind, idOffset, idOf}
-use Rattle.bus_rules.specs.Frames.{Frame, cmd, req, rsp, xtnd, content, frameWith, noFrame, headNumber}
+use Rattle.bus_rules.specs.Frames.{Frame, cmd, req, rsp, burn, xtnd, content, frameWith, noFrame, headNumber}
 use Rattle.bus_rules.specs.Request.{Request, RequestRead, readRequestOf}
-use Rattle.bus_rules.specs.Device.{Directory, Device, ownOf, rangeOf, sizeOf, rightOf, startOf, memoryNumber}
+use Rattle.bus_rules.specs.Device.{Directory, Device, ownOf, rangeOf, copyTable, sizeOf, rightOf, startOf, memoryNumber}
 pub use Rattle.bus_rules.specs.declared.Served.{Served}
 
 -- ── Refusals by type. 6: length wrong (C-16: "6 no longer covers reserved bits"); 7: table empty, or lacks the right; 9: count not
@@ -35,6 +36,14 @@ requestNumber len size right offset count =
     else 9 if eqb count 0
     else 9 if ltb 8 count
     else 8 if ltb size (offset + count)
+    else 0
+
+-- C-11: BURN, "type 4, length 0, right 2, offset not looked at"
+unfoldable pub burnNumber : (len size right : ℕ) → ℕ
+burnNumber len size right =
+    6 if not (eqb len 0)
+    else 7 if eqb size 0
+    else 7 if not (eqb right 2)
     else 0
 
 -- XTND of length 0 is 6. First byte 0x80 (protocol query); other first bytes: 5. Length 4, request bytes after it, count 1 or 5.
@@ -68,9 +77,9 @@ sizeAt e f = sizeOf (e .directory) (tableOf f)
 abbrev pub rightAt : Device → Frame → ℕ
 rightAt e f = rightOf (e .directory) (tableOf f)
 
--- by a frame's type: CMD, REQ, XTND, or another
-unfoldable pub byKind : {A : Type 0} → ℕ → A → A → A → A → A
-byKind k c r x other = cond (eqb k cmd) c (cond (eqb k req) r (cond (eqb k xtnd) x other))
+-- by a frame's type: CMD, REQ, BURN, XTND, or another
+unfoldable pub byKind : {A : Type 0} → ℕ → A → A → A → A → A → A
+byKind k c r b x other = cond (eqb k cmd) c (cond (eqb k req) r (cond (eqb k burn) b (cond (eqb k xtnd) x other)))
 
 -- 5 (type not served: RSP gets 5 here), 6, 7, 9, 8
 unfoldable pub kindNumber : Device → Frame → ℕ
@@ -78,12 +87,14 @@ kindNumber e f =
     byKind (idKind (f .id))
     (commandNumber (f .len) (sizeAt e f) (rightAt e f) (idOffset (f .id)))
     (requestNumber (f .len) (sizeAt e f) (rightAt e f) (idOffset (f .id)) (requestAt f 0 .count))
+    (burnNumber (f .len) (sizeAt e f) (rightAt e f))
     (queryNumber (f .len) (byteOf f 0) (requestAt f 1 .count))
     5
 
 -- Order: 11, 10, 1, 2, 3, 4, 5, 6, 7, 9, 8, with one exception: XTND of length 0 is 6
 unfoldable pub serveNumber : Device → Frame → ℕ
-serveNumber e f = memoryNumber (e .directory) (length (e .memory)) orElse headNumber (ownOf e) f orElse kindNumber e f
+serveNumber e f =
+    memoryNumber (e .directory) (length (e .memory)) (length (e .flash)) orElse headNumber (ownOf e) f orElse kindNumber e f
 
 -- ── Answers ────────────────────────────────────────────────────────────────────────────────────────────────────────
 
@@ -99,6 +110,10 @@ answerWith clear f = record { number = 0; frames = 1; clear = clear; frame = f }
 unfoldable pub replyTo : (own to : ℕ) → RequestRead → List ℕ → Served
 replyTo own to q bs = answerWith (q .clear) (frameWith (idOf (q .request .offset) rsp own to (q .request .table)) bs)
 
+-- C-11: "The reply is XTND to the sender with offset 0, the burnt table, and bytes 0E 01"
+unfoldable pub acknowledgement : (own to table : ℕ) → Served
+acknowledgement own to table = answerWith 0 (frameWith (idOf 0 xtnd own to table) (0x0E ∷ 0x01 ∷ []))
+
 -- where the frame's offset lies in memory
 unfoldable pub placeOf : Device → Frame → ℕ
 placeOf e f = startOf (e .directory) (tableOf f) + idOffset (f .id)
@@ -113,16 +128,25 @@ actOf e f =
     byKind (idKind (f .id))
     (noAnswer 0)
     (replyTo (ownOf e) (idFrom (f .id)) (readAt f 0) (rangeOf e (tableOf f) (idOffset (f .id)) (requestAt f 0 .count)))
+    (acknowledgement (ownOf e) (idFrom (f .id)) (tableOf f))
     (replyTo (ownOf e) (idFrom (f .id)) (readAt f 1) (take (requestAt f 1 .count) (protocol (e .directory))))
     (noAnswer 0)
 
 -- CMD stores the bytes at the offset
 unfoldable pub storing : Device → Frame → Device
-storing e f = record { directory = e .directory; memory = sets (e .memory) (placeOf e f) (content f) }
+storing e f = record { directory = e .directory; memory = sets (e .memory) (placeOf e f) (content f); flash = e .flash }
+
+-- C-11: "A burn makes the flash bytes of that table equal to the table's and touches no other flash byte; working memory doesn't change"
+unfoldable pub burning : Device → Frame → Device
+burning e f = record {
+  directory = e .directory;
+  memory = e .memory;
+  flash = copyTable (e .directory) (tableOf f) (e .memory) (e .flash);
+}
 
 -- and the device after it
 unfoldable pub actAfter : Device → Frame → Device
-actAfter e f = cond (eqb (idKind (f .id)) cmd) (storing e f) e
+actAfter e f = byKind (idKind (f .id)) (storing e f) e (burning e f) e e
 
 -- of any frame: a refusal yields no frame and leaves the device unchanged
 unfoldable pub servedBy : ℕ → Served → Served

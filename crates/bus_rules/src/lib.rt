@@ -7,6 +7,8 @@ pub const REQ: u8 = 1;
 
 pub const RSP: u8 = 2;
 
+pub const BURN: u8 = 4;
+
 pub const XTND: u8 = 7;
 
 // The parts of an identifier; `kind` is its type.

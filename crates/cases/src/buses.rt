@@ -10,6 +10,7 @@ use crate::answers::unknown;
 use crate::answers::with_bytes;
 use crate::answers::with_hex;
 use crate::kept;
+use crate::lines::NONE;
 use crate::lines::Words;
 use crate::lines::part;
 use crate::lines::room;
@@ -106,9 +107,14 @@ pub(crate) fn with_frame(a: Answer, frames: u8, f: Frame) -> Answer {
     with_hex(with_bytes(a, part(&bytes, 0, f.len as u64)), f.id as u64)
 }
 
-// serve LENGTH IDENTIFIER | BYTES: the number, the mark, and the frame answered.
-fn serve(d: Directory, memory: &mut [u8], id: u32, bytes: &[u8]) -> Answer {
-    let s = bus::holder::serve(d, memory, frame_of(id, bytes));
+// The length of a flash: that of the memory where a line gives none.
+fn flash_len(memory: u64, flash: u64) -> u64 {
+    if flash == NONE { memory } else { flash }
+}
+
+// serve LENGTH IDENTIFIER FLASH | BYTES: the number, the mark, and the frame answered.
+fn serve(d: Directory, memory: &mut [u8], flash: &mut [u8], id: u32, bytes: &[u8]) -> Answer {
+    let s = bus::holder::serve(d, memory, flash, frame_of(id, bytes));
     let f = s.frame;
     with_frame(pair(s.number, s.clear as u64), s.frames, f)
 }
@@ -177,13 +183,22 @@ fn number_call(a: Words, bytes: &[u8]) -> Answer {
     }
 }
 
-pub(crate) fn call(w: World, memory: &mut [u8], a: Words, bytes: &[u8]) -> Ran {
+pub(crate) fn call(w: World, memory: &mut [u8], flash: &mut [u8], a: Words, bytes: &[u8]) -> Ran {
     let n = a.n;
     let b = a.n8;
     let h = a.n16;
     let x = a.n32;
     match n[2] {
-        SERVE => kept(w, serve(w.directory, room(memory, 0, n[3]), x[4], bytes)),
+        SERVE => kept(
+            w,
+            serve(
+                w.directory,
+                room(memory, 0, n[3]),
+                room(flash, 0, flash_len(n[3], n[5])),
+                x[4],
+                bytes,
+            ),
+        ),
         DEVICE => with_directory(w, device(b[3])),
         TABLE => with_directory(w, with_table(w.directory, n[3], h[4], b[5])),
         _ => kept(w, number_call(a, bytes)),

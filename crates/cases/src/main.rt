@@ -52,21 +52,24 @@ const VALUE: u64 = 0x76616c7565;
 
 const MEMORY: u64 = 0x6d656d6f7279;
 
-fn call(w: World, memory: &mut [u8; 4096], a: Words, bytes: &[u8]) -> Ran {
+const FLASH: u64 = 0x666c617368;
+
+fn call(w: World, memory: &mut [u8; 4096], flash: &mut [u8; 4096], a: Words, bytes: &[u8]) -> Ran {
     let n = a.n;
     match n[1] {
-        BUS => buses::call(w, memory, a, bytes),
+        BUS => buses::call(w, memory, flash, a, bytes),
         BRIDGE => bridges::call(w, memory, a, bytes),
         MLG => kept(w, mlgs::call(memory, a, bytes)),
         FRD => kept(w, frds::call(memory, a, bytes)),
         VALUE => kept(w, values::call(a, bytes)),
         MEMORY => kept(w, memories::call(memory, a, bytes)),
+        FLASH => kept(w, memories::call(flash, a, bytes)),
         _ => kept(w, unknown()),
     }
 }
 
 // What a line answers: nothing for a heading.
-fn case(w: World, memory: &mut [u8; 4096], line: &[u8]) -> Ran {
+fn case(w: World, memory: &mut [u8; 4096], flash: &mut [u8; 4096], line: &[u8]) -> Ran {
     let colon = find(line, 0, b':', b':');
     if line.len() == colon {
         return kept(w, nothing());
@@ -77,6 +80,7 @@ fn case(w: World, memory: &mut [u8; 4096], line: &[u8]) -> Ran {
     call(
         w,
         memory,
+        flash,
         words_of(&line[colon..bar]),
         part(&bytes, 0, len as u64),
     )
@@ -85,6 +89,7 @@ fn case(w: World, memory: &mut [u8; 4096], line: &[u8]) -> Ran {
 // Puts every line with its answer into the output, and hands back how many bytes it put.
 fn cases(out: &mut [u8], s: &[u8]) -> usize {
     let mut memory = [0u8; 4096];
+    let mut flash = [0u8; 4096];
     let mut w = bridges::fresh();
     let mut at: usize = 0;
     let mut put: usize = 0;
@@ -92,7 +97,7 @@ fn cases(out: &mut [u8], s: &[u8]) -> usize {
         let end = find(s, at, b'\n', b'\n');
         let line = &s[at..end];
         at = end + 1;
-        let r = case(w, &mut memory, line);
+        let r = case(w, &mut memory, &mut flash, line);
         w = r.world;
         let next = print::text(out, put, line);
         put = put_answer(out, next, r.answer);

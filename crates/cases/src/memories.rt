@@ -1,4 +1,4 @@
-// The memory that is lent to the calls.
+// The memory and the flash that are lent to the calls.
 use crate::answers::Answer;
 use crate::answers::nothing;
 use crate::answers::number;

@@ -57,10 +57,12 @@ pub extern "C" fn hg_bus_request_bytes(request: bus::Request) -> bus::RequestByt
 pub extern "C" fn hg_bus_serve(
     directory: bus::Directory,
     memory: &mut [u8],
+    flash: &mut [u8],
     frame: bus::Frame,
 ) -> bus::Served
-    ensures { λ r. ⌜ (r ≡ serveOf (device directory (now (memory .entry))) frame)
-        × (now (memory .exit) ≡ deviceAfter (device directory (now (memory .entry))) frame .memory) ⌝ }
+    ensures { λ r. ⌜ (r ≡ serveOf (device directory (now (memory .entry)) (now (flash .entry))) frame)
+        × (now (memory .exit) ≡ deviceAfter (device directory (now (memory .entry)) (now (flash .entry))) frame .memory)
+        × (now (flash .exit) ≡ deviceAfter (device directory (now (memory .entry)) (now (flash .entry))) frame .flash) ⌝ }
 {
-    bus::holder::serve(directory, memory, frame)
+    bus::holder::serve(directory, memory, flash, frame)
 }

@@ -13,10 +13,10 @@ use lib.ListN.{length}
 use borrow.Author.Needs.{needs}
 
 abbrev Inv-loop : tie.InvT-loop
-Inv-loop out₀ s memory₀ w₀ at₀ put₀ out memory w at put = length out ≡ length out₀
+Inv-loop out₀ s memory₀ flash₀ w₀ at₀ put₀ out memory flash w at put = length out ≡ length out₀
 
 abbrev μ-loop : tie.MeasureT-loop
-μ-loop out₀ s memory₀ w₀ at₀ put₀ out memory w at put = length s - at
+μ-loop out₀ s memory₀ flash₀ w₀ at₀ put₀ out memory flash w at put = length s - at
 
 fresh-requires : tie.Need-fresh-requires Inv-loop μ-loop
 fresh-requires c κs = search needs

@@ -14,8 +14,8 @@ returns : tie.Need-returns
 unfolding memoryNumber
 returns c = search order depth 12
 
-cast-if2 : tie.Need-cast-if2
-cast-if2 c = search needs
+cast-total : tie.Need-cast-total
+cast-total c = search needs
 
 returns-2 : tie.Need-returns-2
 unfolding memoryNumber lengthNumber
@@ -26,4 +26,4 @@ unfolding memoryNumber lengthNumber
 returns-3 c = rw (← c .before .before .before .before .tables-of .ensures .1) (search order depth 12)
 
 pub memory-number-spec : {M : Type 1} → statement M
-memory-number-spec = tie.close (tie.spec tables-of-requires tables-number-requires returns cast-if2 returns-2 returns-3)
+memory-number-spec = tie.close (tie.spec tables-of-requires tables-number-requires returns cast-total returns-2 returns-3)

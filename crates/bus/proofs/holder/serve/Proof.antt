@@ -3,9 +3,9 @@ use Rattle.bus.proofs.holder.serve.Statement.{statement}
 use Rattle.bus.proofs.holder.serve.Tie as tie
 use mir.Val.{Fits}
 use mir.Syntax.{w8}
-use Prim.Native.Nat.{ℕ, _+_}
+use Prim.Native.Nat.{ℕ}
 use native.Mathlib.Omega.{arith}
-use mathlib.Core.Path.{_≡_, sym, _∙_, ap, ap₂}
+use mathlib.Core.Path.{_≡_, sym, _∙_, ap}
 use mathlib.Core.Logic.{_≢_}
 use mathlib.Core.List.{List}
 use lib.ListN.{length, getD}
@@ -15,10 +15,10 @@ use Rattle.bus_rules.specs.declared.Frame.{Frame}
 use Rattle.bus_rules.specs.declared.Served.{Served}
 use Rattle.bus_rules.specs.Frames.{headNumber}
 use Rattle.bus_rules.specs.Device.{Device, device, ownOf, startOf, sizeOf, rightOf, memoryNumber}
-use Rattle.bus_rules.specs.Holder.{byteOf, placeOf, noAnswer, kindNumber, serveNumber, serveOf, deviceAfter}
+use Rattle.bus_rules.specs.Holder.{byteOf, noAnswer, kindNumber, serveNumber, serveOf, deviceAfter}
 use Rattle.bus_rules.specs.Demand2.{Demand2}
-use Rattle.bus_rules.proofs.IdentLaws.{are-parts, table-small}
-use Rattle.bus_rules.proofs.Cases.{served-case, refused-case, device-after}
+use Rattle.bus_rules.proofs.IdentLaws.{table-small}
+use Rattle.bus_rules.proofs.Cases.{served-case, refused-case, device-after, same-memories}
 use Rattle.bus_rules.specs.Examples.{Examples}
 use Rattle.bus_rules.proofs.FrameLaws.{IsFrame}
 use Rattle.bus_rules.proofs.Demand2.{demand2}
@@ -26,31 +26,33 @@ use Rattle.bus_rules.proofs.AllExamples.{examples}
 
 -- the device before the call
 abbrev before : tie.Start → Device
-before s = device (s .args .d) (s .args .memory .now)
+before s = device (s .args .d) (s .args .memory .now) (s .args .flash .now)
 
 -- demand 2, of the values that the code's arguments have
-demanded : (s : tie.Start) (r : Served) (m : List ℕ) → r ≡ serveOf (before s) (s .args .f) → m ≡ deviceAfter (before s) (s .args .f) .memory
-    → Demand2 (before s) (s .args .f) r (device (s .args .d) m)
+demanded : (s : tie.Start) (r : Served) (m k : List ℕ) → r ≡ serveOf (before s) (s .args .f)
+    → m ≡ deviceAfter (before s) (s .args .f) .memory → k ≡ deviceAfter (before s) (s .args .f) .flash
+    → Demand2 (before s) (s .args .f) r (device (s .args .d) m k)
 unfolding byteOf
-demanded s r m p q =
+demanded s r m k p q g =
     let a = s .args in
     let w : IsFrame (a .f) =
     record { eight = search needs; bytes = λ i l. let h : Fits w8 (getD (a .f .bytes) i 0) = search needs in omega arith } in
-    demand2 (before s) (a .f) r (device (a .d) m) p (device-after (before s) (a .f) m q) w (search needs) (search needs)
+    demand2 (before s) (a .f) r (device (a .d) m k) p (device-after (before s) (a .f) m k q g) w (search needs) (search needs)
 
 -- 11 and 10, then the frame's
-first-number : (e : Device) (f : Frame) (n : ℕ) → n ≡ memoryNumber (e .directory) (length (e .memory)) → n ≢ 0 → n ≡ serveNumber e f
+first-number : (e : Device) (f : Frame) (n : ℕ) → n ≡ memoryNumber (e .directory) (length (e .memory)) (length (e .flash)) → n ≢ 0
+    → n ≡ serveNumber e f
 unfolding serveNumber
 first-number e f n h k = search order depth 12
 
-later-number : (e : Device) (f : Frame) (n k : ℕ) → n ≡ memoryNumber (e .directory) (length (e .memory)) → n ≡ 0
+later-number : (e : Device) (f : Frame) (n k : ℕ) → n ≡ memoryNumber (e .directory) (length (e .memory)) (length (e .flash)) → n ≡ 0
     → k ≡ (headNumber (ownOf e) f orElse kindNumber e f) → k ≡ serveNumber e f
 unfolding serveNumber
 later-number e f n k h z l = search order depth 12
 
 -- the number of a frame to a sound device
 abbrev start : tie.After-frame-number → tie.Start
-start c = c .before .before .before .before .before .before .before
+start c = c .before .before .before .before .before .before .before .before
 
 number : (c : tie.After-frame-number) → c .frame-number .result ≡ serveNumber (before (start c)) (start c .args .f)
 number c =
@@ -63,13 +65,14 @@ number c =
 
 -- a refusal
 refused : (s : tie.Start) (n : ℕ) (r : Served) → n ≡ serveNumber (before s) (s .args .f) → n ≢ 0 → r ≡ noAnswer n
-    → ((r ≡ serveOf (before s) (s .args .f)) × (s .args .memory .now ≡ deviceAfter (before s) (s .args .f) .memory))
+    → ((r ≡ serveOf (before s) (s .args .f)) × (s .args .memory .now ≡ deviceAfter (before s) (s .args .f) .memory)
+    × (s .args .flash .now ≡ deviceAfter (before s) (s .args .f) .flash))
     × (Demand2 (before s) (s .args .f) r (before s) × Examples)
 refused s n r h k e =
     let w = refused-case (before s) (s .args .f) n (sym h) k in
     let p = e ∙ sym (w .0) in
-    let q = sym (ap (λ (v : Device). v .memory) (w .1)) in
-    ((p, q), (demanded s r _ p q, examples))
+    let m = same-memories (w .1) in
+    ((p, m .0, m .1), (demanded s r _ _ p (m .0) (m .1), examples))
 
 table-of-requires : tie.Need-table-of-requires
 table-of-requires c κs = search needs
@@ -78,7 +81,7 @@ cast-table-at : tie.Need-cast-table-at
 cast-table-at c = search needs
 
 table-at-requires : tie.Need-table-at-requires
-table-at-requires c κs = omega (arith, c .table-of .ensures, table-small (c .before .before .args .f .id))
+table-at-requires c κs = omega (arith, c .table-of .ensures, table-small (c .before .before .before .args .f .id))
 
 memory-number-requires : tie.Need-memory-number-requires
 memory-number-requires c κs = search needs
@@ -88,7 +91,7 @@ no-answer-requires c κs = search needs
 
 returns : tie.Need-returns
 returns c =
-    let s = c .before .before .before .before .before .before in
+    let s = c .before .before .before .before .before .before .before in
     let n = c .before .before .memory-number in
     let k = c .before .if1 .taken in
     refused s (n .result) _ (first-number (before s) (s .args .f) (n .result) (n .ensures) k) k (c .no-answer .ensures)
@@ -107,36 +110,36 @@ returns-2 c =
     let n = c .before .before in
     refused (start n) (n .frame-number .result) _ (number n) (λ z. omega (arith, c .before .if2 .taken, z)) (c .no-answer2 .ensures)
 
-cast-act : tie.Need-cast-act
-cast-act c = search needs
-
-cast-act-2 : tie.Need-cast-act-2
-cast-act-2 c = search needs
-
-add-act : tie.Need-add-act
-add-act c = search needs
-
 act-requires : tie.Need-act-requires
-unfolding placeOf
 act-requires c κs =
-    let n = c .before .before .before .before in
+    let n = c .before .before .before in
     let p = n .before .parts-of in
     let t = n .before .before .before .before in
-    let o = are-parts (start n .args .f .id) (p .result) (p .ensures) .offset in
-    let b = t .table-at .ensures .0 ∙ ap (startOf (start n .args .d)) (t .before .table-of .ensures) in
-    (omega (arith, number n, c .before .before .before .if2 .left), ap₂ (λ (x y : ℕ). x + y) b o, p .ensures)
+    let k = t .before .table-of .ensures in
+    let d = start n .args .d in (
+      omega (arith, number n, c .before .before .if2 .left),
+      t .table-at .ensures .0 ∙ ap (startOf d) k,
+      t .table-at .ensures .1 ∙ ap (sizeOf d) k,
+      p .ensures,
+    )
 
 same-length : tie.Need-same-length
 same-length c = search needs
 
+same-length-2 : tie.Need-same-length-2
+same-length-2 c = search needs
+
 returns-3 : tie.Need-returns-3
 returns-3 c =
-    let n = c .before .before .before .before .before .before .before in
+    let a = c .before .before .before .before in
+    let n = a .before .before .before .before in
     let s = start n in
-    let e = served-case (before s) (s .args .f) (sym (number n) ∙ c .before .before .before .before .before .before .if2 .left) in
-    let p = c .before .before .act .ensures .0 ∙ sym (e .0) in
-    let q = c .before .before .act .ensures .1 ∙ sym (ap (λ (v : Device). v .memory) (e .1)) in
-    ((p, q), (demanded s _ _ p q, examples))
+    let e = served-case (before s) (s .args .f) (sym (number n) ∙ a .before .before .before .if2 .left) in
+    let p = a .act .ensures .0 ∙ sym (e .0) in
+    let m = same-memories (e .1) in
+    let q = a .act .ensures .1 ∙ m .0 in
+    let g = a .act .ensures .2 ∙ m .1 in
+    ((p, q, g), (demanded s _ _ _ p q g, examples))
 
 pub serve-spec : {M : Type 1} → statement M
 serve-spec =
@@ -152,9 +155,7 @@ serve-spec =
     frame-number-requires
     no-answer-requires-2
     returns-2
-    cast-act
-    cast-act-2
-    add-act
     act-requires
     same-length
+    same-length-2
     returns-3)
