@@ -26,7 +26,7 @@ PLAIN_DECLARE(gcc_O2_)
 /* The library's calls in the plain version's form. */
 #define LIBRARY_CALL static inline __attribute__((always_inline))
 LIBRARY_CALL void library_unpack(uint32_t id, hg_unpacked *out) { *out = hg_bus_unpack(id); }
-LIBRARY_CALL void library_serve(const hg_directory *d, uint8_t *memory, size_t len, const hg_frame *f, hg_served *out) { *out = hg_bus_serve(*d, memory, len, *f); }
+LIBRARY_CALL void library_serve(const hg_directory *d, uint8_t *memory, size_t memory_len, uint8_t *flash, size_t flash_len, const hg_frame *f, hg_served *out) { *out = hg_bus_serve(*d, memory, memory_len, flash, flash_len, *f); }
 LIBRARY_CALL void library_turn(hg_bridge *b, const uint8_t *first, size_t first_len, const uint8_t *second, size_t second_len, hg_yielded *out) { *out = hg_bridge_turn_in_place(b, first, first_len, second, second_len); }
 LIBRARY_CALL void library_frame(hg_bridge *b, uint8_t *first, size_t first_len, const uint8_t *second, size_t second_len, const hg_frame *f, hg_yielded *out) { *out = hg_bridge_frame_in_place(b, first, first_len, second, second_len, *f); }
 LIBRARY_CALL void library_read_header(const uint8_t *file, size_t len, hg_mlg_header *out) { *out = hg_mlg_read_header(file, len); }
@@ -86,12 +86,12 @@ static uint32_t random_number(void)
     return (uint32_t)(x >> 16);
 }
 
-enum { IDS = 4096, FRAMES = 256, BRIDGES = 256, HEADERS = 16, ROOM = 1 << 20 };
+enum { IDS = 4096, FRAMES = 256, BRIDGES = 256, HEADERS = 16, ROOM = 1 << 20, LARGE = 15, SMALL = 16 };
 
 static uint32_t ids[IDS];
-static hg_directory directory;
-static uint8_t memory[32768], memory_start[32768];
-static hg_frame commands[FRAMES], requests[FRAMES];
+static hg_directory directory, burn_directory; /* the second has LARGE tables of 2,056 bytes, then SMALL of 64, then one of the rest */
+static uint8_t memory[32768], memory_start[32768], flash[32768], flash_start[32768];
+static hg_frame commands[FRAMES], requests[FRAMES], small_burns[FRAMES], large_burns[FRAMES];
 static hg_bridge bridges[BRIDGES];
 static uint8_t first[HG_BUFFER], first_start[HG_BUFFER], second[HG_BUFFER], second_start[HG_BUFFER];
 
@@ -133,6 +133,21 @@ static void make_bus_inputs(void)
         r->bytes[0] = (uint8_t)(random_number() % 32);
         r->bytes[1] = (uint8_t)random_number();
         r->bytes[2] = (uint8_t)(random_number() % 8 * 32 + 1 + random_number() % 8);
+    }
+}
+
+static void make_burn_inputs(void)
+{
+    burn_directory = directory;
+    for (int i = 0; i < 32; i++)
+        burn_directory.sizes[i] = i < LARGE ? 2056 : i < LARGE + SMALL ? 64 : 32768 - LARGE * 2056 - SMALL * 64;
+    for (size_t i = 0; i < sizeof flash_start; i++)
+        flash_start[i] = (uint8_t)random_number();
+    for (int i = 0; i < FRAMES; i++) {
+        hg_parts parts = {(uint16_t)(random_number() % 2048), HG_BURN, 3, 5, (uint8_t)(random_number() % LARGE)};
+        large_burns[i].id = hg_bus_pack(parts).id;
+        parts.table = (uint8_t)(LARGE + random_number() % SMALL);
+        small_burns[i].id = hg_bus_pack(parts).id;
     }
 }
 
@@ -281,7 +296,11 @@ static void make_log_inputs(size_t bytes)
 
 static volatile uint64_t sink;
 
-static void restore_memory(void) { memcpy(memory, memory_start, sizeof memory); }
+static void restore_memory(void)
+{
+    memcpy(memory, memory_start, sizeof memory);
+    memcpy(flash, flash_start, sizeof flash);
+}
 static void restore_bridges(const hg_bridge *start)
 {
     memcpy(bridges, start, sizeof bridges);
@@ -311,20 +330,22 @@ static uint64_t buffers_digest(uint64_t h) { return mixed_bytes(mixed_bytes(h, f
         } \
         return a; \
     } \
-    BODY serve_frames_##V(const hg_frame *frames, bool check) \
+    BODY serve_frames_##V(const hg_directory *d, const hg_frame *frames, bool check) \
     { \
         uint64_t a = 0; \
         for (int i = 0; i < FRAMES; i++) { \
             hg_served s; \
-            V##_serve(&directory, memory, sizeof memory, &frames[i], &s); \
+            V##_serve(d, memory, sizeof memory, flash, sizeof flash, &frames[i], &s); \
             a += s.number + s.frame.id; \
             if (check) \
                 a = mixed(answer_digest(a, s.number, s.frames, &s.frame), s.clear); \
         } \
-        return check ? mixed_bytes(a, memory, sizeof memory) : a; \
+        return check ? mixed_bytes(mixed_bytes(a, memory, sizeof memory), flash, sizeof flash) : a; \
     } \
-    BODY command_body_##V(bool check) { return serve_frames_##V(commands, check); } \
-    BODY request_body_##V(bool check) { return serve_frames_##V(requests, check); } \
+    BODY command_body_##V(bool check) { return serve_frames_##V(&directory, commands, check); } \
+    BODY request_body_##V(bool check) { return serve_frames_##V(&directory, requests, check); } \
+    BODY small_burn_body_##V(bool check) { return serve_frames_##V(&burn_directory, small_burns, check); } \
+    BODY large_burn_body_##V(bool check) { return serve_frames_##V(&burn_directory, large_burns, check); } \
     BODY turn_body_##V(bool check) \
     { \
         uint64_t a = 0; \
@@ -398,6 +419,8 @@ typedef uint64_t batch(void);
 DEFINE_TEST_BATCHES(unpack)
 DEFINE_TEST_BATCHES(command)
 DEFINE_TEST_BATCHES(request)
+DEFINE_TEST_BATCHES(small_burn)
+DEFINE_TEST_BATCHES(large_burn)
 DEFINE_TEST_BATCHES(turn)
 DEFINE_TEST_BATCHES(frame)
 DEFINE_TEST_BATCHES(check_turn)
@@ -421,6 +444,8 @@ static test tests[] = {
     {"unpack", "unpack", restore_nothing, IDS, 4000, RUNS(unpack), CHECKS(unpack)},
     {"command", "serve a CMD", restore_memory, FRAMES, 8000, RUNS(command), CHECKS(command)},
     {"request", "serve a REQ", restore_memory, FRAMES, 8000, RUNS(request), CHECKS(request)},
+    {"small_burn", "serve a BURN, 64 bytes", restore_memory, FRAMES, 8000, RUNS(small_burn), CHECKS(small_burn)},
+    {"large_burn", "serve a BURN, 2,056 bytes", restore_memory, FRAMES, 2000, RUNS(large_burn), CHECKS(large_burn)},
     {"turn", "turn in place", restore_turn, BRIDGES, 8000, RUNS(turn), CHECKS(turn)},
     {"frame", "frame in place", restore_frame, BRIDGES, 8000, RUNS(frame), CHECKS(frame)},
     {"check_turn", "turn, checked writes", restore_check_turn, BRIDGES, 8000, RUNS(check_turn), CHECKS(check_turn)},
@@ -511,6 +536,7 @@ int main(int argc, char **argv)
     make_bus_inputs();
     make_bridge_inputs();
     make_log_inputs(counts ? (size_t)1 << 20 : (size_t)64 << 20);
+    make_burn_inputs();
     for (int i = 0; i < TESTS; i++)
         if (tests[i].operations == 0)
             tests[i].operations = blocks_in(strcmp(tests[i].key, "log512") == 0);

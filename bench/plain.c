@@ -54,7 +54,7 @@ static void no_frame(hg_served *out, uint8_t number)
 /* ---- Table holder ---- */
 
 /* 11 and 10, or 0. */
-static uint8_t memory_number(const hg_directory *d, size_t len)
+static uint8_t memory_number(const hg_directory *d, size_t memory_len, size_t flash_len)
 {
     unsigned bad = d->own > 15, total = 0;
     for (int i = 0; i < 32; i++) {
@@ -64,16 +64,18 @@ static uint8_t memory_number(const hg_directory *d, size_t len)
     }
     if (bad || total > 32768)
         return 11;
-    return len == total ? 0 : 10;
+    return memory_len == total && flash_len == total ? 0 : 10;
 }
 
-static size_t place_of(const hg_directory *d, uint32_t id)
+static size_t start_of(const hg_directory *d, size_t table)
 {
-    size_t at = offset_of(id), table = table_of(id);
+    size_t at = 0;
     for (size_t i = 0; i < table; i++)
         at += d->sizes[i];
     return at;
 }
+
+static size_t place_of(const hg_directory *d, uint32_t id) { return start_of(d, table_of(id)) + offset_of(id); }
 
 /* The request's reserved bits are ignored; `clear` says whether they are 0. */
 static void reply(const hg_directory *d, const hg_frame *f, const uint8_t *request, const uint8_t *bytes, hg_served *out)
@@ -116,6 +118,19 @@ static uint8_t serve_request(const hg_directory *d, const uint8_t *memory, const
     return 0;
 }
 
+static uint8_t serve_burn(const hg_directory *d, const uint8_t *memory, uint8_t *flash, const hg_frame *f, hg_served *out)
+{
+    unsigned table = table_of(f->id);
+    if (f->len != 0)
+        return 6;
+    if (d->sizes[table] == 0 || d->rights[table] != 2)
+        return 7;
+    size_t start = start_of(d, table);
+    memcpy(flash + start, memory + start, d->sizes[table]);
+    *out = (hg_served){0, 1, 0, {id_of(0, HG_XTND, d->own, from_of(f->id), table), 2, {0x0E, 0x01}}};
+    return 0;
+}
+
 static uint8_t serve_query(const hg_directory *d, const hg_frame *f, hg_served *out)
 {
     unsigned count = f->bytes[3] & 15;
@@ -133,9 +148,9 @@ static uint8_t serve_query(const hg_directory *d, const hg_frame *f, hg_served *
     return 0;
 }
 
-void PLAIN(serve)(const hg_directory *d, uint8_t *memory, size_t len, const hg_frame *f, hg_served *out)
+void PLAIN(serve)(const hg_directory *d, uint8_t *memory, size_t memory_len, uint8_t *flash, size_t flash_len, const hg_frame *f, hg_served *out)
 {
-    uint8_t number = memory_number(d, len);
+    uint8_t number = memory_number(d, memory_len, flash_len);
     if (number == 0)
         number = head_number(d->own, f);
     if (number == 0) {
@@ -145,6 +160,11 @@ void PLAIN(serve)(const hg_directory *d, uint8_t *memory, size_t len, const hg_f
             break;
         case HG_REQ:
             number = serve_request(d, memory, f, out);
+            if (number == 0)
+                return;
+            break;
+        case HG_BURN:
+            number = serve_burn(d, memory, flash, f, out);
             if (number == 0)
                 return;
             break;

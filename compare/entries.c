@@ -61,31 +61,51 @@ static hg_frame framed(hg_parts parts, const char *bytes, uint8_t len) {
     return frame;
 }
 
+/* Both memories of a holder, and how they are lent with these lengths. */
+typedef struct {
+    uint8_t memory[50], flash[50];
+} memories;
+#define HELD(n, m) .memory = held.memory, .memory_len = n, .flash = held.flash, .flash_len = m
+#define WHOLE HELD(50, 50)
+
 static void holder(void) {
     hg_directory directory = {.table_blocking = 0x1234, .write_blocking = 0x5678, .own = 9};
     hg_directory unsound;
-    uint8_t memory[50];
+    memories held;
     hg_parts to_22 = {.offset = 17, .kind = HG_CMD, .from = 3, .to = 9, .table = 22};
-    hg_frame command = framed(to_22, "store", 5);
-    hg_parts request = to_22, query = to_22;
-    request.kind = HG_REQ, query.kind = HG_XTND;
+    hg_parts request = to_22, query = to_22, burn = to_22, burn_3;
+    hg_frame command = framed(to_22, "store", 5), frames[2], too_long = command;
+    request.kind = HG_REQ, query.kind = HG_XTND, burn.kind = HG_BURN;
+    burn_3 = burn, burn_3.table = 3;
+    too_long.len = 9;
     directory.sizes[3] = 20, directory.rights[3] = 1;
     directory.sizes[22] = 30, directory.rights[22] = 2;
     unsound = directory, unsound.own = 16;
-    fill(memory, sizeof memory, 1);
-    CALL(hg_bus_serve, .directory = directory, .memory = memory, .len = sizeof memory, .frame = command);
+    fill(held.memory, 50, 1);
+    fill(held.flash, 50, 60);
+    CALL(hg_bus_serve, .directory = directory, WHOLE, .frame = command);
     /* six bytes, to table 4 and offset 300; the same with bit 4 set, and with two of the top bits; nine bytes */
-    CALL(hg_bus_serve, .directory = directory, .memory = memory, .len = sizeof memory, .frame = framed(request, "\x04\x25\x86", 3));
-    CALL(hg_bus_serve, .directory = directory, .memory = memory, .len = sizeof memory, .frame = framed(request, "\x04\x25\x96", 3));
-    CALL(hg_bus_serve, .directory = directory, .memory = memory, .len = sizeof memory, .frame = framed(request, "\xA4\x25\x86", 3));
-    CALL(hg_bus_serve, .directory = directory, .memory = memory, .len = sizeof memory, .frame = framed(request, "\x04\x25\x89", 3));
-    CALL(hg_bus_serve, .directory = directory, .memory = memory, .len = sizeof memory, .frame = framed(query, "\x80\x04\x25\x85", 4));
-    CALL(hg_bus_serve, .directory = directory, .memory = memory, .len = sizeof memory, .frame = framed(query, "\x80\x04\x25\x95", 4));
-    CALL(hg_bus_serve, .directory = directory, .memory = memory, .len = sizeof memory, .frame = framed(query, "\x80\xA4\x25\x85", 4));
-    CALL(hg_bus_serve, .directory = unsound, .memory = memory, .len = sizeof memory, .frame = command);
-    CALL(hg_bus_serve, .directory = directory, .memory = memory, .len = sizeof memory - 1, .frame = command);
-    command.len = 9;
-    CALL(hg_bus_serve, .directory = directory, .memory = memory, .len = sizeof memory, .frame = command);
+    CALL(hg_bus_serve, .directory = directory, WHOLE, .frame = framed(request, "\x04\x25\x86", 3));
+    CALL(hg_bus_serve, .directory = directory, WHOLE, .frame = framed(request, "\x04\x25\x96", 3));
+    CALL(hg_bus_serve, .directory = directory, WHOLE, .frame = framed(request, "\xA4\x25\x86", 3));
+    CALL(hg_bus_serve, .directory = directory, WHOLE, .frame = framed(request, "\x04\x25\x89", 3));
+    CALL(hg_bus_serve, .directory = directory, WHOLE, .frame = framed(query, "\x80\x04\x25\x85", 4));
+    CALL(hg_bus_serve, .directory = directory, WHOLE, .frame = framed(query, "\x80\x04\x25\x95", 4));
+    CALL(hg_bus_serve, .directory = directory, WHOLE, .frame = framed(query, "\x80\xA4\x25\x85", 4));
+    CALL(hg_bus_serve, .directory = directory, WHOLE, .frame = too_long);
+    /* a burn, a write and a request after it; a burn with a byte, and one of a table that may be read; an acknowledgement */
+    CALL(hg_bus_serve, .directory = directory, WHOLE, .frame = framed(burn, "", 0));
+    CALL(hg_bus_serve, .directory = directory, WHOLE, .frame = framed(to_22, "again", 5));
+    CALL(hg_bus_serve, .directory = directory, WHOLE, .frame = framed(request, "\x04\x25\x86", 3));
+    CALL(hg_bus_serve, .directory = directory, WHOLE, .frame = framed(burn, "b", 1));
+    CALL(hg_bus_serve, .directory = directory, WHOLE, .frame = framed(burn_3, "", 0));
+    CALL(hg_bus_serve, .directory = directory, WHOLE, .frame = framed(query, "\x0E\x01", 2));
+    frames[0] = command, frames[1] = framed(burn, "", 0);
+    for (int i = 0; i < 2; i++) {
+        CALL(hg_bus_serve, .directory = unsound, WHOLE, .frame = frames[i]);
+        CALL(hg_bus_serve, .directory = directory, HELD(49, 50), .frame = frames[i]);
+        CALL(hg_bus_serve, .directory = directory, HELD(50, 49), .frame = frames[i]);
+    }
 }
 
 /* A reply of device 5 to device 9, for a place of its buffer. */

@@ -9,8 +9,11 @@
  * Then comes a slow answer to a read that was closed meanwhile, which no other read may take for its own: a slot rests for 60 turns after
  * each REQ, so the next reads get other slots. Once all free slots rest an opening is refused with number 19; the dash takes turns and tries
  * again.
- * Last, a board (number 2) asks the device the same twice, once with a reserved bit of the request set. It gets the same answer; the device
+ * Then a board (number 2) asks the device the same twice, once with a reserved bit of the request set. It gets the same answer; the device
  * keeps count of each sender's requests, and of those whose reserved bits were clear.
+ * Last, the dash tunes: it writes today's map into table 3 and burns it; a BURN of table 7, which is read only, is refused; then it writes
+ * another map and does not burn that. The device is switched off and loses its working memory; at power-up its host loads that from flash. The
+ * dash reads today's map, not yesterday's, and table 7 is as at the start.
  *
  *     gcc -std=c11 -Iinclude examples/firmware.c target/staticlib/libhoneygimlet.a -o target/firmware
  */
@@ -25,6 +28,7 @@
 enum { DASH = 0, BOARD = 2, DEVICE = 5, OTHER = 9 };
 enum { READ_TABLE = 7, READ_OFFSET = 64, READ_COUNT = 128 };
 enum { WRITE_TABLE = 3, WRITE_OFFSET = 6, WRITE_COUNT = 20 };
+enum { MAP_COUNT = 12 }; /* bytes of a fuel map, at WRITE_OFFSET of table 3 */
 
 /* ---- The bus: every frame reaches every node but its sender, some turns after it was sent ---- */
 
@@ -60,13 +64,33 @@ static bool bus_take(unsigned turn, bus_event *event)
     return false;
 }
 
-/* ---- The device: a table holder ---- */
+/* ---- The device: a table holder, and its host ---- */
 
 static hg_directory directory; /* all tables empty at first */
-static uint8_t memory[512 + 32];
-static uint8_t *const write_table = memory;     /* table 3: 32 bytes, read and write */
-static uint8_t *const read_table = memory + 32; /* table 7: 512 bytes, read only */
+static uint8_t memory[512 + 32], flash[512 + 32]; /* working memory, and flash of the same layout */
+static uint8_t *const write_table = memory, *const write_flash = flash;         /* table 3: 32 bytes, read and write */
+static uint8_t *const read_table = memory + 32, *const read_flash = flash + 32; /* table 7: 512 bytes, read only */
 
+static bool unplugged;  /* nothing reaches the device */
+static unsigned missed; /* which CMD from now on the device misses, counted from 1; 0: none */
+static unsigned slow;   /* how many turns late its next reply is */
+static unsigned answered[16], clear[16]; /* each sender's requests that it answered, and those of them whose reserved bits were clear */
+
+/* At power-up the host loads working memory from flash. */
+static void power_up(void)
+{
+    memcpy(memory, flash, sizeof memory);
+    unplugged = false;
+}
+
+/* Switched off, working memory is lost; flash is not. */
+static void switch_off(void)
+{
+    memset(memory, 0xFF, sizeof memory);
+    unplugged = true;
+}
+
+/* Flash has yesterday's map. */
 static void device_start(void)
 {
     directory.own = DEVICE;
@@ -74,31 +98,32 @@ static void device_start(void)
     directory.rights[WRITE_TABLE] = 2;
     directory.sizes[READ_TABLE] = 512;
     directory.rights[READ_TABLE] = 1;
+    memcpy(write_flash + WRITE_OFFSET, "fuel map old", MAP_COUNT);
     for (size_t i = 0; i < 512; i++)
-        read_table[i] = (uint8_t)(i * 7 + 3);
+        read_flash[i] = (uint8_t)(i * 7 + 3);
+    power_up();
 }
-
-static bool unplugged;  /* nothing reaches the device */
-static unsigned missed; /* which CMD from now on the device misses, counted from 1; 0: none */
-static unsigned slow;   /* how many turns late its next reply is */
-static unsigned answered[16], clear[16]; /* each sender's requests that it answered, and those of them whose reserved bits were clear */
 
 /* Serves a frame. The third reply is lost, the sixth arrives 25 turns late. */
 static void device_frame(unsigned turn, hg_frame frame)
 {
     static unsigned replies;
+    hg_parts parts = hg_bus_unpack(frame.id).parts;
     if (unplugged)
         return;
-    if (missed && hg_bus_unpack(frame.id).parts.kind == HG_CMD && --missed == 0) {
+    if (missed && parts.kind == HG_CMD && --missed == 0) {
         printf("turn %3u  device  misses 0x%08" PRIX32 "\n", turn, frame.id);
         return;
     }
-    hg_served served = hg_bus_serve(directory, memory, sizeof memory, frame);
+    hg_served served = hg_bus_serve(directory, memory, sizeof memory, flash, sizeof flash, frame);
+    if (parts.kind == HG_BURN) /* answered 0, a real host now writes the table to its flash chip, before the acknowledgement goes out */
+        printf("turn %3u  device  %s table %u, number %u\n", turn, served.number == 0 ? "burns" : "does not burn", parts.table, served.number);
     if (!served.frames)
         return;
-    uint8_t from = hg_bus_unpack(frame.id).parts.from;
-    answered[from]++;
-    clear[from] += served.clear;
+    if (parts.kind == HG_REQ) {
+        answered[parts.from]++;
+        clear[parts.from] += served.clear;
+    }
     replies++;
     if (replies == 3)
         printf("turn %3u  bus     loses the reply 0x%08" PRIX32 "\n", turn, served.frame.id);
@@ -158,6 +183,7 @@ static void board_frame(hg_frame frame)
 static hg_bridge bridge;
 static uint8_t first[HG_BUFFER], second[HG_BUFFER]; /* the second has what checked writes send */
 static unsigned turn;
+static hg_frame extended; /* the last XTND to the dash */
 
 static void reset(void)
 {
@@ -213,8 +239,14 @@ static void dash_turn(void)
     bus_send(turn + 1, DASH, sent.frame);
 }
 
+/* The bridge takes RSP alone; an XTND is for the dash itself. */
 static void dash_frame(hg_frame frame)
 {
+    hg_parts parts = hg_bus_unpack(frame.id).parts;
+    if (parts.to == DASH && parts.kind == HG_XTND) {
+        extended = frame;
+        return;
+    }
     hg_yielded got = hg_bridge_frame_in_place(&bridge, first, sizeof first, second, sizeof second, frame);
     if (got.number == 0)
         printf("turn %3u  dash    takes  0x%08" PRIX32 "\n", turn, frame.id);
@@ -238,16 +270,16 @@ static void loop_turn(void)
     }
 }
 
-/* Whether a read is done and shows the device's bytes of table 7. */
-static bool read_done(uint32_t ticket, size_t offset, size_t count)
+/* Whether a read is done and shows the bytes that it should, which `whose` names. */
+static bool read_done(uint32_t ticket, const uint8_t *bytes, size_t count, const char *whose)
 {
     hg_span shown = hg_bridge_span(bridge, first, sizeof first, ticket);
     if (shown.number != 0) {
         printf("turn %3u  dash    the read ended with number %u\n", turn, shown.number);
         return false;
     }
-    bool same = shown.len == count && memcmp(first + shown.start, read_table + offset, count) == 0;
-    printf("turn %3u  dash    the read is done: %zu bytes, %s\n", turn, shown.len, same ? "the table's" : "NOT the table's");
+    bool same = shown.len == count && memcmp(first + shown.start, bytes, count) == 0;
+    printf("turn %3u  dash    the read is done: %zu bytes, %s%s\n", turn, shown.len, same ? "" : "NOT ", whose);
     return same;
 }
 
@@ -270,7 +302,7 @@ static bool read_and_write(void)
         }
     }
 
-    bool same = read_done(read, READ_OFFSET, READ_COUNT);
+    bool same = read_done(read, read_table + READ_OFFSET, READ_COUNT, "the table's");
     bool stored = memcmp(write_table + WRITE_OFFSET, text, sizeof text) == 0;
     printf("          device  has %s\n", stored ? "the bytes written" : "NOT the bytes written");
     return same && stored && closed(read) && closed(write);
@@ -290,7 +322,7 @@ static const char *ending(uint8_t number)
 /* A checked write, alone; false where it ends otherwise, or says done of bytes that the device does not have. */
 static bool check(const char *text, uint8_t expected)
 {
-    uint8_t bytes[12], number;
+    uint8_t bytes[MAP_COUNT], number;
     memcpy(bytes, text, sizeof bytes);
     uint32_t ticket = opened("checked write", hg_bridge_open_check(bridge, first, sizeof first, second, sizeof second, DEVICE, WRITE_TABLE,
                                                                    WRITE_OFFSET, bytes, sizeof bytes));
@@ -337,7 +369,7 @@ static bool read_eight(uint32_t ticket, uint16_t offset)
 {
     while (hg_bridge_status(bridge, ticket) == HG_NOT_FINISHED)
         loop_turn();
-    return read_done(ticket, offset, 8) && closed(ticket);
+    return read_done(ticket, read_table + offset, 8, "the table's") && closed(ticket);
 }
 
 /* A read is closed before its answer, which comes 20 turns late; false where anybody gets its bytes. */
@@ -381,6 +413,65 @@ static bool reserved_bit(void)
     return clear[DASH] == answered[DASH] && answered[BOARD] == 2 && clear[BOARD] == 1;
 }
 
+/* The dash asks for a burn, and is answered two turns later; false where the acknowledgement is missing or wrong, or comes where none is due. */
+static bool burn(uint8_t table, bool expected)
+{
+    hg_packed asked = hg_bus_pack((hg_parts){.offset = 0, .kind = HG_BURN, .from = DASH, .to = DEVICE, .table = table});
+    hg_packed awaited = hg_bus_pack((hg_parts){.offset = 0, .kind = HG_XTND, .from = DEVICE, .to = DASH, .table = table});
+    printf("turn %3u  dash    BURN 0x%08" PRIX32 ": table %u\n", turn, asked.id, table);
+    extended = (hg_frame){0};
+    if (asked.number == 0)
+        bus_send(turn + 1, DASH, (hg_frame){.id = asked.id, .len = 0});
+    loop_turn();
+    loop_turn();
+    if (extended.len == 0) {
+        printf("turn %3u  dash    has %s acknowledgement\n", turn, expected ? "NOT the" : "no");
+        return !expected;
+    }
+    bool same = expected && extended.id == awaited.id && extended.len == 2 && extended.bytes[0] == 0x0E && extended.bytes[1] == 0x01;
+    printf("turn %3u  dash    takes  0x%08" PRIX32 ": bytes %02X %02X, %s\n", turn, extended.id, extended.bytes[0], extended.bytes[1],
+           same ? "the acknowledgement" : "NOT the acknowledgement");
+    return same;
+}
+
+/* Whether flash, or working memory after power-up, is as it should be: table 3 as it was burnt, table 7 as at the start. */
+static bool has_burnt(const char *where, const uint8_t *bytes, const uint8_t *wanted)
+{
+    bool same = memcmp(bytes, wanted, sizeof flash) == 0;
+    printf("          device  has in %s %s\n", where, same ? "the map burnt, and table 7 as at the start" : "NOT what it should");
+    return same;
+}
+
+/* The device is off for a turn, then on again; false where the dash does not read the map that it burnt. */
+static bool off_and_on(const uint8_t *wanted)
+{
+    switch_off();
+    puts("          device  is switched off");
+    loop_turn();
+    puts("          device  is switched on");
+    power_up();
+    uint32_t ticket = opened("read", hg_bridge_open_read(bridge, first, sizeof first, second, sizeof second, DEVICE, WRITE_TABLE,
+                                                         WRITE_OFFSET, MAP_COUNT));
+    while (hg_bridge_status(bridge, ticket) == HG_NOT_FINISHED)
+        loop_turn();
+    return read_done(ticket, (const uint8_t *)"fuel map new", MAP_COUNT, "the map burnt") && closed(ticket) &&
+           has_burnt("working memory", memory, wanted);
+}
+
+/* Today's map is burnt, a later one is not; false where the device has another one after it was switched off, or lost table 7. */
+static bool tune(void)
+{
+    uint8_t wanted[sizeof flash];
+    memcpy(wanted, flash, sizeof wanted);
+    read_table[0]++; /* the device changes table 7 in working memory, and nobody burns that */
+    if (!check("fuel map new", HG_DONE))
+        return false;
+    memcpy(wanted, write_table, 32);
+    if (!burn(WRITE_TABLE, true) || !has_burnt("flash", flash, wanted) || !burn(READ_TABLE, false) || !has_burnt("flash", flash, wanted))
+        return false;
+    return check("fuel map odd", HG_DONE) && off_and_on(wanted);
+}
+
 int main(void)
 {
     device_start();
@@ -397,5 +488,5 @@ int main(void)
     if (!check("fuel map six", HG_DIFFERENT))
         return 1;
     rested_reset();
-    return late_answer() && reserved_bit() ? 0 : 1;
+    return late_answer() && reserved_bit() && tune() ? 0 : 1;
 }

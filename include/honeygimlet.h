@@ -13,7 +13,8 @@
  * them different memory do not meet. No call's time grows with a product of two lengths. What it grows with, and the bytes of stack
  * that a call takes at most, beside its arguments, its answer and what memcpy takes (the first row that fits):
  *
- *   hg_bus_*                                  nothing                               192
+ *   hg_bus_serve                              size of a burnt table, at most 2,056  209
+ *   hg_bus_*                                  nothing                                 8
  *   hg_bridge_*                               nothing                               733
  *   hg_mlg_read_block                         record length                          72
  *   hg_mlg_write_data                         record length                          16
@@ -54,7 +55,7 @@ enum {
     HG_NO_RIGHT = 7,         /* table empty, or lacks the right; device or table out of range */
     HG_RANGE = 8,            /* range past the table's end; offset, or offset and count, too large */
     HG_COUNT = 9,            /* count not allowed */
-    HG_MEMORY_LENGTH = 10,   /* lent memory of wrong length */
+    HG_MEMORY_LENGTH = 10,   /* lent memory of wrong length: working memory, flash or buffer */
     HG_UNSOUND = 11,         /* directory, state or own number unsound */
     HG_NO_SLOT = 12,         /* no free slot */
     HG_NO_TICKET = 13,       /* tickets used up */
@@ -79,7 +80,7 @@ enum {
 /* ---- Identifiers, frames and requests ---- */
 
 /* Types of frames: the `kind` of an identifier. */
-enum { HG_CMD = 0, HG_REQ = 1, HG_RSP = 2, HG_XTND = 7 };
+enum { HG_CMD = 0, HG_REQ = 1, HG_RSP = 2, HG_BURN = 4, HG_XTND = 7 };
 
 /* The parts of an identifier. */
 typedef struct {
@@ -151,7 +152,10 @@ hg_request_bytes hg_bus_request_bytes(hg_request request);
 
 /* ---- Table holder ---- */
 
-/* 32 tables lie back to back in memory; table k starts at the sum of the sizes before it. The sum of all is at most 32,768. */
+/*
+ * 32 tables lie back to back in working memory, and in the same way in flash: table k starts at the sum of the sizes before it. The sum of all
+ * is at most 32,768; working memory and flash are each as long as it.
+ */
 typedef struct {
     uint16_t sizes[32];     /* 0..2056 */
     uint8_t rights[32];     /* 0 none, 1 read, 2 read and write */
@@ -165,23 +169,30 @@ HG_SIZE(hg_directory, 102);
 typedef struct {
     uint8_t number;
     uint8_t frames;
-    uint8_t clear; /* 1 if a REQ or a protocol query was answered and its reserved bits were 0, else 0 */
+    uint8_t clear; /* 1 if a REQ or a protocol query was answered and its reserved bits were 0, else 0: beside a BURN's acknowledgement too */
     hg_frame frame;
 } hg_served;
 HG_SIZE(hg_served, 20);
 
 /*
- * What a holder of tables does with a frame. `len` is the sum of the sizes.
- * CMD (length 1..8, right 2) stores its bytes at the offset of the table and has no answer; REQ (length 3, count 1..8, right 1
- * or 2) answers with an RSP of the table's bytes; XTND with the first byte 0x80, the protocol query (length 4, request bytes after the
- * first, count 1 or 5), answers with the protocol's version, or that and the two blocking factors.
+ * What a holder of tables does with a frame. It is lent working memory (`memory`) and flash, ordinary memory in which the host keeps what its
+ * flash chip holds: both lengths are the sum of the sizes, and the two must not overlap. A holder that nobody burns is lent a flash all the same.
+ * CMD (length 1..8, right 2) stores its bytes at the offset of the table, in working memory alone, and has no answer; REQ (length 3, count
+ * 1..8, right 1 or 2) answers with an RSP of the table's bytes in working memory; BURN (length 0, right 2; the offset is not looked at) makes
+ * the table's bytes in flash equal to those in working memory, and answers the sender with its acknowledgement: an XTND with offset 0, the burnt
+ * table and the two bytes 0x0E 0x01; XTND with the first byte 0x80, the protocol query (length 4, request bytes after the first, count 1 or
+ * 5), answers with the protocol's version, or that and the two blocking factors. Other types, and XTND with another first byte, are 5: so is
+ * an acknowledgement that arrives.
+ * No chip is written here: after a frame of kind HG_BURN answered 0 the host writes that table from flash to its chip, then sends the
+ * acknowledgement; where the chip fails, it does not send it, and loads flash from the chip again (for 0x0E 0x00, burn failed, there is no call).
+ * At power-up it loads flash from the chip, and working memory from flash.
  * Reserved bits of a request are ignored, as by hg_bus_read_request: a set one changes `clear` and nothing else of the answer. `clear` is
- * 1 where a REQ or a protocol query was answered and its reserved bits were 0; it is 0 where one was set, for every other frame, and in
- * every refusal.
- * Numbers: 11, 10, 1, 2, 3, 4, 5, 6, 7, 9, 8, save that XTND of length 0 is 6.
- * Changes the addressed bytes of memory for a CMD answered 0, and nothing else.
+ * 1 where a REQ or a protocol query was answered and its reserved bits were 0; it is 0 where one was set, for every other frame, a BURN too,
+ * and in every refusal.
+ * Numbers: 11, 10 (working memory or flash), 1, 2, 3, 4, 5, 6, 7, 9, 8, save that XTND of length 0 is 6; a BURN is never 9 or 8.
+ * Changes the addressed bytes of working memory for a CMD answered 0, the table's bytes in flash for a BURN answered 0, and nothing else.
  */
-hg_served hg_bus_serve(hg_directory directory, uint8_t *memory, size_t len, hg_frame frame);
+hg_served hg_bus_serve(hg_directory directory, uint8_t *memory, size_t memory_len, uint8_t *flash, size_t flash_len, hg_frame frame);
 
 /* ---- Bridge ---- */
 

@@ -3,9 +3,11 @@
 use crate::abi::*;
 use crate::judge::Judge;
 use crate::kinds::KINDS;
-use crate::model::{bridge, counter_after, identifier, mlg, value, CMD, REQ, XTND};
+use crate::model::holder::{self, Memories};
+use crate::model::{bridge, counter_after, identifier, mlg, value, BURN, CMD, REQ, RSP, XTND};
 use crate::rng::Rng;
 use crate::side::{Buffers, BuffersMut, Model, Side};
+use std::ops::Range;
 
 /// The faults, and the list of all of them.
 macro_rules! faults {
@@ -84,6 +86,73 @@ faults! {
     ReqOfNoCountIsClear,
     QueryOfNoCountIsClear,
     RefusedFramesAreClear,
+    // burn: what is served
+    BurnNotServed,
+    Type3IsBurn,
+    Type5IsBurn,
+    Type3BurnsToo,
+    Type5BurnsToo,
+    BurnOfALengthServed,
+    BurnOfOneByteServed,
+    BurnsRightBeforeLength,
+    Right1Burns,
+    AnyRightBurns,
+    EmptyTableBurns,
+    BurnPastTheEndIs8,
+    BurnOfABurntTableIsSilent,
+    RefusedBurnBurns,
+    BurnOfALengthBurns,
+    // burn: what it changes
+    BurnsNothing,
+    BurnsTheWholeMemory,
+    BurnsUpToTheTable,
+    BurnsFromTheOffset,
+    BurnsEightBytes,
+    BurnsFromTheFlash,
+    BurnExchangesTheTwo,
+    BurnClearsTheTable,
+    BurnErasesAlone,
+    FirstByteNotBurnt,
+    LastByteNotBurnt,
+    ByteBeforeBurntToo,
+    ByteAfterBurntToo,
+    BurnsToTheBeginning,
+    BurnsFromTheBeginning,
+    // burn: its acknowledgement
+    BurnIsSilent,
+    BurnIsClear,
+    BurnFailed,
+    AcknowledgementExchanged,
+    AcknowledgementOfOneByte,
+    AcknowledgementOfEightBytes,
+    AcknowledgedByRsp,
+    AcknowledgedByBurn,
+    AcknowledgedToItself,
+    AcknowledgedFromTheSender,
+    AcknowledgedWithItsOffset,
+    AcknowledgedOfTable0,
+    AcknowledgedOfTable6,
+    AcknowledgedOfTheNextTable,
+    AcknowledgedWithoutTableBit4,
+    ArrivingAcknowledgementTaken,
+    ArrivingAcknowledgementIs6,
+    // the flash and frames other than a burn
+    CmdWritesFlashToo,
+    CmdWritesFlashAlone,
+    CmdToABurntTableWritesFlash,
+    RefusedCmdWritesFlash,
+    ReqAnswersFromFlash,
+    ReqBurns,
+    QueryBurns,
+    // the length of the flash
+    FlashUnjudged,
+    LongerFlashTaken,
+    ShorterFlashTaken,
+    FlashJudgedByBurnsAlone,
+    MemoryJudgedByFlash,
+    FlashLengthBefore11,
+    FlashLengthAfter1,
+    FlashLengthAfter4,
     // bridge
     BufferBeforeState,
     OpensWithTicket0AtEnd,
@@ -240,6 +309,25 @@ impl Faulty {
         lent
     }
 
+    /// The model's answer, with the length of the flash judged as this side does.
+    fn judged(&self, directory: Directory, memory: &mut [u8], flash: &mut [u8], frame: Frame, parts: Parts) -> Served {
+        let total = holder::total(&directory);
+        let taken = match self.0 {
+            FlashUnjudged => memory.len() == total,
+            LongerFlashTaken => memory.len() == total && flash.len() > total,
+            ShorterFlashTaken => memory.len() == total && flash.len() < total,
+            FlashJudgedByBurnsAlone => memory.len() == total && parts.kind != BURN,
+            FlashLengthAfter1 => memory.len() == total && frame.id >= 1 << 29,
+            FlashLengthAfter4 => memory.len() == total && parts.to != directory.own,
+            MemoryJudgedByFlash => memory.len() == flash.len(),
+            _ => false,
+        };
+        if taken && (memory.len(), flash.len()) != (total, total) {
+            return Model.serve(directory, &mut vec![0; total], &mut vec![0; total], frame);
+        }
+        Model.serve(directory, memory, flash, frame)
+    }
+
     /// The answer to a reply to slot `index` that brought other bytes than it sent; `answer` is the model's.
     fn at_difference(&self, b: Bridge, index: usize, first: &mut [u8], frame: &Frame, mut answer: Stepped) -> Stepped {
         let (given, slot) = (b.slots[index], answer.bridge.slots[index]);
@@ -273,6 +361,157 @@ impl Faulty {
             _ => lent.second.to_vec(),
         }
     }
+}
+
+/// The same frame, of another type.
+fn of_type(frame: &Frame, kind: u8) -> Frame {
+    Frame { id: frame.id & !(7 << 15) | (kind as u32) << 15, ..*frame }
+}
+
+/// The frame, and the rights, with which the model burns as this side would.
+fn burn_asked(fault: Fault, kind: u8, table: u8, directory: &mut Directory, frame: &mut Frame) {
+    let right = &mut directory.rights[table as usize];
+    match (fault, kind) {
+        (Type3IsBurn | Type3BurnsToo, 3) | (Type5IsBurn | Type5BurnsToo, 5) => *frame = of_type(frame, BURN),
+        (Type3IsBurn | Type5IsBurn | BurnNotServed, BURN) => *frame = of_type(frame, 6),
+        (BurnOfALengthServed, BURN) if frame.len <= 8 => frame.len = 0,
+        (BurnOfOneByteServed, BURN) if frame.len == 1 => frame.len = 0,
+        (Right1Burns, BURN) if *right == 1 => *right = 2,
+        (AnyRightBurns, BURN) if *right < 2 => *right = 2,
+        _ => {}
+    }
+}
+
+/// A holder's call: the parts of its frame, where its table lies, and both memories, before it and as they are left.
+struct Holding {
+    parts: Parts,
+    right: u8,
+    place: Range<usize>,
+    before: Memories,
+    left: Memories,
+}
+
+impl Holding {
+    /// Whether the flash had the table as the working memory did.
+    fn burnt_before(&self) -> bool {
+        self.before.working[self.place.clone()] == self.before.flash[self.place.clone()]
+    }
+
+    fn burn(&mut self) {
+        self.left.flash[self.place.clone()].copy_from_slice(&self.before.working[self.place.clone()]);
+    }
+}
+
+/// What this side leaves in both memories after a served burn, in place of what the model left.
+fn burnt(fault: Fault, call: &mut Holding) {
+    let Range { start, end } = call.place;
+    let (size, table) = (end - start, start..end);
+    let (flash, left) = (&call.before.flash, &mut call.left);
+    match fault {
+        BurnsNothing => left.flash.copy_from_slice(flash),
+        BurnsTheWholeMemory => left.flash.copy_from_slice(&left.working),
+        BurnsUpToTheTable => left.flash[..start].copy_from_slice(&left.working[..start]),
+        BurnsFromTheOffset => {
+            let kept = start..start + size.min(call.parts.offset as usize);
+            left.flash[kept.clone()].copy_from_slice(&flash[kept]);
+        }
+        BurnsEightBytes if size > 8 => left.flash[start + 8..end].copy_from_slice(&flash[start + 8..end]),
+        BurnsFromTheFlash => {
+            left.flash.copy_from_slice(flash);
+            left.working[table.clone()].copy_from_slice(&flash[table]);
+        }
+        BurnExchangesTheTwo => left.working[table.clone()].copy_from_slice(&flash[table]),
+        BurnClearsTheTable => left.working[table].fill(0),
+        BurnErasesAlone => left.flash[table].fill(0xFF),
+        FirstByteNotBurnt => left.flash[start] = flash[start],
+        LastByteNotBurnt => left.flash[end - 1] = flash[end - 1],
+        ByteBeforeBurntToo if start > 0 => left.flash[start - 1] = left.working[start - 1],
+        ByteAfterBurntToo if end < flash.len() => left.flash[end] = left.working[end],
+        BurnsToTheBeginning => {
+            left.flash.copy_from_slice(flash);
+            left.flash[..size].copy_from_slice(&left.working[table]);
+        }
+        BurnsFromTheBeginning => left.flash[table].copy_from_slice(&left.working[..size]),
+        _ => {}
+    }
+}
+
+/// This side's answer to a served burn of these parts; `answer` is the model's.
+fn acknowledged(fault: Fault, parts: Parts, mut answer: Served) -> Served {
+    let mut reply = identifier::unpack(answer.frame.id).unwrap();
+    let frame = &mut answer.frame;
+    match fault {
+        BurnIsSilent => return Served::default(),
+        BurnIsClear => answer.clear = 1,
+        BurnFailed => frame.bytes[1] = 0,
+        AcknowledgementExchanged => frame.bytes[..2].reverse(),
+        AcknowledgementOfOneByte => (frame.len, frame.bytes[1]) = (1, 0),
+        AcknowledgementOfEightBytes => frame.len = 8,
+        AcknowledgedByRsp => reply.kind = RSP,
+        AcknowledgedByBurn => reply.kind = BURN,
+        AcknowledgedToItself => reply.to = parts.to,
+        AcknowledgedFromTheSender => reply.from = parts.from,
+        AcknowledgedWithItsOffset => reply.offset = parts.offset,
+        AcknowledgedOfTable0 => reply.table = 0,
+        AcknowledgedOfTable6 => reply.table = 6,
+        AcknowledgedOfTheNextTable => reply.table = (parts.table + 1) % 32,
+        AcknowledgedWithoutTableBit4 => reply.table %= 16,
+        _ => {}
+    }
+    answer.frame.id = identifier::pack(reply).unwrap();
+    answer
+}
+
+/// What this side does at a burn that the model answered so. Numbers 0, 6 and 7 say that both memories have the total length, save with
+/// faults of the lengths, which touch no byte.
+fn burn_with(fault: Fault, call: &mut Holding, answer: Served) -> Served {
+    let refused = |number| Served { number, ..Served::default() };
+    let (parts, empty) = (call.parts, call.place.is_empty());
+    match (fault, answer.number) {
+        (BurnPastTheEndIs8, 0) if parts.offset as usize >= call.place.len() => {
+            call.left = call.before.clone();
+            return refused(8);
+        }
+        (BurnOfABurntTableIsSilent, 0) if call.burnt_before() => return Served::default(),
+        (BurnsRightBeforeLength, 6) if empty || call.right != 2 => return refused(7),
+        (EmptyTableBurns, 7) if empty && call.right == 2 => {
+            let id = Parts { offset: 0, kind: XTND, from: parts.to, to: parts.from, table: parts.table };
+            return Served { number: 0, frames: 1, clear: 0, frame: holder::frame(id, &[0x0E, 0x01]) };
+        }
+        (RefusedBurnBurns, 7) | (BurnOfALengthBurns, 6) => call.burn(),
+        _ => {}
+    }
+    if answer.number != 0 {
+        return answer;
+    }
+    burnt(fault, call);
+    acknowledged(fault, parts, answer)
+}
+
+/// What this side does at another frame than a burn, which the model answered so.
+fn beside_flash(fault: Fault, call: &mut Holding, frame: &Frame, mut answer: Served) -> Served {
+    let at = call.place.start + call.parts.offset as usize;
+    let (len, given) = (frame.len as usize, &frame.bytes);
+    match (fault, call.parts.kind, answer.number) {
+        (CmdWritesFlashToo, CMD, 0) => call.left.flash[at..at + len].copy_from_slice(&given[..len]),
+        (CmdWritesFlashAlone, CMD, 0) => {
+            call.left.flash[at..at + len].copy_from_slice(&given[..len]);
+            call.left.working.copy_from_slice(&call.before.working);
+        }
+        (CmdToABurntTableWritesFlash, CMD, 0) if call.burnt_before() => {
+            call.left.flash[at..at + len].copy_from_slice(&given[..len]);
+        }
+        (RefusedCmdWritesFlash, CMD, 7) if !call.place.is_empty() => call.left.flash[call.place.start] = given[0],
+        (ReqAnswersFromFlash, REQ, 0) => {
+            let len = answer.frame.len as usize;
+            answer.frame.bytes[..len].copy_from_slice(&call.before.flash[at..at + len]);
+        }
+        (ReqBurns, REQ, 0) | (QueryBurns, XTND, 0) => call.burn(),
+        (ArrivingAcknowledgementTaken, XTND, 5) if len == 2 && given[..2] == [0x0E, 0x01] => return Served::default(),
+        (ArrivingAcknowledgementIs6, XTND, 5) if len != 4 && given[0] == 0x0E => answer.number = 6,
+        _ => {}
+    }
+    answer
 }
 
 /// Whether the reserved bits of request bytes are set: the top three of the first, bit 4 of the third.
@@ -531,10 +770,14 @@ impl Side for Faulty {
         answer
     }
 
-    fn serve(&self, mut directory: Directory, memory: &mut [u8], mut frame: Frame) -> Served {
-        let total: usize = directory.sizes.iter().map(|size| *size as usize).sum();
-        let kind = identifier::unpack(frame.id).map(|parts| parts.kind).unwrap_or(9);
+    fn serve(&self, mut directory: Directory, memory: &mut [u8], flash: &mut [u8], mut frame: Frame) -> Served {
+        let total = holder::total(&directory);
+        let parts = identifier::unpack(frame.id).unwrap_or(Parts { kind: 9, ..Parts::default() });
+        let kind = parts.kind;
         if self.has(MemoryLengthBefore11) && total != memory.len() {
+            return Served { number: 10, ..Served::default() };
+        }
+        if self.has(FlashLengthBefore11) && total != flash.len() {
             return Served { number: 10, ..Served::default() };
         }
         if self.has(TotalOf32769) && total == 32_769 {
@@ -550,8 +793,24 @@ impl Side for Faulty {
             frame.bytes[1..4].rotate_right(1);
             frame.bytes[1] = 0x80;
         }
-        let before = memory.to_vec();
-        let mut answer = Model.serve(directory, memory, frame);
+        burn_asked(self.0, kind, parts.table, &mut directory, &mut frame);
+        let before = Memories { working: memory.to_vec(), flash: flash.to_vec() };
+        let mut answer = self.judged(directory, memory, flash, frame, parts);
+        let start = holder::start(&directory, parts.table);
+        let table = parts.table as usize;
+        let mut call = Holding {
+            parts,
+            right: directory.rights[table],
+            place: start..start + directory.sizes[table] as usize,
+            before,
+            left: Memories { working: memory.to_vec(), flash: flash.to_vec() },
+        };
+        answer = match kind {
+            BURN => burn_with(self.0, &mut call, answer),
+            _ => beside_flash(self.0, &mut call, &frame, answer),
+        };
+        memory.copy_from_slice(&call.left.working);
+        flash.copy_from_slice(&call.left.flash);
         if let Some(bytes) = request_bytes_of(kind, &frame) {
             answer = answer_with(self.0, kind, &frame, bytes, answer);
         }
@@ -570,8 +829,7 @@ impl Side for Faulty {
         if self.has(GarbagePastReply) && answer.frames == 1 && answer.frame.len < 8 {
             answer.frame.bytes[7] = 1;
         }
-        if self.has(CmdClearsLastByte) && *memory != before[..] {
-            let parts = identifier::unpack(frame.id).unwrap();
+        if self.has(CmdClearsLastByte) && *memory != call.before.working[..] {
             let end: usize = directory.sizes[..=parts.table as usize].iter().map(|size| *size as usize).sum();
             memory[end - 1] = 0;
         }

@@ -14,7 +14,7 @@ extern "C" {
     fn hg_bus_unpack(id: u32) -> Unpacked;
     fn hg_bus_read_request(first: u8, second: u8, third: u8) -> RequestRead;
     fn hg_bus_request_bytes(request: Request) -> RequestBytes;
-    fn hg_bus_serve(directory: Directory, memory: *mut u8, len: usize, frame: Frame) -> Served;
+    fn hg_bus_serve(directory: Directory, memory: *mut u8, memory_len: usize, flash: *mut u8, flash_len: usize, frame: Frame) -> Served;
 
     fn hg_bridge_open_read(b: Bridge, first: *const u8, first_len: usize, second: *const u8, second_len: usize, device: u8, table: u8, offset: u16, count: usize) -> Opened;
     fn hg_bridge_open_write(b: Bridge, first: *mut u8, first_len: usize, second: *const u8, second_len: usize, device: u8, table: u8, offset: u16, bytes: *const u8, count: usize) -> Opened;
@@ -79,8 +79,8 @@ impl Side for Library {
         unsafe { hg_bus_request_bytes(request) }
     }
 
-    fn serve(&self, directory: Directory, memory: &mut [u8], frame: Frame) -> Served {
-        unsafe { hg_bus_serve(directory, memory.as_mut_ptr(), memory.len(), frame) }
+    fn serve(&self, directory: Directory, memory: &mut [u8], flash: &mut [u8], frame: Frame) -> Served {
+        unsafe { hg_bus_serve(directory, memory.as_mut_ptr(), memory.len(), flash.as_mut_ptr(), flash.len(), frame) }
     }
 
     fn open_read(&self, b: Bridge, lent: Buffers, device: u8, table: u8, offset: u16, count: usize) -> Opened {

@@ -26,6 +26,9 @@ pub fn all(side: &dyn Side) -> Vec<Reckoning> {
     reserved_bits(side, &mut list);
     wire_examples(side, &mut list);
     ranges(side, &mut list);
+    burns(side, &mut list);
+    burns_refused(side, &mut list);
+    tuning(side, &mut list);
     bridge_read(side, &mut list);
     silent_device(side, &mut list);
     checked_write(side, &mut list);
@@ -75,9 +78,15 @@ fn requests(side: &dyn Side, list: &mut List) {
     list.add("FF FF FF", side.read_request(0xFF, 0xFF, 0xFF), asked(31, 2047, 15, 0));
 
     let (directory, mut memory) = table_7();
-    let answer = side.serve(directory, &mut memory, frame(0x18A838, &[0x06, 0x10, 0x02]));
+    let answer = served(side, directory, &mut memory, frame(0x18A838, &[0x06, 0x10, 0x02]));
     let reply = frame(0x20102B0, &[0x0B, 0xB8]);
     list.add("0B B8 come back under 0x20102B0", answer, Served { number: 0, frames: 1, clear: 1, frame: reply });
+}
+
+/// What a holder with a flash of the right length answers.
+fn served(side: &dyn Side, directory: Directory, memory: &mut [u8], frame: Frame) -> Served {
+    let mut flash = vec![0xFF; memory.len()];
+    side.serve(directory, memory, &mut flash, frame)
 }
 
 /// Table 7 with 0B B8 at offset 6, to be asked by device 5 with `06 10 02`; blocking factors 0102 and 0304.
@@ -134,13 +143,13 @@ fn reserved_bits(side: &dyn Side, list: &mut List) {
         ];
         for (name, id, bytes, wanted) in cases {
             let (directory, mut memory) = table_7();
-            let answer = side.serve(directory, &mut memory, frame(id, bytes));
+            let answer = served(side, directory, &mut memory, frame(id, bytes));
             list.add(&format!("{name}, {bytes:02X?}"), answer, wanted);
         }
     }
     let (mut directory, mut memory) = table_7();
     directory.rights[7] = 2;
-    let answer = side.serve(directory, &mut memory, frame(command, &[0x06, 0x10, 0x02]));
+    let answer = served(side, directory, &mut memory, frame(command, &[0x06, 0x10, 0x02]));
     list.add("the mark of a CMD is 0", (answer, memory[6..9].to_vec()), (Served::default(), vec![0x06, 0x10, 0x02]));
 }
 
@@ -160,7 +169,7 @@ fn wire_examples(side: &dyn Side, list: &mut List) {
         ("RPM", 0x18B838, [0x07, 0x00, 0x42], 0x903B8, &[0x14, 0xFE]),
     ];
     for (name, id, bytes, reply, data) in examples {
-        let answer = side.serve(directory, &mut memory, frame(id, &bytes));
+        let answer = served(side, directory, &mut memory, frame(id, &bytes));
         let wanted = Served { number: 0, frames: 1, clear: 1, frame: frame(reply, data) };
         list.add(&format!("002: {name}"), answer, wanted);
     }
@@ -173,7 +182,7 @@ fn ranges(side: &dyn Side, list: &mut List) {
         directory.rights[1] = 2;
         let id = side.pack(Parts { offset, kind: CMD, from: 3, to: 0, table: 1 }).id;
         let mut memory = vec![0; size as usize];
-        let answer = side.serve(directory, &mut memory, frame(id, &[1, 2, 3, 4, 5, 6, 7, 8]));
+        let answer = served(side, directory, &mut memory, frame(id, &[1, 2, 3, 4, 5, 6, 7, 8]));
         list.add(&format!("size {size} offset {offset} with 8 bytes"), answer.number, number);
         let mut wanted = vec![0; size as usize];
         if number == 0 {
@@ -182,9 +191,106 @@ fn ranges(side: &dyn Side, list: &mut List) {
         list.add(&format!("size {size} offset {offset} memory"), memory, wanted);
         let id = side.pack(Parts { offset, kind: REQ, from: 3, to: 0, table: 1 }).id;
         let mut memory = vec![0; size as usize];
-        let answer = side.serve(directory, &mut memory, frame(id, &[6, 0, 8]));
+        let answer = served(side, directory, &mut memory, frame(id, &[6, 0, 8]));
         list.add(&format!("size {size} offset {offset} asking 8"), answer.number, number);
     }
+}
+
+/// 02, C-11: device 0 with table 6 of four bytes, table 7 of eight and table 20 of two that may be written, table 8 of four that may
+/// be read, table 9 of four without a right; its memory is 1 to 22, its flash FF.
+fn tuned() -> (Directory, Vec<u8>, Vec<u8>) {
+    let mut directory = Directory::default();
+    for (table, size, right) in [(6, 4, 2), (7, 8, 2), (8, 4, 1), (9, 4, 0), (20, 2, 2)] {
+        (directory.sizes[table], directory.rights[table]) = (size, right);
+    }
+    (directory, (1..=22).collect(), vec![0xFF; 22])
+}
+
+/// 02, C-11: burns from device 5. By 01's rows, type 4 is 0x20000, from 5 0x2800, table 7 0x38, so 0x22838; the reply's type 7 is
+/// 0x38000, to 5 0x280, so 0x382B8. Table 6 is 0x30, table 20 0x24; offset 8 is 0x200000, offset 2,047 0x1FFC0000.
+fn burns(side: &dyn Side, list: &mut List) {
+    let cases: [(&str, u32, u32, std::ops::Range<usize>); 6] = [
+        ("table 7", 0x22838, 0x382B8, 4..12),
+        ("table 7, offset 8", 0x222838, 0x382B8, 4..12),
+        ("table 7, offset 2,047", 0x1FFE2838, 0x382B8, 4..12),
+        ("table 7, from device 0 itself", 0x20038, 0x38038, 4..12),
+        ("table 6", 0x22830, 0x382B0, 0..4),
+        ("table 20", 0x22824, 0x382A4, 20..22),
+    ];
+    for (name, id, reply, place) in cases {
+        let (directory, mut memory, mut flash) = tuned();
+        let answer = side.serve(directory, &mut memory, &mut flash, frame(id, &[]));
+        let wanted = Served { number: 0, frames: 1, clear: 0, frame: frame(reply, &[0x0E, 0x01]) };
+        list.add(&format!("a burn of {name}"), answer, wanted);
+        let (_, as_found, mut burnt) = tuned();
+        burnt[place.clone()].copy_from_slice(&as_found[place]);
+        list.add(&format!("both memories after a burn of {name}"), (memory, flash), (as_found, burnt));
+    }
+}
+
+/// 02, C-11: "length 0, right 2"; "10 also for a flash of the wrong length". Both memories stay as they were.
+fn burns_refused(side: &dyn Side, list: &mut List) {
+    let (burn, too_large) = (frame(0x22838, &[]), frame(0x2002_2838, &[]));
+    let own_16 = Directory { own: 16, ..tuned().0 };
+    let cases: [(&str, Directory, usize, usize, Frame, u8); 18] = [
+        ("with a byte", tuned().0, 22, 22, frame(0x22838, &[0x0E]), 6),
+        ("with eight bytes", tuned().0, 22, 22, frame(0x22838, &[1, 2, 3, 4, 5, 6, 7, 8]), 6),
+        ("with nine", tuned().0, 22, 22, Frame { len: 9, ..burn }, 3),
+        ("of table 8, which may be read", tuned().0, 22, 22, frame(0x22840, &[]), 7),
+        ("of table 9, without a right", tuned().0, 22, 22, frame(0x22848, &[]), 7),
+        ("of table 10, which is empty", tuned().0, 22, 22, frame(0x22850, &[]), 7),
+        ("of table 8 with a byte", tuned().0, 22, 22, frame(0x22840, &[0]), 6),
+        ("to device 1", tuned().0, 22, 22, frame(0x228B8, &[]), 4),
+        ("as type 3", tuned().0, 22, 22, frame(0x1A838, &[]), 5),
+        ("as type 5", tuned().0, 22, 22, frame(0x2A838, &[]), 5),
+        ("with a short memory", tuned().0, 21, 22, burn, 10),
+        ("with a short flash", tuned().0, 22, 21, burn, 10),
+        ("with no flash", tuned().0, 22, 0, burn, 10),
+        ("with both short", tuned().0, 21, 21, burn, 10),
+        ("2^29 or more, with a short flash", tuned().0, 22, 21, too_large, 10),
+        ("2^29 or more", tuned().0, 22, 22, too_large, 1),
+        ("to own number 16, with a short flash", own_16, 22, 21, burn, 11),
+        ("to own number 16", own_16, 22, 22, burn, 11),
+    ];
+    for (name, directory, memory_len, flash_len, frame, number) in cases {
+        let (_, mut memory, mut flash) = tuned();
+        let answer = side.serve(directory, &mut memory[..memory_len], &mut flash[..flash_len], frame);
+        let refused = Served { number, ..Served::default() };
+        let (_, memory_before, flash_before) = tuned();
+        let wanted = (refused, memory_before, flash_before);
+        list.add(&format!("a burn {name}"), (answer, memory, flash), wanted);
+    }
+    let (directory, mut memory, mut flash) = tuned();
+    flash.push(0xFF);
+    let (memory_before, flash_before) = (memory.clone(), flash.clone());
+    for (name, frame) in [("burn", burn), ("CMD", frame(0x2838, &[1]))] {
+        let number = side.serve(directory, &mut memory, &mut flash, frame).number;
+        let wanted = (10, memory_before.clone(), flash_before.clone());
+        list.add(&format!("a {name} with a long flash"), (number, memory.clone(), flash.clone()), wanted);
+    }
+}
+
+/// 02, C-11: table 20 is written, burnt, written again, read and burnt again; then its acknowledgement comes back.
+fn tuning(side: &dyn Side, list: &mut List) {
+    let (directory, mut memory, mut flash) = tuned();
+    let mut step = |name: &str, frame, wanted, table: [u8; 2], burnt: [u8; 2]| {
+        let answer = side.serve(directory, &mut memory, &mut flash, frame);
+        list.add(name, (answer, &memory[20..], &flash[20..]), (wanted, &table[..], &burnt[..]));
+    };
+    let answered = |clear, frame| Served { number: 0, frames: 1, clear, frame };
+    let acknowledged = answered(0, frame(0x382A4, &[0x0E, 0x01]));
+    step("a write", frame(0x2824, &[0x11, 0x22]), Served::default(), [0x11, 0x22], [0xFF, 0xFF]);
+    step("its burn", frame(0x22824, &[]), acknowledged, [0x11, 0x22], [0x11, 0x22]);
+    step("a write after it", frame(0x42824, &[0x33]), Served::default(), [0x11, 0x33], [0x11, 0x22]);
+    let read = answered(1, frame(0x102B0, &[0x11, 0x33]));
+    step("what is read then", frame(0xA824, &[0x06, 0x00, 0x02]), read, [0x11, 0x33], [0x11, 0x22]);
+    step("a second burn", frame(0x22824, &[]), acknowledged, [0x11, 0x33], [0x11, 0x33]);
+    step("a third", frame(0x22824, &[]), acknowledged, [0x11, 0x33], [0x11, 0x33]);
+    for (bytes, number) in [(&[0x0E, 0x01][..], 5), (&[0x0E, 0x00], 5), (&[0x0E], 5), (&[], 6)] {
+        let refused = Served { number, ..Served::default() };
+        step(&format!("an XTND of {bytes:02X?}"), frame(0x3A824, bytes), refused, [0x11, 0x33], [0x11, 0x33]);
+    }
+    list.add("the other tables' bytes", (&memory[..20], &flash[..20]), (&tuned().1[..20], &[0xFF; 20][..]));
 }
 
 fn bridge_read(side: &dyn Side, list: &mut List) {

@@ -2,6 +2,7 @@
 
 use crate::abi::*;
 pub use crate::model::bridge::Buffers;
+use crate::model::holder::Memories;
 use crate::model::{bridge, frd, holder, identifier, listing, mlg, request, value, Number};
 
 /// The two lent buffers, to be changed.
@@ -23,7 +24,7 @@ pub trait Side {
     fn unpack(&self, id: u32) -> Unpacked;
     fn read_request(&self, first: u8, second: u8, third: u8) -> RequestRead;
     fn request_bytes(&self, request: Request) -> RequestBytes;
-    fn serve(&self, directory: Directory, memory: &mut [u8], frame: Frame) -> Served;
+    fn serve(&self, directory: Directory, memory: &mut [u8], flash: &mut [u8], frame: Frame) -> Served;
 
     // a call that changes one of the two buffers gets both to write, so that a side that changes the other can be tried
     fn open_read(&self, b: Bridge, lent: Buffers, device: u8, table: u8, offset: u16, count: usize) -> Opened;
@@ -145,9 +146,11 @@ impl Side for Model {
         }
     }
 
-    fn serve(&self, directory: Directory, memory: &mut [u8], frame: Frame) -> Served {
-        served(holder::serve(&directory, memory, &frame).map(|(after, answer)| {
-            memory.copy_from_slice(&after);
+    fn serve(&self, directory: Directory, memory: &mut [u8], flash: &mut [u8], frame: Frame) -> Served {
+        let lent = Memories { working: memory.to_vec(), flash: flash.to_vec() };
+        served(holder::serve(&directory, &lent, &frame).map(|(after, answer)| {
+            memory.copy_from_slice(&after.working);
+            flash.copy_from_slice(&after.flash);
             answer
         }))
     }

@@ -4,7 +4,9 @@
 use crate::abi::*;
 use crate::kinds::holder::{random_directory, random_frame};
 use crate::model::bridge::{self, fresh, Buffers};
-use crate::model::{be32, frd, holder, identifier, listing, mlg, request, value, zero_ended, Number, REQ, XTND};
+use crate::model::holder::Memories;
+use crate::model::{be32, frd, holder, identifier, listing, mlg, request, value, zero_ended, Number};
+use crate::model::{BURN, CMD, REQ, XTND};
 use crate::rng::Rng;
 
 #[test]
@@ -48,31 +50,202 @@ fn reserved_bits_change_the_mark_alone() {
     let (mut marks, mut refused) = ([0; 2], [0; 12]);
     for _ in 0..20_000 {
         let directory = random_directory(&mut rng);
-        let memory = rng.bytes(holder::total(&directory));
+        let lent = random_memories(&mut rng, &directory);
         let frame = random_frame(&mut rng, &directory);
         let at = match (identifier::unpack(frame.id).map(|parts| parts.kind), frame.bytes[0]) {
             (Ok(REQ), _) => 0,
             (Ok(XTND), 0x80) => 1,
             _ => {
-                let answer = holder::serve(&directory, &memory, &frame);
-                assert!(answer.is_err() || answer.unwrap().1.is_none());
+                let answer = holder::serve(&directory, &lent, &frame);
+                assert!(answer.is_err() || answer.unwrap().1.is_none_or(|(_, clear)| !clear));
                 continue;
             }
         };
         let mut cleared = frame;
         cleared.bytes[at] %= 32;
         cleared.bytes[at + 2] &= 0xEF;
-        let wanted = holder::serve(&directory, &memory, &cleared);
-        let answer = holder::serve(&directory, &memory, &frame);
+        let wanted = holder::serve(&directory, &lent, &cleared);
+        let answer = holder::serve(&directory, &lent, &frame);
         match &answer {
             Ok((_, answer)) => marks[answer.unwrap().1 as usize] += 1,
             Err(number) => refused[*number as usize] += (frame != cleared) as u32,
         }
-        let marked = wanted.map(|(memory, answer)| (memory, answer.map(|(reply, _)| (reply, frame == cleared))));
+        let marked = wanted.map(|(left, answer)| (left, answer.map(|(reply, _)| (reply, frame == cleared))));
         assert_eq!(answer, marked);
     }
     assert!(marks.iter().all(|count| *count > 1000), "{marks:?}");
     assert!([3, 4, 6, 7, 8, 9, 11].iter().all(|number| refused[*number] > 10), "{refused:?}");
+}
+
+/// Both memories of a directory's total length, of different content.
+fn random_memories(rng: &mut Rng, directory: &Directory) -> Memories {
+    let total = holder::total(directory);
+    Memories { working: rng.bytes(total), flash: rng.bytes(total) }
+}
+
+/// A device whose tables are kept one by one: what each has in working memory, and in the flash.
+struct Tables {
+    working: Vec<Vec<u8>>,
+    flash: Vec<Vec<u8>>,
+}
+
+impl Tables {
+    fn new(directory: &Directory, lent: &Memories) -> Tables {
+        let split = |memory: &[u8]| -> Vec<Vec<u8>> {
+            let mut rest = memory.iter().copied();
+            directory.sizes.iter().map(|size| rest.by_ref().take(*size as usize).collect()).collect()
+        };
+        Tables { working: split(&lent.working), flash: split(&lent.flash) }
+    }
+
+    /// A frame that was served: what it writes or burns, and what is answered to a CMD, a BURN and a REQ.
+    fn take(&mut self, own: u8, parts: Parts, frame: &Frame, answer: Option<holder::Answer>) {
+        let (table, offset) = (parts.table as usize, parts.offset as usize);
+        match parts.kind {
+            CMD => {
+                let bytes = &frame.bytes[..frame.len as usize];
+                self.working[table][offset..offset + bytes.len()].copy_from_slice(bytes);
+                assert_eq!(answer, None);
+            }
+            BURN => {
+                self.flash[table] = self.working[table].clone();
+                let (reply, clear) = answer.unwrap();
+                let to = Parts { offset: 0, kind: XTND, from: own, to: parts.from, table: parts.table };
+                assert_eq!(identifier::unpack(reply.id), Ok(to));
+                assert_eq!((reply.len, reply.bytes, clear), (2, [0x0E, 0x01, 0, 0, 0, 0, 0, 0], false));
+            }
+            REQ => {
+                let (reply, _) = answer.unwrap();
+                let len = (frame.bytes[2] % 16) as usize;
+                assert_eq!(reply.len as usize, len);
+                assert_eq!(reply.bytes[..len], self.working[table][offset..offset + len]);
+            }
+            _ => assert!(parts.kind == XTND && frame.bytes[0] == 0x80),
+        }
+    }
+}
+
+/// 02, C-11: "A burn makes the flash bytes of that table equal to the table's and touches no other flash byte; working memory doesn't
+/// change." Whatever is written after it, the flash has each table as at its last burn.
+#[test]
+fn burns_keep_tables() {
+    let mut rng = Rng::new(1, 106, 0);
+    let (mut burns, mut written_after, mut refused) = (0, 0, [0; 12]);
+    for _ in 0..200 {
+        let directory = random_directory(&mut rng);
+        let mut lent = random_memories(&mut rng, &directory);
+        let mut tables = Tables::new(&directory, &lent);
+        let mut burnt = [false; 32];
+        for _ in 0..300 {
+            let frame = random_frame(&mut rng, &directory);
+            match holder::serve(&directory, &lent, &frame) {
+                Ok((left, answer)) => {
+                    let parts = identifier::unpack(frame.id).unwrap();
+                    tables.take(directory.own, parts, &frame, answer);
+                    lent = left;
+                    burns += (parts.kind == BURN) as u32;
+                    written_after += (parts.kind == CMD && burnt[parts.table as usize]) as u32;
+                    burnt[parts.table as usize] |= parts.kind == BURN;
+                }
+                Err(number) => refused[number as usize] += 1,
+            }
+            assert_eq!(lent.working, tables.working.concat());
+            assert_eq!(lent.flash, tables.flash.concat());
+        }
+    }
+    assert!(burns > 1000 && written_after > 1000, "{burns} burns, {written_after} writes after them");
+    assert!([1, 2, 3, 4, 5, 6, 7, 8, 9, 11].iter().all(|number| refused[*number] > 10), "{refused:?}");
+}
+
+/// 02, C-11: "offset not looked at", of every table and from every sender.
+#[test]
+fn a_burns_offset_is_not_looked_at() {
+    let mut rng = Rng::new(1, 107, 0);
+    let mut directory = Directory { own: 9, rights: [2; 32], ..Directory::default() };
+    directory.sizes = [(); 32].map(|_| rng.within(1, 5) as u16);
+    let lent = random_memories(&mut rng, &directory);
+    for table in 0..32 {
+        let mut tables = Tables::new(&directory, &lent);
+        for offset in 0..2048 {
+            let parts = Parts { offset, kind: BURN, from: (offset % 16) as u8, to: 9, table };
+            let frame = Frame { bytes: [7; 8], ..holder::frame(parts, &[]) };
+            let (left, answer) = holder::serve(&directory, &lent, &frame).unwrap();
+            tables.take(9, parts, &frame, answer);
+            assert_eq!((left.working, left.flash), (tables.working.concat(), tables.flash.concat()));
+        }
+    }
+}
+
+/// A burn's numbers in order: at first all that may be wrong is, and each is put right in its turn. 02, C-11: "10 also for a flash of
+/// the wrong length".
+#[test]
+fn refusals_of_a_burn() {
+    let parts = Parts { offset: 2047, kind: 5, from: 12, to: 8, table: 20 };
+    let mut frame = Frame { id: (1 << 29) + 3 + identifier::pack(parts).unwrap(), len: 9, bytes: [1; 8] };
+    let mut directory = Directory { own: 16, ..Directory::default() };
+    (directory.sizes[3], directory.sizes[20]) = (4, 0);
+    let mut lent = Memories { working: vec![1; 3], flash: vec![2; 11] };
+    let number = |directory: &Directory, lent: &Memories, frame: &Frame| holder::serve(directory, lent, frame).err();
+    assert_eq!(number(&directory, &lent, &frame), Some(11));
+    directory.own = 9;
+    assert_eq!(number(&directory, &lent, &frame), Some(10));
+    lent.working.push(1);
+    assert_eq!(number(&directory, &lent, &frame), Some(10));
+    lent.flash.truncate(4);
+    assert_eq!(number(&directory, &lent, &frame), Some(1));
+    frame.id -= 1 << 29;
+    assert_eq!(number(&directory, &lent, &frame), Some(2));
+    frame.id -= 3;
+    assert_eq!(number(&directory, &lent, &frame), Some(3));
+    frame.len = 8;
+    assert_eq!(number(&directory, &lent, &frame), Some(4));
+    frame.id = identifier::pack(Parts { to: 9, ..parts }).unwrap();
+    assert_eq!(number(&directory, &lent, &frame), Some(5));
+    frame.id = identifier::pack(Parts { to: 9, kind: BURN, ..parts }).unwrap();
+    assert_eq!(number(&directory, &lent, &frame), Some(6));
+    frame.len = 0;
+    assert_eq!(number(&directory, &lent, &frame), Some(7));
+    directory.rights[20] = 2; // the table is empty still
+    assert_eq!(number(&directory, &lent, &frame), Some(7));
+    (directory.sizes[3], directory.sizes[20]) = (0, 4);
+    assert_eq!(number(&directory, &lent, &frame), None);
+    for right in [0, 1] {
+        directory.rights[20] = right;
+        assert_eq!(number(&directory, &lent, &frame), Some(7));
+    }
+}
+
+/// 02, C-11: "A second lent memory, as long as the first", and so of the total length: 10 for any other, whatever the frame.
+#[test]
+fn lengths_of_both_memories() {
+    let mut directory = Directory { own: 9, rights: [2; 32], ..Directory::default() };
+    (directory.sizes[3], directory.sizes[20]) = (4, 3);
+    let to_20 = |kind, bytes: &[u8]| holder::frame(Parts { offset: 1, kind, from: 12, to: 9, table: 20 }, bytes);
+    let frames = [to_20(CMD, &[1]), to_20(REQ, &[6, 0, 1]), to_20(BURN, &[]), to_20(XTND, &[0x80, 6, 0, 1])];
+    for (working, flash) in (0..16).flat_map(|working| (0..16).map(move |flash| (working, flash))) {
+        let lent = Memories { working: vec![1; working], flash: vec![2; flash] };
+        for frame in frames {
+            let number = holder::serve(&directory, &lent, &frame).err();
+            assert_eq!(number, if (working, flash) == (7, 7) { None } else { Some(10) });
+        }
+    }
+}
+
+/// A burn's acknowledgement that arrives: no holder serves it (5, and at length 0 any XTND is 6), and no bridge takes it.
+#[test]
+fn acknowledgements_that_arrive() {
+    let directory = Directory { own: 9, sizes: [8; 32], rights: [2; 32], ..Directory::default() };
+    let lent = Memories { working: vec![1; 256], flash: vec![2; 256] };
+    let burn = holder::frame(Parts { offset: 5, kind: BURN, from: 3, to: 9, table: 20 }, &[]);
+    let (reply, _) = holder::serve(&directory, &lent, &burn).unwrap().1.unwrap();
+    let other = Directory { own: 3, ..directory };
+    for len in 0..=8 {
+        let arriving = Frame { len, ..reply };
+        let number = holder::serve(&other, &lent, &arriving).err();
+        assert_eq!(number, Some(if len == 0 { 6 } else { 5 }));
+        let buffers = Buffers { first: &[0; 512], second: &[0; 512] };
+        assert_eq!(bridge::frame(&fresh(3), buffers, &arriving).err(), Some(5));
+    }
 }
 
 /// XTND: length 0 is 6, another first byte is 5 at any length, then 6, then 9; the query's
@@ -81,18 +254,21 @@ fn reserved_bits_change_the_mark_alone() {
 fn protocol_query() {
     let directory = Directory { table_blocking: 0x0102, write_blocking: 0x0304, own: 3, ..Directory::default() };
     let id = identifier::pack(Parts { offset: 2047, kind: 7, from: 9, to: 3, table: 31 }).unwrap();
-    let answer = |len, bytes| holder::serve(&directory, &[], &Frame { id, len, bytes });
+    let none = Memories { working: vec![], flash: vec![] };
+    let answer = |len, bytes| {
+        holder::serve(&directory, &none, &Frame { id, len, bytes }).map(|(left, answer)| (left == none, answer))
+    };
     assert_eq!(answer(0, [0x80, 6, 0, 1, 0, 0, 0, 0]), Err(6));
     assert_eq!(answer(1, [0x0C, 6, 0, 1, 0, 0, 0, 0]), Err(5));
     assert_eq!(answer(3, [0x80, 6, 0, 1, 0, 0, 0, 0]), Err(6));
     assert_eq!(answer(4, [0x80, 6, 0, 2, 0, 0, 0, 0]), Err(9));
     let reply = identifier::pack(Parts { offset: 0, kind: 2, from: 3, to: 9, table: 6 }).unwrap();
     let long = Frame { id: reply, len: 5, bytes: [2, 1, 2, 3, 4, 0, 0, 0] };
-    assert_eq!(answer(4, [0x80, 6, 0, 5, 9, 9, 9, 9]), Ok((vec![], Some((long, true)))));
+    assert_eq!(answer(4, [0x80, 6, 0, 5, 9, 9, 9, 9]), Ok((true, Some((long, true)))));
     let short = Frame { id: reply, len: 1, bytes: [2, 0, 0, 0, 0, 0, 0, 0] };
-    assert_eq!(answer(4, [0x80, 6, 0, 1, 9, 9, 9, 9]), Ok((vec![], Some((short, true)))));
-    assert_eq!(answer(4, [0x80, 0x26, 0, 1, 9, 9, 9, 9]), Ok((vec![], Some((short, false)))));
-    assert_eq!(answer(4, [0x80, 6, 0, 0x11, 9, 9, 9, 9]), Ok((vec![], Some((short, false)))));
+    assert_eq!(answer(4, [0x80, 6, 0, 1, 9, 9, 9, 9]), Ok((true, Some((short, true)))));
+    assert_eq!(answer(4, [0x80, 0x26, 0, 1, 9, 9, 9, 9]), Ok((true, Some((short, false)))));
+    assert_eq!(answer(4, [0x80, 6, 0, 0x11, 9, 9, 9, 9]), Ok((true, Some((short, false)))));
 }
 
 /// A device's reply to a request, with bytes.
@@ -264,13 +440,13 @@ fn transfers_that_wait_for_others() {
 }
 
 /// Turns beside a holder until the transfer with ticket 1 has ended, how many; the holder misses the frame of one turn.
-fn turns_with_holder(dash: &mut Dash, directory: &Directory, memory: &mut Vec<u8>, missed: Option<usize>) -> usize {
+fn turns_with_holder(dash: &mut Dash, directory: &Directory, lent: &mut Memories, missed: Option<usize>) -> usize {
     let mut turns = 0;
     while dash.status(1) == 15 {
         let frame = dash.turn().unwrap();
         if missed != Some(turns) {
-            let (filled, answer) = holder::serve(directory, memory, &frame).unwrap();
-            *memory = filled;
+            let (left, answer) = holder::serve(directory, lent, &frame).unwrap();
+            *lent = left;
             if let Some((reply, clear)) = answer {
                 assert!(clear); // what a bridge asks has zeros in its reserved bits
                 dash.frame(&reply);
@@ -288,32 +464,33 @@ fn bridge_and_holder_together() {
     let mut rng = Rng::new(1, 102, 0);
     let directory = Directory { own: 5, sizes: [200; 32], rights: [2; 32], ..Directory::default() };
     for _ in 0..1000 {
-        let mut memory = rng.bytes(32 * 200);
+        let mut lent = random_memories(&mut rng, &directory);
+        let flash = lent.flash.clone();
         let (table, count) = (rng.below(32), rng.within(1, 128));
         let offset = rng.below(201 - count);
         let place = 200 * table + offset;
         let (kind, bytes) = (rng.pick(&[READ, WRITE, CHECK]), rng.bytes(count));
         let started = count.div_ceil(8);
         let missed = (kind == CHECK && rng.percent(50)).then(|| rng.below(started));
-        let mut wanted = memory.clone();
+        let mut wanted = lent.working.clone();
         if kind != READ {
             wanted[place..place + count].copy_from_slice(&bytes);
         }
         if let Some(turn) = missed {
             let part = place + 8 * turn..place + count.min(8 * turn + 8);
-            wanted[part.clone()].copy_from_slice(&memory[part]);
+            wanted[part.clone()].copy_from_slice(&lent.working[part]);
         }
         let different = kind == CHECK && wanted[place..place + count] != bytes;
         let mut dash = Dash::new(0, &mut rng);
         assert_eq!(dash.open(kind, table as u8, offset as u16, &bytes), Ok(1));
-        let turns = turns_with_holder(&mut dash, &directory, &mut memory, missed);
+        let turns = turns_with_holder(&mut dash, &directory, &mut lent, missed);
         let read_back = if different { missed.unwrap() + 1 } else { started };
         assert_eq!(turns, started + if kind == CHECK { read_back } else { 0 });
-        assert_eq!(memory, wanted);
+        assert_eq!((&lent.working, &lent.flash), (&wanted, &flash));
         assert_eq!(dash.status(1), if different { 18 } else { 0 });
         let shown = bridge::bytes(&dash.state, &dash.first, 1);
         let shown = shown.map(|(start, length)| dash.first[start..start + length].to_vec());
-        let table = if kind == READ { memory[place..place + count].to_vec() } else { vec![] };
+        let table = if kind == READ { lent.working[place..place + count].to_vec() } else { vec![] };
         assert_eq!(shown, if different { Err(18) } else { Ok(table) });
     }
 }
@@ -432,7 +609,8 @@ fn late_replies_bring_no_old_bytes() {
     let mut rng = Rng::new(1, 104, 0);
     let mut directory = Directory { own: 5, ..Directory::default() };
     (directory.sizes[7], directory.rights[7]) = (2000, 1);
-    let table = rng.bytes(2000);
+    let lent = random_memories(&mut rng, &directory);
+    let table = &lent.working;
     let (mut done, mut refused) = (0, 0);
     for _ in 0..300 {
         let mut dash = Dash::new(0, &mut rng);
@@ -441,7 +619,7 @@ fn late_replies_bring_no_old_bytes() {
         for turn in 0..1000 {
             open.extend(random_read(&mut dash, &mut rng));
             if let Some(asked) = dash.turn() {
-                let (reply, _) = holder::serve(&directory, &table, &asked).unwrap().1.unwrap();
+                let (reply, _) = holder::serve(&directory, &lent, &asked).unwrap().1.unwrap();
                 replies.push((turn + rng.below(slowest), reply)); // the turn after which it arrives
             }
             let (due, later): (Vec<_>, Vec<_>) = replies.into_iter().partition(|(due, _)| *due <= turn);

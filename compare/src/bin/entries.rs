@@ -14,7 +14,7 @@ mod model;
 mod side;
 
 use abi::*;
-use model::{bridge, frd, listing, mlg, CMD, REQ, RSP, XTND};
+use model::{bridge, frd, listing, mlg, BURN, CMD, REQ, RSP, XTND};
 use side::{Buffers, BuffersMut, Model, Side};
 use std::mem::{align_of, offset_of, size_of};
 
@@ -95,14 +95,14 @@ structs! {
 
 /// The constants of the header: 01's and 02's numbers, types, places and lengths, and the model's.
 #[rustfmt::skip]
-const CONSTANTS: [(&str, usize); 86] = [
+const CONSTANTS: [(&str, usize); 87] = [
     ("DONE", 0), ("ID_TOO_LARGE", 1), ("SPARE_BITS", 2), ("FRAME_TOO_LONG", 3), ("OTHER_DEVICE", 4), ("TYPE", 5), ("WRONG_LENGTH", 6),
     ("NO_RIGHT", 7), ("RANGE", 8), ("COUNT", 9), ("MEMORY_LENGTH", 10), ("UNSOUND", 11), ("NO_SLOT", 12), ("NO_TICKET", 13),
     ("UNKNOWN_TICKET", 14), ("NOT_FINISHED", 15), ("GAVE_UP", 16), ("NO_MATCH", 17), ("DIFFERENT", 18), ("RESTING", 19), ("CUT_SHORT", 20),
     ("WRONG_NAME", 21), ("VERSION", 22), ("DISAGREE", 23), ("FIELD_TYPE", 24), ("BLOCK_TYPE", 25), ("SUM", 26), ("OUTPUT_TOO_SMALL", 27), ("TEXT", 28),
     ("NO_SHOWN_VALUE", 30),
 
-    ("CMD", CMD as usize), ("REQ", REQ as usize), ("RSP", RSP as usize), ("XTND", XTND as usize),
+    ("CMD", CMD as usize), ("REQ", REQ as usize), ("RSP", RSP as usize), ("BURN", BURN as usize), ("XTND", XTND as usize),
     ("PHASE_FREE", FREE as usize), ("PHASE_READY", READY as usize), ("PHASE_WAITING", WAITING as usize), ("PHASE_DONE", DONE as usize),
     ("PHASE_GAVE_UP", GAVE_UP as usize), ("PHASE_DIFFERENT", DIFFERENT as usize),
     ("READ", READ as usize), ("WRITE", WRITE as usize), ("READ_BACK", READ_BACK as usize), ("CHECK", CHECK as usize),
@@ -161,24 +161,37 @@ fn holder() {
     let mut directory = Directory { table_blocking: 0x1234, write_blocking: 0x5678, own: 9, ..Directory::default() };
     (directory.sizes[3], directory.rights[3]) = (20, 1);
     (directory.sizes[22], directory.rights[22]) = (30, 2);
-    let mut memory: [u8; 50] = pattern(1);
-    let to_22 = |kind, bytes: &[u8]| model::holder::frame(Parts { offset: 17, kind, from: 3, to: 9, table: 22 }, bytes);
-    let command = to_22(CMD, b"store");
-    let mut serve = |directory, len, frame| {
-        call("hg_bus_serve", Model.serve(directory, &mut memory[..len], frame));
-        changed("hg_bus_serve", "memory", &memory[..len]);
+    let (mut memory, mut flash): ([u8; 50], [u8; 50]) = (pattern(1), pattern(60));
+    let parts = |kind| Parts { offset: 17, kind, from: 3, to: 9, table: 22 };
+    let to_22 = |kind, bytes: &[u8]| model::holder::frame(parts(kind), bytes);
+    let (command, burn) = (to_22(CMD, b"store"), to_22(BURN, b""));
+    let mut lend = |directory, memory_len, flash_len, frame| {
+        let (memory, flash) = (&mut memory[..memory_len], &mut flash[..flash_len]);
+        call("hg_bus_serve", Model.serve(directory, memory, flash, frame));
+        changed("hg_bus_serve", "memory", memory);
+        changed("hg_bus_serve", "flash", flash);
     };
-    serve(directory, 50, command);
-    serve(directory, 50, to_22(REQ, &[0x04, 0x25, 0x86])); // six bytes, to table 4 and offset 300
-    serve(directory, 50, to_22(REQ, &[0x04, 0x25, 0x96])); // the same with bit 4 set, and with two of the top bits
-    serve(directory, 50, to_22(REQ, &[0xA4, 0x25, 0x86]));
-    serve(directory, 50, to_22(REQ, &[0x04, 0x25, 0x89])); // nine bytes
-    serve(directory, 50, to_22(XTND, &[0x80, 0x04, 0x25, 0x85]));
-    serve(directory, 50, to_22(XTND, &[0x80, 0x04, 0x25, 0x95]));
-    serve(directory, 50, to_22(XTND, &[0x80, 0xA4, 0x25, 0x85]));
-    serve(Directory { own: 16, ..directory }, 50, command);
-    serve(directory, 49, command);
-    serve(directory, 50, Frame { len: 9, ..command });
+    let mut serve = |frame| lend(directory, 50, 50, frame);
+    serve(command);
+    serve(to_22(REQ, &[0x04, 0x25, 0x86])); // six bytes, to table 4 and offset 300
+    serve(to_22(REQ, &[0x04, 0x25, 0x96])); // the same with bit 4 set, and with two of the top bits
+    serve(to_22(REQ, &[0xA4, 0x25, 0x86]));
+    serve(to_22(REQ, &[0x04, 0x25, 0x89])); // nine bytes
+    serve(to_22(XTND, &[0x80, 0x04, 0x25, 0x85]));
+    serve(to_22(XTND, &[0x80, 0x04, 0x25, 0x95]));
+    serve(to_22(XTND, &[0x80, 0xA4, 0x25, 0x85]));
+    serve(Frame { len: 9, ..command });
+    serve(burn);
+    serve(to_22(CMD, b"again")); // the flash keeps what was burnt
+    serve(to_22(REQ, &[0x04, 0x25, 0x86]));
+    serve(to_22(BURN, b"b"));
+    serve(model::holder::frame(Parts { table: 3, ..parts(BURN) }, b"")); // it may be read
+    serve(to_22(XTND, &[0x0E, 0x01]));
+    for frame in [command, burn] {
+        lend(Directory { own: 16, ..directory }, 50, 50, frame);
+        lend(directory, 49, 50, frame);
+        lend(directory, 50, 49, frame);
+    }
 }
 
 /// A reply of device 5 to device 9, for a place of its buffer.

@@ -16,10 +16,11 @@ pub mod value;
 /// The number of a refusal, from the table "Numbers handed back".
 pub type Number = u8;
 
-/// The types of a frame that are served (01, bits 15-17).
+/// The types of a frame that are served (01, bits 15-17; 02, C-11: burn).
 pub const CMD: u8 = 0;
 pub const REQ: u8 = 1;
 pub const RSP: u8 = 2;
+pub const BURN: u8 = 4;
 pub const XTND: u8 = 7;
 
 /// The counter of a block in an MLG or an FRD: the number of earlier blocks, modulo 256 (01 of FRD; 02, C-12 of MLG).
