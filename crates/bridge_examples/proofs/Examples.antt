@@ -14,10 +14,11 @@ use borrow.Author.Tests.{eqb-true, eqb-false, eq-eqb, lt-ltb, le-ltb, ltb-true, 
 use Rattle.bus_rules.specs.Ident.{idOf, idFrom, idTable, idKind, idOffset}
 use Rattle.bus_rules.specs.Frames.{frameWith, content, req, rsp}
 use Rattle.bus_rules.specs.Request.{request}
-use Rattle.bus_rules.specs.Holder.{serveOf, answerWith, Gives}
+use Rattle.bus_rules.specs.Holder.{requestAt, tableOf, answerWith, serveOf, deviceAfter}
+use Rattle.bus_rules.specs.declared.HolderState.{HolderState}
 use Rattle.bus_rules.specs.declared.Served.{Served}
-use Rattle.bus_rules.specs.Device.{Device}
-use Rattle.bus_rules.proofs.Replies.{asked-unchanged}
+use Rattle.bus_rules.specs.Device.{Device, rangeOf}
+use Rattle.bus_rules.proofs.Replies.{request-answered, answered-current}
 use Rattle.bridge_rules.specs.State.{Frame, rest, lowestGivable}
 use Rattle.bridge_rules.specs.Answers.{Buffers, plain, rightLengths}
 use Rattle.bridge_rules.specs.Opening.{Ask, read, check, isWrite, isCheck, askDevice, askTable, askOffset, askCount, askGiven}
@@ -29,8 +30,11 @@ use Rattle.bridge_rules.specs.Run.{answer, ledger, Done, statusAt, shownAt}
 use Rattle.bridge_rules.specs.Replies.{requestFrame, matchesFrame, Matches, Sent, Replied}
 use Rattle.bridge_rules.specs.Device.{Timeline, Arrives, Own, range, NotAfter, Meanwhile, Prompt, Quiet, Arrivals, Unwritten, Premises}
 use Rattle.bridge_rules.specs.Demand3.{showing}
-use Rattle.bridge_examples.specs.Examples.{directory, memory, lower, upper, holding, after, run, reply, DoneRead, ShowsOther, answering, before}
+use Rattle.bridge_examples.specs.Examples.{directoryWith, directory, memory, lower, upper, holding, after, run, reply, DoneRead, ShowsOther}
+use Rattle.bridge_examples.specs.Examples.{answering, before}
 use Rattle.bridge_examples.specs.Examples.{onTime, toCallOne, alone, twoApart, unchanging, AloneShows, burntTable, burntBetween, BurntShows}
+use Rattle.bridge_examples.specs.Examples.{older, reloaded, reloadedFirst, ReloadedShows, stillOlder, StillOlderShows}
+use Rattle.bridge_examples.specs.Examples.{unburnt, elsewhere, tableForgotten, forgetting, forgets, ForgetsShows}
 use Rattle.bridge_examples.specs.Examples.{together, written, TogetherShows, restarted, writtenOnce}
 use Rattle.bridge_examples.specs.Examples.{RestartedShows, torn, overwritten, TornShows, forged}
 use Rattle.bridge_examples.specs.Examples.{ForgedShows, late, lateThenOwn, LateShows, tooLate, slow}
@@ -206,29 +210,35 @@ module _ (cs : List Call) where
       → shownAt (run cs) x n ≡ showing bs → DoneRead cs (x .at) n bs
   done-read x n bs w s l d h = record { lawful = run-lawful w; x = x; opened = refl; stands = still-stands x n s l; done = d; shown = h }
 
--- a reply that is the device's own, as the holder's rules give it
-own-reply : (r : Run) (t : Timeline) (m : ℕ) (q g : Frame) → t .asked m < m → accepted r (t .asked m) ≡ true
-    → answer r (t .asked m) .sent ≡ some q → idKind (q .id) ≡ req → t .when (t .asked m) ≤ t .answered m → t .answered m ≤ t .when m
-    → serveOf (t .device (t .answered m)) q ≡ answerWith 1 g → Own r t m g
+-- a reply that is the device's own, as the holder's rules give it: the device is this before it, and at the moment of its answer what it is after it
+own-from : (r : Run) (t : Timeline) (m : ℕ) (d : Device) (q g : Frame) → t .asked m < m → accepted r (t .asked m) ≡ true
+    → answer r (t .asked m) .sent ≡ some q → t .when (t .asked m) ≤ t .answered m → t .answered m ≤ t .when m
+    → (serveOf d q ≡ answerWith 1 g) × (t .device (t .answered m) ≡ deviceAfter d q) → Own r t m g
 unfolding answerWith
-own-reply r t m q g e a y k s u h = record {
+own-from r t m d q g e a y s u h = record {
   request = q;
   reply = g;
-  before = t .device (t .answered m);
+  before = d;
   earlier = e;
   turned = a;
   yields = y;
   sinceAsked = s;
   untilArrived = u;
-  gives = given;
-  after = sym (asked-unchanged (t .device (t .answered m)) q k);
+  gives = (ap (λ (v : Served). v .frames) (h .0), ap (λ (v : Served). v .frame) (h .0));
+  after = h .1;
   sameId = refl;
   sameLen = refl;
   sameBytes = refl;
 }
-  where
-    given : Gives (t .device (t .answered m)) q g
-    given = (ap (λ (v : Served). v .frames) h, ap (λ (v : Served). v .frame) h)
+
+-- a device gives this reply and stays as it was
+abbrev Stays : Device → Frame → Frame → Type 0
+Stays d q g = (serveOf d q ≡ answerWith 1 g) × (d ≡ deviceAfter d q)
+
+own-reply : (r : Run) (t : Timeline) (m : ℕ) (q g : Frame) → t .asked m < m → accepted r (t .asked m) ≡ true
+    → answer r (t .asked m) .sent ≡ some q → t .when (t .asked m) ≤ t .answered m → t .answered m ≤ t .when m
+    → Stays (t .device (t .answered m)) q g → Own r t m g
+own-reply r t m q g = own-from r t m (t .device (t .answered m)) q g
 
 same-frame : (c : Call) (f g : Frame) → c ≡ frame itsOwn f → c ≡ frame itsOwn g → f ≡ g
 same-frame c f g p q = let z : frame itsOwn f ≡ frame itsOwn g = sym p ∙ q in cc
@@ -243,6 +253,12 @@ its-own r t k m g f e c o d =
 until : (r : Run) (x : Transfer r) (n : ℕ) (t : Timeline) (τ₀ τ c m : ℕ) → τ₀ ≤ τ → m < n → Replied r x c m → τ ≤ t .when m
     → Meanwhile r x n t τ₀ τ
 until r x n t τ₀ τ c m a l p u = record { since = a; c = c; m = m; before = l; last = p; until = u }
+
+-- where a byte of the range is another at moment τ, until a reply, than at τ₀
+range-changes : (r : Run) (x : Transfer r) (n : ℕ) (t : Timeline) (τ₀ τ c m i : ℕ) → τ₀ ≤ τ → m < n → Replied r x c m → τ ≤ t .when m
+    → getD (range r x (t .device τ₀)) i 0 ≢ getD (range r x (t .device τ)) i 0 → ¬ Unwritten r x t (Meanwhile r x n t τ₀)
+range-changes r x n t τ₀ τ c m i a l p u d w = d (ap (λ (s : List ℕ). getD s i 0)
+    (w .unchanged τ₀ τ (until r x n t τ₀ τ₀ c m (omega arith) l p (omega arith)) (until r x n t τ₀ τ c m a l p u)))
 
 -- where the device is the same all the while
 steady : (r : Run) (x : Transfer r) (t : Timeline) (During : ℕ → Type 0) (d : Device) → ((τ : ℕ) → During τ → t .device τ ≡ d)
@@ -425,17 +441,17 @@ alone-read : DoneRead alone 0 5 (106 ∷ 107 ∷ 108 ∷ 109 ∷ 110 ∷ 111 ∷
 unfolding everything every shaped shapedLent alone reply alone-x
 alone-read = done-read alone alone-x 5 _ refl refl (omega arith) refl refl
 
--- where the device answers the two requests so, the range unwritten, the premises hold
-module _ (device : ℕ → Device) (g : serveOf (device 3) (frameWith 0x1882B8 (6 ∷ 0 ∷ 8 ∷ []))
-    ≡ answerWith 1 (reply 5 0 (106 ∷ 107 ∷ 108 ∷ 109 ∷ 110 ∷ 111 ∷ 112 ∷ 113 ∷ [])))
-    (h : serveOf (device 7) (frameWith 0x3882B8 (6 ∷ 1 ∷ 2 ∷ [])) ≡ answerWith 1 (reply 5 8 (114 ∷ 115 ∷ []))) where
+-- where the device, which is d before it, answers the two requests so, the range unwritten, the premises hold
+module _ (device : ℕ → Device) (d : Device) (g : (serveOf d (frameWith 0x1882B8 (6 ∷ 0 ∷ 8 ∷ []))
+    ≡ answerWith 1 (reply 5 0 (106 ∷ 107 ∷ 108 ∷ 109 ∷ 110 ∷ 111 ∷ 112 ∷ 113 ∷ []))) × (device 3 ≡ deviceAfter d (frameWith 0x1882B8 (6 ∷ 0 ∷ 8 ∷ []))))
+    (h : Stays (device 7) (frameWith 0x3882B8 (6 ∷ 1 ∷ 2 ∷ [])) (reply 5 8 (114 ∷ 115 ∷ []))) where
   alone-own2 : Own (run alone) (twoApart device) 2 (reply 5 0 (106 ∷ 107 ∷ 108 ∷ 109 ∷ 110 ∷ 111 ∷ 112 ∷ 113 ∷ []))
   unfolding everything alone reply
-  alone-own2 = own-reply (run alone) (twoApart device) 2 _ _ (omega arith) refl refl refl (omega arith) (omega arith) g
+  alone-own2 = own-from (run alone) (twoApart device) 2 d _ _ (omega arith) refl refl (omega arith) (omega arith) g
 
   alone-own4 : Own (run alone) (twoApart device) 4 (reply 5 8 (114 ∷ 115 ∷ []))
   unfolding everything alone reply
-  alone-own4 = own-reply (run alone) (twoApart device) 4 _ _ (omega arith) refl refl refl (omega arith) (omega arith) h
+  alone-own4 = own-reply (run alone) (twoApart device) 4 _ _ (omega arith) refl refl (omega arith) (omega arith) h
 
   alone-premises : Unwritten (run alone) alone-x (twoApart device) (Meanwhile (run alone) alone-x 5 (twoApart device) 3)
       → Premises (run alone) alone-x 5 (twoApart device) 3
@@ -453,11 +469,11 @@ alone-replied = replied-next alone (alone-read .lawful) alone-x 5 1 3 _ _ (alone
     refl refl refl refl refl
 
 alone-shows : AloneShows
-unfolding everything alone reply alone-x alone-read directory memory
+unfolding everything alone reply alone-x alone-read directoryWith memory
 alone-shows = record {
   shows = record {
     reader = alone-read;
-    premises = alone-premises (λ τ. holding) refl refl (steady (run alone) alone-x unchanging _ holding (λ τ a. refl));
+    premises = alone-premises (λ τ. holding) holding (refl, refl) (refl, refl) (steady (run alone) alone-x unchanging _ holding (λ τ a. refl));
     meanwhile = until (run alone) alone-x 5 unchanging 3 5 1 4 (omega arith) (omega arith) alone-replied (omega arith);
     same = refl;
   };
@@ -469,7 +485,7 @@ alone-shows = record {
 -- ── a burn between its two answers ─────────────────────────────────────────────────────────────────────────────────
 
 burnt-unwritten : (During : ℕ → Type 0) → Unwritten (run alone) alone-x burntBetween During
-unfolding everything alone-x directory memory burntTable
+unfolding everything alone-x directoryWith memory burntTable
 burnt-unwritten During = record {
   sameTables = λ τ τ′ a b. tables (ltb τ 4) ∙ sym (tables (ltb τ′ 4));
   unchanged = λ τ τ′ a b. bytes (ltb τ 4) ∙ sym (bytes (ltb τ′ 4));
@@ -484,17 +500,52 @@ burnt-unwritten During = record {
     bytes false = refl
 
 burnt-shows : BurntShows
-unfolding everything alone reply alone-x alone-read directory memory burntTable
+unfolding everything alone reply alone-x alone-read directoryWith memory burntTable
 burnt-shows = record {
   shows = record {
     reader = alone-read;
-    premises = alone-premises (burntBetween .device) refl refl (burnt-unwritten _);
+    premises = alone-premises (burntBetween .device) holding (refl, refl) (refl, refl) (burnt-unwritten _);
     meanwhile = until (run alone) alone-x 5 burntBetween 3 5 1 4 (omega arith) (omega arith) alone-replied (omega arith);
     same = refl;
   };
   answered = (refl, refl);
   earlier = refl;
   later = refl;
+}
+
+-- ── reloaded ───────────────────────────────────────────────────────────────────────────────────────────────────────
+
+reloaded-shows : ReloadedShows
+unfolding everything alone reply alone-x alone-read directoryWith memory reloaded
+reloaded-shows = record {
+  shows = record {
+    reader = alone-read;
+    premises = alone-premises (reloadedFirst .device) older (refl, refl) (refl, refl)
+        (steady (run alone) alone-x reloadedFirst _ reloaded (λ τ a. rw (le-ltb τ 3 (a .since))));
+    meanwhile = until (run alone) alone-x 5 reloadedFirst 3 5 1 4 (omega arith) (omega arith) alone-replied (omega arith);
+    same = refl;
+  };
+  answered = refl;
+  earlier = refl;
+}
+
+-- the device after an answer has a current table
+still-not-own : ¬ Own (run alone) stillOlder 2 (reply 5 0 (106 ∷ 107 ∷ 108 ∷ 109 ∷ 110 ∷ 111 ∷ 112 ∷ 113 ∷ []))
+unfolding everything alone reply
+still-not-own o =
+    let q : frameWith 0x1882B8 (6 ∷ 0 ∷ 8 ∷ []) ≡ o .request = some-eq (o .yields) in
+    let c = answered-current (o .before) (o .request) (o .reply) (o .gives) (ap (λ (f : Frame). idKind (f .id)) (sym q)) in
+    let z : _≡_ {A = ℕ} 0 1 = ap (λ (d : Device). d .state .«has_current») (o .after) ∙ ap (λ (s : HolderState). s .«has_current») c in
+    omega arith
+
+still-older-shows : StillOlderShows
+unfolding everything alone reply alone-x alone-read directoryWith memory
+still-older-shows = record {
+  reader = alone-read;
+  firstReply = (refl, refl);
+  secondReply = (refl, refl);
+  zeros = λ τ. refl;
+  notOwn = still-not-own;
 }
 
 -- ── together ───────────────────────────────────────────────────────────────────────────────────────────────────────
@@ -508,14 +559,14 @@ unfolding everything every shaped shapedLent together reply together-x
 together-read = done-read together together-x 33 _ refl refl (omega arith) refl refl
 
 together-own28 : Own (run together) written 28 (reply 5 128 (1 ∷ 2 ∷ 108 ∷ 109 ∷ 110 ∷ 111 ∷ 112 ∷ 113 ∷ []))
-unfolding everything together reply directory memory after
-together-own28 = own-reply (run together) written 28 (frameWith 0x1882B8 (6 ∷ 16 ∷ 8 ∷ [])) _ (omega arith) refl refl refl (omega arith) (omega arith)
-    refl
+unfolding everything together reply directoryWith memory after
+together-own28 = own-reply (run together) written 28 (frameWith 0x1882B8 (6 ∷ 16 ∷ 8 ∷ [])) _ (omega arith) refl refl (omega arith) (omega arith)
+    (refl, refl)
 
 together-own30 : Own (run together) written 30 (reply 5 136 (114 ∷ 115 ∷ []))
-unfolding everything together reply directory memory after
-together-own30 = own-reply (run together) written 30 (frameWith 0x3882B8 (6 ∷ 17 ∷ 2 ∷ [])) _ (omega arith) refl refl refl (omega arith) (omega arith)
-    refl
+unfolding everything together reply directoryWith memory after
+together-own30 = own-reply (run together) written 30 (frameWith 0x3882B8 (6 ∷ 17 ∷ 2 ∷ [])) _ (omega arith) refl refl (omega arith) (omega arith)
+    (refl, refl)
 
 -- the device is the same all the while
 together-same : (τ : ℕ) → Meanwhile (run together) together-x 33 written 5 τ → written .device τ ≡ after holding 6 (1 ∷ 2 ∷ [])
@@ -530,7 +581,7 @@ together-replied = replied-next together (together-read .lawful) together-x 33 1
     (omega arith) refl refl refl refl refl
 
 together-shows : TogetherShows
-unfolding everything every underFive allZero together reply together-x together-read directory memory after
+unfolding everything every underFive allZero together reply together-x together-read directoryWith memory after
 together-shows = record {
   shows = record {
     reader = together-read;
@@ -561,9 +612,9 @@ unfolding everything every shaped shapedLent restarted restarted-x
 restarted-read = done-read restarted restarted-x 6 _ refl refl (omega arith) refl refl
 
 restarted-own5 : Own (run restarted) writtenOnce 5 (frameWith (idOf 0 rsp 5 3 6) (1 ∷ 2 ∷ []))
-unfolding everything restarted directory memory after
-restarted-own5 = own-reply (run restarted) writtenOnce 5 (frameWith (idOf 6 req 3 5 7) (6 ∷ 0 ∷ 2 ∷ [])) _ (omega arith) refl refl refl (omega arith)
-    (omega arith) refl
+unfolding everything restarted directoryWith memory after
+restarted-own5 = own-reply (run restarted) writtenOnce 5 (frameWith (idOf 6 req 3 5 7) (6 ∷ 0 ∷ 2 ∷ [])) _ (omega arith) refl refl (omega arith)
+    (omega arith) (refl, refl)
 
 restarted-replied : Replied (run restarted) restarted-x 0 5
 unfolding everything requestOf replyOf restarted restarted-x restarted-read
@@ -571,7 +622,7 @@ restarted-replied = replied-next restarted (restarted-read .lawful) restarted-x 
     (omega arith) refl refl refl refl refl
 
 restarted-shows : RestartedShows
-unfolding everything every underFive allZero restarted restarted-x restarted-read directory memory after
+unfolding everything every underFive allZero restarted restarted-x restarted-read directoryWith memory after
 restarted-shows = record {
   sent = refl;
   forgotten = refl;
@@ -600,12 +651,12 @@ unfolding everything every shaped shapedLent torn reply torn-x
 torn-read = done-read torn torn-x 7 _ refl refl (omega arith) refl refl
 
 torn-own2 : Own (run torn) overwritten 2 (reply 5 0 (106 ∷ 107 ∷ 108 ∷ 109 ∷ 110 ∷ 111 ∷ 112 ∷ 113 ∷ []))
-unfolding everything torn reply directory memory
-torn-own2 = own-reply (run torn) overwritten 2 (frameWith 0x1882B8 (6 ∷ 0 ∷ 8 ∷ [])) _ (omega arith) refl refl refl (omega arith) (omega arith) refl
+unfolding everything torn reply directoryWith memory
+torn-own2 = own-reply (run torn) overwritten 2 (frameWith 0x1882B8 (6 ∷ 0 ∷ 8 ∷ [])) _ (omega arith) refl refl (omega arith) (omega arith) (refl, refl)
 
 torn-own6 : Own (run torn) overwritten 6 (reply 5 8 (3 ∷ 4 ∷ []))
-unfolding everything torn reply directory memory after
-torn-own6 = own-reply (run torn) overwritten 6 (frameWith 0x3882B8 (6 ∷ 1 ∷ 2 ∷ [])) _ (omega arith) refl refl refl (omega arith) (omega arith) refl
+unfolding everything torn reply directoryWith memory after
+torn-own6 = own-reply (run torn) overwritten 6 (frameWith 0x3882B8 (6 ∷ 1 ∷ 2 ∷ [])) _ (omega arith) refl refl (omega arith) (omega arith) (refl, refl)
 
 torn-replied : Replied (run torn) torn-x 1 6
 unfolding everything requestOf replyOf torn reply torn-x torn-read
@@ -615,17 +666,13 @@ torn-replied = replied-next torn (torn-read .lawful) torn-x 7 1 5 _ _ (torn-read
 -- the range's bytes before and after the write differ from those shown, at place 8 and at place 6
 torn-never : (b : Bool) → range (run torn) torn-x (cond b holding (after holding 12 (1 ∷ 2 ∷ 3 ∷ 4 ∷ [])))
     ≢ 106 ∷ 107 ∷ 108 ∷ 109 ∷ 110 ∷ 111 ∷ 112 ∷ 113 ∷ 3 ∷ 4 ∷ []
-unfolding everything torn reply torn-x directory memory after
+unfolding everything torn reply torn-x directoryWith memory after
 torn-never true e = let z : _≡_ {A = ℕ} 114 3 = ap (λ (l : List ℕ). getD l 8 0) e in omega arith
 torn-never false e = let z : _≡_ {A = ℕ} 1 112 = ap (λ (l : List ℕ). getD l 6 0) e in omega arith
 
 torn-rewritten : ¬ Unwritten (run torn) torn-x overwritten (Meanwhile (run torn) torn-x 7 overwritten 2)
-unfolding everything torn reply torn-x directory memory after
-torn-rewritten u =
-    let z : _≡_ {A = ℕ} 112 1 = ap (λ (l : List ℕ). getD l 6 0) (u .unchanged 2 6
-    (until (run torn) torn-x 7 overwritten 2 2 1 6 (omega arith) (omega arith) torn-replied (omega arith))
-    (until (run torn) torn-x 7 overwritten 2 6 1 6 (omega arith) (omega arith) torn-replied (omega arith))) in
-    omega arith
+unfolding everything torn reply torn-x directoryWith memory after
+torn-rewritten = range-changes (run torn) torn-x 7 overwritten 2 6 1 6 6 (omega arith) (omega arith) torn-replied (omega arith) (λ e. omega (arith, e))
 
 torn-shows : TornShows
 unfolding everything every underFive allZero torn reply torn-x torn-read
@@ -638,24 +685,66 @@ torn-shows = record {
   rewritten = torn-rewritten;
 }
 
--- ── forged ─────────────────────────────────────────────────────────────────────────────────────────────────────────
+-- ── forgets ────────────────────────────────────────────────────────────────────────────────────────────────────────
 
-forged-x : Transfer (run forged)
-unfolding everything forged reply
-forged-x = record { at = 0; lent = itsOwn; ask = read 5 7 6 10; call = refl; accepted = refl }
+forgets-x : Transfer (run forged)
+unfolding everything forgets reply
+forgets-x = record { at = 0; lent = itsOwn; ask = read 5 7 6 10; call = refl; accepted = refl }
 
-forged-read : DoneRead forged 0 5 (106 ∷ 107 ∷ 108 ∷ 109 ∷ 110 ∷ 111 ∷ 112 ∷ 113 ∷ 0 ∷ 0 ∷ [])
-unfolding everything every shaped shapedLent forged reply forged-x
-forged-read = done-read forged forged-x 5 _ refl refl (omega arith) refl refl
+forgets-read : DoneRead forged 0 5 (106 ∷ 107 ∷ 108 ∷ 109 ∷ 110 ∷ 111 ∷ 112 ∷ 113 ∷ 0 ∷ 0 ∷ [])
+unfolding everything every shaped shapedLent forgets reply forgets-x
+forgets-read = done-read forged forgets-x 5 _ refl refl (omega arith) refl refl
+
+forgets-own2 : Own (run forgets) forgetting 2 (reply 5 0 (106 ∷ 107 ∷ 108 ∷ 109 ∷ 110 ∷ 111 ∷ 112 ∷ 113 ∷ []))
+unfolding everything forgets reply directoryWith memory unburnt
+forgets-own2 = own-reply (run forgets) forgetting 2 (frameWith 0x1882B8 (6 ∷ 0 ∷ 8 ∷ [])) _ (omega arith) refl refl (omega arith) (omega arith) (refl, refl)
+
+forgets-own4 : Own (run forgets) forgetting 4 (reply 5 8 (0 ∷ 0 ∷ []))
+unfolding everything forgets reply directoryWith memory unburnt elsewhere tableForgotten
+forgets-own4 = own-from (run forgets) forgetting 4 elsewhere (frameWith 0x3882B8 (6 ∷ 1 ∷ 2 ∷ [])) _ (omega arith) refl refl (omega arith) (omega arith)
+    (refl, refl)
+
+-- the range's bytes before the reload and after it differ from those shown, at place 8 and at place 0
+forgets-never : (a b : Bool) → range (run forgets) forgets-x (cond a unburnt (cond b elsewhere tableForgotten))
+    ≢ 106 ∷ 107 ∷ 108 ∷ 109 ∷ 110 ∷ 111 ∷ 112 ∷ 113 ∷ 0 ∷ 0 ∷ []
+unfolding everything forgets reply forgets-x directoryWith memory unburnt elsewhere tableForgotten
+forgets-never true b e = let z : _≡_ {A = ℕ} 114 0 = ap (λ (l : List ℕ). getD l 8 0) e in omega arith
+forgets-never false true e = let z : _≡_ {A = ℕ} 114 0 = ap (λ (l : List ℕ). getD l 8 0) e in omega arith
+forgets-never false false e = let z : _≡_ {A = ℕ} 0 106 = ap (λ (l : List ℕ). getD l 0 0) e in omega arith
+
+forgets-replied : Replied (run forgets) forgets-x 1 4
+unfolding everything requestOf replyOf forgets reply forgets-x forgets-read
+forgets-replied = replied-next forgets (forgets-read .lawful) forgets-x 5 1 3 _ _ (forgets-read .stands) (omega arith) (omega arith) refl (omega arith)
+    refl refl refl refl refl
+
+forgets-reloads : ¬ Unwritten (run forgets) forgets-x forgetting (Meanwhile (run forgets) forgets-x 5 forgetting 3)
+unfolding everything forgets reply forgets-x directoryWith memory unburnt elsewhere tableForgotten
+forgets-reloads =
+    range-changes (run forgets) forgets-x 5 forgetting 3 7 1 4 0 (omega arith) (omega arith) forgets-replied (omega arith) (λ e. omega (arith, e))
+
+forgets-shows : ForgetsShows
+unfolding everything every underFive allZero forgets reply forgets-x forgets-read directoryWith memory unburnt elsewhere tableForgotten
+forgets-shows = record {
+  reader = forgets-read;
+  arrivals = on-time forgets (forgets-read .lawful) forgetting forgets-x 5 (λ m. refl) refl
+      (two-own forgets (forgets-read .lawful) forgetting forgets-x 5 2 4 _ _ refl refl refl forgets-own2 refl forgets-own4);
+  first = not-after forgets (forgets-read .lawful) 2 3 forgetting refl (λ m l. omega arith) forgets-x 5;
+  never = λ τ. forgets-never (ltb τ 4) (ltb τ 7);
+  reloads = forgets-reloads;
+  same = refl;
+  zeros = refl;
+}
+
+-- ── forged, the same calls ─────────────────────────────────────────────────────────────────────────────────────────
 
 forged-own2 : Own (run forged) unchanging 2 (reply 5 0 (106 ∷ 107 ∷ 108 ∷ 109 ∷ 110 ∷ 111 ∷ 112 ∷ 113 ∷ []))
-unfolding everything forged reply directory memory
-forged-own2 = own-reply (run forged) unchanging 2 (frameWith 0x1882B8 (6 ∷ 0 ∷ 8 ∷ [])) _ (omega arith) refl refl refl (omega arith) (omega arith) refl
+unfolding everything forgets reply directoryWith memory
+forged-own2 = own-reply (run forged) unchanging 2 (frameWith 0x1882B8 (6 ∷ 0 ∷ 8 ∷ [])) _ (omega arith) refl refl (omega arith) (omega arith) (refl, refl)
 
-forged-others : (m : ℕ) (f : Frame) → m ≢ 4 → Arrives (run forged) forged-x 5 m f → Own (run forged) unchanging m f
-unfolding everything every underFive forged reply forged-x
+forged-others : (m : ℕ) (f : Frame) → m ≢ 4 → Arrives (run forged) forgets-x 5 m f → Own (run forged) unchanging m f
+unfolding everything every underFive forgets reply forgets-x
 forged-others m f d a = go (or-either (eqb m 2) (eqb m 4)
-    (under-five forged (forged-read .lawful) (λ k. eqb k 2 || eqb k 4) refl forged-x refl 5 m f a))
+    (under-five forged (forgets-read .lawful) (λ k. eqb k 2 || eqb k 4) refl forgets-x refl 5 m f a))
   where
     go : (eqb m 2 ≡ true) ⊎ (eqb m 4 ≡ true) → Own (run forged) unchanging m f
     go (inl z) = its-own (run forged) unchanging 2 m _ f (eqb-true m 2 z) refl forged-own2 (a .call)
@@ -663,23 +752,24 @@ forged-others m f d a = go (or-either (eqb m 2) (eqb m 4)
 
 -- the holder gives byte 114
 forged-forgery : ¬ Own (run forged) unchanging 4 (reply 5 8 (0 ∷ 0 ∷ []))
-unfolding everything forged reply directory memory
+unfolding everything forgets reply directoryWith memory
 forged-forgery o =
     let q : frameWith 0x3882B8 (6 ∷ 1 ∷ 2 ∷ []) ≡ o .request = some-eq (o .yields) in
-    let d : holding ≡ o .before = o .after ∙ asked-unchanged (o .before) (o .request) (ap (λ (f : Frame). idKind (f .id)) (sym q)) in
-    let g : reply 5 8 (114 ∷ 115 ∷ []) ≡ o .reply = ap (λ (s : Served). s .frame) (ap₂ serveOf d q) ∙ o .gives .1 in
-    let z : _≡_ {A = ℕ} 0 114 = ap (λ (l : List ℕ). getD l 0 0) (o .sameBytes ∙ sym (ap content g)) in
+    let g = request-answered (o .before) (o .request) (o .reply) (o .gives) holding (o .after) (ap (λ (f : Frame). idKind (f .id)) (sym q)) in
+    let h : rangeOf holding 7 14 2 ≡ rangeOf holding (tableOf (o .request)) (idOffset (o .request .id)) (requestAt (o .request) 0 .count)
+    = ap (λ (f : Frame). rangeOf holding (tableOf f) (idOffset (f .id)) (requestAt f 0 .count)) q in
+    let z : _≡_ {A = ℕ} 0 114 = ap (λ (l : List ℕ). getD l 0 0) (o .sameBytes ∙ ap content (g ∙ ap (frameWith _) (sym h))) in
     omega arith
 
 forged-shows : ForgedShows
-unfolding everything every allZero forged reply forged-x forged-read directory memory
+unfolding everything every allZero forgets reply forgets-x forgets-read directoryWith memory
 forged-shows = record {
-  reader = forged-read;
+  reader = forgets-read;
   own = forged-others;
-  prompt = prompt-next (run forged) forged-x 5 unchanging (λ m. refl);
-  quiet = quiet-resets forged (forged-read .lawful) refl 5;
-  first = not-after forged (forged-read .lawful) 2 3 unchanging refl (λ m l. omega arith) forged-x 5;
-  unwritten = steady (run forged) forged-x unchanging _ holding (λ τ a. refl);
+  prompt = prompt-next (run forged) forgets-x 5 unchanging (λ m. refl);
+  quiet = quiet-resets forged (forgets-read .lawful) refl 5;
+  first = not-after forged (forgets-read .lawful) 2 3 unchanging refl (λ m l. omega arith) forgets-x 5;
+  unwritten = steady (run forged) forgets-x unchanging _ holding (λ τ a. refl);
   asked = refl;
   forgery = forged-forgery;
 }
@@ -695,12 +785,14 @@ unfolding everything every shaped shapedLent late reply late-x
 late-read = done-read late late-x 7 _ refl refl (omega arith) refl refl
 
 late-own5 : Own (run late) lateThenOwn 5 (reply 5 0 lower)
-unfolding everything late reply directory memory
-late-own5 = own-reply (run late) lateThenOwn 5 (frameWith (idOf 0 req 0 5 7) (6 ∷ 0 ∷ 8 ∷ [])) _ (omega arith) refl refl refl (omega arith) (omega arith) refl
+unfolding everything late reply directoryWith memory
+late-own5 = own-reply (run late) lateThenOwn 5 (frameWith (idOf 0 req 0 5 7) (6 ∷ 0 ∷ 8 ∷ [])) _ (omega arith) refl refl (omega arith) (omega arith)
+    (refl, refl)
 
 late-own6 : Own (run late) lateThenOwn 6 (reply 5 128 upper)
-unfolding everything late reply directory memory
-late-own6 = own-reply (run late) lateThenOwn 6 (frameWith (idOf 8 req 0 5 7) (6 ∷ 16 ∷ 8 ∷ [])) _ (omega arith) refl refl refl (omega arith) (omega arith) refl
+unfolding everything late reply directoryWith memory
+late-own6 = own-reply (run late) lateThenOwn 6 (frameWith (idOf 8 req 0 5 7) (6 ∷ 16 ∷ 8 ∷ [])) _ (omega arith) refl refl (omega arith) (omega arith)
+    (refl, refl)
 
 late-replied : Replied (run late) late-x 0 6
 unfolding everything requestOf replyOf late reply late-x late-read
@@ -711,7 +803,7 @@ late-replied = replied-at late (late-read .lawful) late-x 7 0 4 6 _ _ (late-read
     unmatched i e h = false≢true (subst (Matches (run late) late-x 0) e h)
 
 late-shows : LateShows
-unfolding everything every underFive called allZero late reply late-x late-read directory memory
+unfolding everything every underFive called allZero late reply late-x late-read directoryWith memory
 late-shows = record {
   shows = record {
     reader = late-read;
@@ -743,8 +835,8 @@ unfolding everything every shaped shapedLent tooLate reply too-late-x
 too-late-read = done-read tooLate too-late-x 66 _ refl refl (omega arith) refl refl
 
 too-late-own : Own (run tooLate) slow 65 (reply 5 0 lower)
-unfolding everything tooLate reply directory memory
-too-late-own = own-reply (run tooLate) slow 65 _ _ (omega arith) refl refl refl (omega arith) (omega arith) refl
+unfolding everything tooLate reply directoryWith memory
+too-late-own = own-reply (run tooLate) slow 65 _ _ (omega arith) refl refl (omega arith) (omega arith) (refl, refl)
 
 too-late-replied : Replied (run tooLate) too-late-x 0 65
 unfolding everything requestOf replyOf tooLate reply too-late-x too-late-read
@@ -752,7 +844,7 @@ too-late-replied = replied-next tooLate (too-late-read .lawful) too-late-x 66 0 
     (omega arith) refl refl refl refl refl
 
 too-late-shows : TooLateShows
-unfolding everything every underFive called allZero tooLate reply too-late-x too-late-read directory memory
+unfolding everything every underFive called allZero tooLate reply too-late-x too-late-read directoryWith memory
 too-late-shows = record {
   shows = shows-other tooLate 63 65 lower too-late-read (λ m. 1) holding _ refl refl refl refl too-late-own refl refl;
   quiet = quiet-resets tooLate (too-late-read .lawful) refl 66;
@@ -775,8 +867,8 @@ unfolding everything every shaped shapedLent hasty reply hasty-x
 hasty-read = done-read hasty hasty-x 65 _ refl refl (omega arith) refl refl
 
 hasty-own : Own (run hasty) slow 64 (reply 5 0 lower)
-unfolding everything hasty reply directory memory
-hasty-own = own-reply (run hasty) slow 64 _ _ (omega arith) refl refl refl (omega arith) (omega arith) refl
+unfolding everything hasty reply directoryWith memory
+hasty-own = own-reply (run hasty) slow 64 _ _ (omega arith) refl refl (omega arith) (omega arith) (refl, refl)
 
 hasty-sent : Sent (run hasty) hasty-y 0 1
 unfolding everything every requestOf hasty reply hasty-y
@@ -784,7 +876,7 @@ hasty-sent = sent-at hasty (hasty-read .lawful) hasty-y 0 1 _ (still-stands hast
     refl refl refl
 
 hasty-shows : HastyShows
-unfolding everything every underFive called hasty reply hasty-x hasty-read directory memory
+unfolding everything every underFive called hasty reply hasty-x hasty-read directoryWith memory
 hasty-shows = record {
   shows = shows-other hasty 62 64 lower hasty-read (λ m. 1) holding _ refl refl refl refl hasty-own refl refl;
   prompt = prompt-arrivals hasty (hasty-read .lawful) slow refl hasty-x 65 refl;
@@ -819,8 +911,7 @@ module _ (a b : ℕ) where
 
   -- where the device is the same from moment 4 on, and these are its replies
   back-premises : (device : ℕ → Device) (d : Device) → ((τ : ℕ) → 4 ≤ τ → device τ ≡ d)
-      → serveOf d (frameWith 0x1882B8 (6 ∷ 0 ∷ 8 ∷ [])) ≡ answerWith 1 (reply 5 0 eight)
-      → serveOf d (frameWith 0x3882B8 (6 ∷ 1 ∷ 2 ∷ [])) ≡ answerWith 1 (reply 5 8 (a ∷ b ∷ []))
+      → Stays d (frameWith 0x1882B8 (6 ∷ 0 ∷ 8 ∷ [])) (reply 5 0 eight) → Stays d (frameWith 0x3882B8 (6 ∷ 1 ∷ 2 ∷ [])) (reply 5 8 (a ∷ b ∷ []))
       → Premises (run (readingBack a b)) back-x 7 (onTime device) 4
   unfolding everything every underFive allZero readingBack reply back-x
   back-premises device d same g h = record {
@@ -834,12 +925,12 @@ module _ (a b : ℕ) where
       t = onTime device
 
       own4 : Own (run (readingBack a b)) t 4 (reply 5 0 eight)
-      own4 = own-reply (run (readingBack a b)) t 4 _ _ (omega arith) refl refl refl (omega arith) (omega arith)
-          (ap (λ (d : Device). serveOf d (frameWith 0x1882B8 (6 ∷ 0 ∷ 8 ∷ []))) (same 4 (omega arith)) ∙ g)
+      own4 = own-reply (run (readingBack a b)) t 4 _ _ (omega arith) refl refl (omega arith) (omega arith)
+          (subst (λ (d : Device). Stays d (frameWith 0x1882B8 (6 ∷ 0 ∷ 8 ∷ [])) (reply 5 0 eight)) (sym (same 4 (omega arith))) g)
 
       own6 : Own (run (readingBack a b)) t 6 (reply 5 8 (a ∷ b ∷ []))
-      own6 = own-reply (run (readingBack a b)) t 6 _ _ (omega arith) refl refl refl (omega arith) (omega arith)
-          (ap (λ (d : Device). serveOf d (frameWith 0x3882B8 (6 ∷ 1 ∷ 2 ∷ []))) (same 6 (omega arith)) ∙ h)
+      own6 = own-reply (run (readingBack a b)) t 6 _ _ (omega arith) refl refl (omega arith) (omega arith)
+          (subst (λ (d : Device). Stays d (frameWith 0x3882B8 (6 ∷ 1 ∷ 2 ∷ [])) (reply 5 8 (a ∷ b ∷ []))) (sym (same 6 (omega arith))) h)
 
 -- ── done ───────────────────────────────────────────────────────────────────────────────────────────────────────────
 
@@ -848,11 +939,11 @@ unfolding everything readingBack reply back-x
 stored-checker = checked-write (readingBack 9 10) (back-x 9 10) 7 0 (back-lawful 9 10) refl (back-stands 9 10) refl refl
 
 stored-shows : StoredShows
-unfolding everything readingBack reply back-x stored-checker directory memory after
+unfolding everything readingBack reply back-x stored-checker directoryWith memory after
 stored-shows = record {
   checker = stored-checker;
   premises = back-premises 9 10 (stored .device) (stored .device 4)
-      (λ τ l. rw (le-ltb τ 2 (omega arith), le-ltb τ 3 (omega arith))) refl refl;
+      (λ τ l. rw (le-ltb τ 2 (omega arith), le-ltb τ 3 (omega arith))) (refl, refl) (refl, refl);
   meanwhile = until (run (readingBack 9 10)) (back-x 9 10) 7 stored 4 5 1 6 (omega arith) (omega arith) (back-replied 9 10) (omega arith);
   same = refl;
   earlier = refl;
@@ -865,10 +956,10 @@ unfolding everything readingBack reply back-x
 dropped-checker = checked-write (readingBack 114 115) (back-x 114 115) 7 18 (back-lawful 114 115) refl (back-stands 114 115) refl refl
 
 dropped-shows : DroppedShows
-unfolding everything readingBack reply back-x dropped-checker directory memory after
+unfolding everything readingBack reply back-x dropped-checker directoryWith memory after
 dropped-shows = record {
   checker = dropped-checker;
-  premises = back-premises 114 115 (dropped .device) (dropped .device 4) (λ τ l. rw (le-ltb τ 2 (omega arith))) refl refl;
+  premises = back-premises 114 115 (dropped .device) (dropped .device 4) (λ τ l. rw (le-ltb τ 2 (omega arith))) (refl, refl) (refl, refl);
   replied = back-replied 114 115;
   other = refl;
 }
@@ -908,15 +999,15 @@ module _ (bs : List ℕ) where
   after-stands = still-stands (afterClosing bs) after-x 67 refl (omega arith)
 
   -- the reply is the device's own, to the checked write's request and to the closed read's
-  after-next : (device : ℕ → Device) → serveOf (device 66) (frameWith (idOf 8 req 0 5 7) (6 ∷ 0 ∷ 8 ∷ [])) ≡ answerWith 1 last-reply
+  after-next : (device : ℕ → Device) → Stays (device 66) (frameWith (idOf 8 req 0 5 7) (6 ∷ 0 ∷ 8 ∷ [])) last-reply
       → Own (run (afterClosing bs)) (onTime device) 66 last-reply
   unfolding everything afterClosing
-  after-next device g = own-reply (run (afterClosing bs)) (onTime device) 66 _ _ (omega arith) refl refl refl (omega arith) (omega arith) g
+  after-next device g = own-reply (run (afterClosing bs)) (onTime device) 66 _ _ (omega arith) refl refl (omega arith) (omega arith) g
 
-  after-late : (device : ℕ → Device) → serveOf (device 66) (frameWith (idOf 0 req 0 5 7) (6 ∷ 0 ∷ 8 ∷ [])) ≡ answerWith 1 last-reply
+  after-late : (device : ℕ → Device) → Stays (device 66) (frameWith (idOf 0 req 0 5 7) (6 ∷ 0 ∷ 8 ∷ [])) last-reply
       → Own (run (afterClosing bs)) (toCallOne device) 66 last-reply
   unfolding everything afterClosing
-  after-late device g = own-reply (run (afterClosing bs)) (toCallOne device) 66 _ _ (omega arith) refl refl refl (omega arith) (omega arith) g
+  after-late device g = own-reply (run (afterClosing bs)) (toCallOne device) 66 _ _ (omega arith) refl refl (omega arith) (omega arith) g
 
   module _ (w : Lawful (run (afterClosing bs))) where
     after-replied : Replied (run (afterClosing bs)) after-x 0 66
@@ -939,12 +1030,12 @@ unfolding everything every shaped shapedLent afterClosing after-x
 equal-checker = checked-write (afterClosing eight) (after-x eight) 67 0 (run-lawful (afterClosing eight) refl) refl (after-stands eight) refl refl
 
 equal-shows : LateEqualShows
-unfolding everything every allZero afterClosing after-x equal-checker directory memory after
+unfolding everything every allZero afterClosing after-x equal-checker directoryWith memory after
 equal-shows = record {
   checker = equal-checker;
   premises = record {
     arrivals = on-time (afterClosing eight) w atOnce (after-x eight) 67 (λ m. refl) refl
-        (after-own eight w atOnce (after-next eight (atOnce .device) refl));
+        (after-own eight w atOnce (after-next eight (atOnce .device) (refl, refl)));
     first = not-after (afterClosing eight) w 66 66 atOnce refl (λ m l. l) (after-x eight) 67;
     unwritten = steady (run (afterClosing eight)) (after-x eight) atOnce _ (after holding 8 eight)
         (λ τ a. rw (le-ltb τ 65 (omega (arith, a .since))));
@@ -952,7 +1043,7 @@ equal-shows = record {
   meanwhile =
       until (run (afterClosing eight)) (after-x eight) 67 atOnce 66 66 0 66 (omega arith) (omega arith) (after-replied eight w) (omega arith);
   same = refl;
-  own = after-own eight w lateEqual (after-late eight (lateEqual .device) refl);
+  own = after-own eight w lateEqual (after-late eight (lateEqual .device) (refl, refl));
   first = not-after (afterClosing eight) w 66 66 lateEqual refl (λ m l. l) (after-x eight) 67;
   unwritten = steady (run (afterClosing eight)) (after-x eight) lateEqual _ (after holding 0 eight) (λ τ a. refl);
   other = refl;
@@ -967,10 +1058,10 @@ unfolding everything every shaped shapedLent afterClosing after-x
 other-checker = checked-write (afterClosing lower) (after-x lower) 67 18 (run-lawful (afterClosing lower) refl) refl (after-stands lower) refl refl
 
 other-shows : LateOtherShows
-unfolding everything every allZero afterClosing after-x other-checker directory memory after
+unfolding everything every allZero afterClosing after-x other-checker directoryWith memory after
 other-shows = record {
   checker = other-checker;
-  own = after-own lower w lateOther (after-late lower (lateOther .device) refl);
+  own = after-own lower w lateOther (after-late lower (lateOther .device) (refl, refl));
   quiet = quiet-resets (afterClosing lower) w refl 67;
   replied = after-replied lower w;
   same = refl;
@@ -996,8 +1087,8 @@ unfolding everything every shaped shapedLent resetCheck reply check-x
 check-read = done-read resetCheck check-x 7 _ refl refl (omega arith) refl refl
 
 check-own : Own (run resetCheck) lateChecked 6 (reply 5 0 eight)
-unfolding everything resetCheck reply directory memory after
-check-own = own-reply (run resetCheck) lateChecked 6 _ _ (omega arith) refl refl refl (omega arith) (omega arith) refl
+unfolding everything resetCheck reply directoryWith memory after
+check-own = own-reply (run resetCheck) lateChecked 6 _ _ (omega arith) refl refl (omega arith) (omega arith) (refl, refl)
 
 check-sent : Sent (run resetCheck) check-y 0 2
 unfolding everything every requestOf resetCheck reply check-y
@@ -1005,7 +1096,7 @@ check-sent = sent-at resetCheck (check-read .lawful) check-y 0 2 _ (still-stands
     refl refl refl
 
 check-shows : LateCheckShows
-unfolding everything every underFive called resetCheck reply check-x check-read directory memory after
+unfolding everything every underFive called resetCheck reply check-x check-read directoryWith memory after
 check-shows = record {
   shows = shows-other resetCheck 4 6 eight check-read (λ m. 2) (after holding 0 eight) _ refl refl refl refl check-own refl refl;
   prompt = prompt-arrivals resetCheck (check-read .lawful) lateChecked refl check-x 7 refl;
@@ -1016,9 +1107,12 @@ pub examples : Examples
 examples = record {
   aloneShows = alone-shows;
   burntShows = burnt-shows;
+  reloadedShows = reloaded-shows;
+  stillOlderShows = still-older-shows;
   togetherShows = together-shows;
   restartedShows = restarted-shows;
   tornShows = torn-shows;
+  forgetsShows = forgets-shows;
   forgedShows = forged-shows;
   lateShows = late-shows;
   tooLateShows = too-late-shows;

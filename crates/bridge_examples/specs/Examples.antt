@@ -1,5 +1,5 @@
--- Example runs beside demand 3: its premises hold of runs, and it says what they show; and without the premise on writes, on the
--- device's own replies, on late replies or on resets it would be false. Reads first, then checked writes.
+-- Example runs beside demand 3: its premises hold of runs, and it says what they show; and without the premise on writes, a reload among them, on
+-- the device's own replies, on late replies or on resets it would be false. Reads first, then checked writes.
 use Prim.Native.Nat.{ℕ, zero, suc, _*_, _-_, _≤_}
 use mathlib.Core.Path.{_≡_}
 use mathlib.Core.Logic.{_≢_}
@@ -11,8 +11,8 @@ use lib.Dec.{ltb}
 use Rattle.bus_rules.specs.Ident.{idOf}
 use Rattle.bus_rules.specs.Frames.{cmd, req, rsp, burn, frameWith}
 use Rattle.bus_rules.specs.Request.{request}
-use Rattle.bus_rules.specs.Device.{Device, device}
-use Rattle.bus_rules.specs.Holder.{deviceAfter}
+use Rattle.bus_rules.specs.Device.{Device, device, noneCurrent, currently}
+use Rattle.bus_rules.specs.Holder.{deviceAfter, Gives}
 use Rattle.bus_rules.specs.declared.Directory.{Directory}
 use Rattle.bridge_rules.specs.State.{Frame}
 use Rattle.bridge_rules.specs.Answers.{both, plain}
@@ -23,15 +23,18 @@ use Rattle.bridge_rules.specs.Replies.{Replied}
 use Rattle.bridge_rules.specs.Device.{Timeline, range, Arrives, Own, Prompt, Quiet, Arrivals, NotAfter, Meanwhile, Unwritten, Premises}
 use Rattle.bridge_rules.specs.Demand3.{showing, runOf}
 
--- device 5: table 7 has 16 bytes, 100 to 115, and all rights
-unfoldable pub directory : Directory
-directory = record {
-  sizes = replicate 7 0 ++ 16 ∷ replicate 24 0;
+-- device 5: table 7 has 16 bytes, 100 to 115, table 8 so many, and all rights
+unfoldable pub directoryWith : (size : ℕ) → Directory
+directoryWith size = record {
+  sizes = replicate 7 0 ++ 16 ∷ size ∷ replicate 23 0;
   rights = replicate 32 2;
   «table_blocking» = 256;
   «write_blocking» = 256;
   own = 5;
 }
+
+abbrev pub directory : Directory
+directory = directoryWith 0
 
 unfoldable pub memory : List ℕ
 memory = 100 ∷ 101 ∷ 102 ∷ 103 ∷ 104 ∷ 105 ∷ 106 ∷ 107 ∷ 108 ∷ 109 ∷ 110 ∷ 111 ∷ 112 ∷ 113 ∷ 114 ∷ 115 ∷ []
@@ -43,9 +46,9 @@ lower = 100 ∷ 101 ∷ 102 ∷ 103 ∷ 104 ∷ 105 ∷ 106 ∷ 107 ∷ []
 abbrev pub upper : List ℕ
 upper = 108 ∷ 109 ∷ 110 ∷ 111 ∷ 112 ∷ 113 ∷ 114 ∷ 115 ∷ []
 
--- its flash is 16 zeros
+-- it is of the newer family, table 7 is current, and its flash is 16 zeros
 abbrev pub holding : Device
-holding = device directory memory (replicate 16 0)
+holding = device directory (currently 3 7) memory (replicate 16 0)
 
 -- what becomes of a device by a CMD from bridge 0 that writes at an offset of table 7
 unfoldable pub after : Device → (offset : ℕ) → List ℕ → Device
@@ -140,6 +143,39 @@ pub record BurntShows : Type 0 where
   pub answered : (burntBetween .answered 2 ≡ 3) × (burntBetween .answered 4 ≡ 7)
   pub earlier : burntBetween .device 3 .flash ≡ replicate 16 0
   pub later : burntBetween .device 4 .flash ≡ memory
+
+-- ── 02, C-13, a device of the older family: the first request reloads the table, before the first answer ───────────
+
+-- no table is current; working memory is 16 zeros, and the bytes 100 to 115 are in flash
+abbrev pub older : Device
+older = device directory (noneCurrent 2) (replicate 16 0) memory
+
+-- it answers the read's first request at moment 3
+unfoldable pub reloaded : Device
+reloaded = deviceAfter older (frameWith (idOf 6 req 0 5 7) (request 6 0 8))
+
+abbrev pub reloadedFirst : Timeline
+reloadedFirst = twoApart (λ τ. cond (ltb τ 3) older reloaded)
+
+-- the read shows flash's bytes
+pub record ReloadedShows : Type 0 where
+  pub shows : Shows alone 0 5 (106 ∷ 107 ∷ 108 ∷ 109 ∷ 110 ∷ 111 ∷ 112 ∷ 113 ∷ 114 ∷ 115 ∷ []) reloadedFirst 3 5
+  pub answered : reloadedFirst .answered 2 ≡ 3
+  -- the range held zeros when the request was sent
+  pub earlier : range (run alone) (shows .reader .x) (reloadedFirst .device 2) ≡ replicate 10 0
+
+-- the same calls, and a device that stands still as it is before the reload: each reply is what the holder's rules give for it then, and the read shows bytes
+-- that its range never held; so it is the device after its answer that is asked for
+abbrev pub stillOlder : Timeline
+stillOlder = twoApart (λ τ. older)
+
+pub record StillOlderShows : Type 0 where
+  pub reader : DoneRead alone 0 5 (106 ∷ 107 ∷ 108 ∷ 109 ∷ 110 ∷ 111 ∷ 112 ∷ 113 ∷ 114 ∷ 115 ∷ [])
+  pub firstReply : Gives older (frameWith (idOf 6 req 0 5 7) (request 6 0 8)) (reply 5 0 (106 ∷ 107 ∷ 108 ∷ 109 ∷ 110 ∷ 111 ∷ 112 ∷ 113 ∷ []))
+  pub secondReply : Gives older (frameWith (idOf 14 req 0 5 7) (request 6 8 2)) (reply 5 8 (114 ∷ 115 ∷ []))
+  pub zeros : (τ : ℕ) → range (run alone) (reader .x) (stillOlder .device τ) ≡ replicate 10 0
+  -- the premise that fails
+  pub notOwn : ¬ Own (run alone) stillOlder 2 (reply 5 0 (106 ∷ 107 ∷ 108 ∷ 109 ∷ 110 ∷ 111 ∷ 112 ∷ 113 ∷ []))
 
 -- ── A lost reply, foreign frames, a second asker, and a write before and after ─────────────────────────────────────
 
@@ -236,17 +272,48 @@ pub record TornShows : Type 0 where
   -- the premise that fails
   pub rewritten : ¬ Unwritten (run torn) (reader .x) overwritten (Meanwhile (run torn) (reader .x) 7 overwritten 2)
 
--- ── A forged reply: why each reply under the device's number is to be its own ──────────────────────────────────────
+-- ── It forgets between two answers: why "a reload after the device sent the read's first answer counts as a write" ──
 
--- another node gives the second reply under the device's number
-unfoldable pub forged : List Call
-forged =
+-- 02, C-13: device 5 is of the older family, table 7 is current and not burnt, and table 8 has one byte; its flash is 17 zeros
+unfoldable pub unburnt : Device
+unburnt = device (directoryWith 1) (currently 2 7) (memory ++ 55 ∷ []) (replicate 17 0)
+
+-- device 9 asks for table 8 at moment 4, and the read's second request reloads table 7 at moment 7
+unfoldable pub elsewhere : Device
+elsewhere = deviceAfter unburnt (frameWith (idOf 0 req 9 5 8) (request 6 0 1))
+
+unfoldable pub tableForgotten : Device
+tableForgotten = deviceAfter elsewhere (frameWith (idOf 14 req 0 5 7) (request 6 8 2))
+
+abbrev pub forgetting : Timeline
+forgetting = twoApart (λ τ. cond (ltb τ 4) unburnt (cond (ltb τ 7) elsewhere tableForgotten))
+
+unfoldable pub forgets : List Call
+forgets =
     opening itsOwn (read 5 7 6 10)
     ∷ turn itsOwn
     ∷ frame itsOwn (reply 5 0 (106 ∷ 107 ∷ 108 ∷ 109 ∷ 110 ∷ 111 ∷ 112 ∷ 113 ∷ []))
     ∷ turn itsOwn
     ∷ frame itsOwn (reply 5 8 (0 ∷ 0 ∷ []))
     ∷ []
+
+-- each reply is the device's own and comes at once, nobody writes, and nothing is reset; yet the read shows bytes that the range never held
+pub record ForgetsShows : Type 0 where
+  pub reader : DoneRead forgets 0 5 (106 ∷ 107 ∷ 108 ∷ 109 ∷ 110 ∷ 111 ∷ 112 ∷ 113 ∷ 0 ∷ 0 ∷ [])
+  pub arrivals : Arrivals (run forgets) (reader .x) 5 forgetting
+  pub first : NotAfter (run forgets) (reader .x) 5 forgetting 3
+  pub never : (τ : ℕ) →
+      range (run forgets) (reader .x) (forgetting .device τ) ≢ 106 ∷ 107 ∷ 108 ∷ 109 ∷ 110 ∷ 111 ∷ 112 ∷ 113 ∷ 0 ∷ 0 ∷ []
+  -- the premise that fails: at moment 7 the reload made the range flash's zeros
+  pub reloads : ¬ Unwritten (run forgets) (reader .x) forgetting (Meanwhile (run forgets) (reader .x) 5 forgetting 3)
+  pub same : range (run forgets) (reader .x) (forgetting .device 4) ≡ range (run forgets) (reader .x) (forgetting .device 3)
+  pub zeros : range (run forgets) (reader .x) (forgetting .device 7) ≡ replicate 10 0
+
+-- ── A forged reply: why each reply under the device's number is to be its own ──────────────────────────────────────
+
+-- the same calls, and a device that does not change: another node gives the second reply under its number
+abbrev pub forged : List Call
+forged = forgets
 
 -- nothing is written or reset, each other reply is the device's own, and all come at once; yet the read shows other bytes
 pub record ForgedShows : Type 0 where
@@ -473,9 +540,12 @@ pub record LateCheckShows : Type 0 where
 pub record Examples : Type 0 where
   pub aloneShows : AloneShows
   pub burntShows : BurntShows
+  pub reloadedShows : ReloadedShows
+  pub stillOlderShows : StillOlderShows
   pub togetherShows : TogetherShows
   pub restartedShows : RestartedShows
   pub tornShows : TornShows
+  pub forgetsShows : ForgetsShows
   pub forgedShows : ForgedShows
   pub lateShows : LateShows
   pub tooLateShows : TooLateShows

@@ -96,7 +96,8 @@ pub record Arrivals (r : Run) (x : Transfer r) (n : ℕ) (t : Timeline) : Type 0
   pub quiet : Quiet r n
 
 -- "its range isn't written" between any two moments of a set, and "a changed directory counts as a write". (The paper asks for
--- `sameTables`; the proof does without it, for `range` speaks of the range where the directory puts it.)
+-- `sameTables`; the proof does without it, for `range` speaks of the range where the directory puts it.) C-13: "a reload after the device sent the read's
+-- first answer counts as a write": one that changes the range is a change of it; one that changes no byte of it does no harm, and may happen here.
 pub record Unwritten (r : Run) (x : Transfer r) (t : Timeline) (During : ℕ → Type 0) : Type 0 where
   pub sameTables : (τ τ′ : ℕ) → During τ → During τ′ → SameTables (t .device τ) (t .device τ′)
   pub unchanged : (τ τ′ : ℕ) → During τ → During τ′ → range r x (t .device τ) ≡ range r x (t .device τ′)

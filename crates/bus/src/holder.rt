@@ -2,7 +2,10 @@
 use crate::BURN;
 use crate::CMD;
 use crate::Directory;
+use crate::FirstState;
 use crate::Frame;
+use crate::HolderAnswer;
+use crate::HolderState;
 use crate::Parts;
 use crate::REQ;
 use crate::RSP;
@@ -22,9 +25,10 @@ ghost use Rattle.wire.specs.Order.{_orElse_};
 ghost use Rattle.bus_rules.specs.Ident.{partsOf};
 ghost use Rattle.bus_rules.specs.Frames.{buildOf, headNumber};
 ghost use Rattle.bus_rules.specs.Device.{Device, device, startOf, sizeOf, rightOf, totalOf, copyTable, soundTables, directoryNumber, memoryNumber};
+ghost use Rattle.bus_rules.specs.Device.{currently, knownFamily, soundCurrent, stateNumber, firstStateOf, withCurrent};
 ghost use Rattle.bus_rules.specs.Holder.{commandNumber, requestNumber, burnNumber, queryNumber, kindNumber, serveNumber, readAt, requestAt, sizeAt, rightAt};
 ghost use Rattle.bus_rules.specs.Holder.{tableOf, noAnswer, answerWith, replyTo, acknowledgement, protocol, actOf, actAfter, serveOf, deviceAfter};
-ghost use Rattle.bus_rules.specs.Demand2.{Demand2};
+ghost use Rattle.bus_rules.specs.Demand2.{FirstOf, Demand2};
 ghost use Rattle.bus_rules.specs.Examples.{Examples};
 
 // A table: its start (the sum of the sizes before it), its size and its right.
@@ -110,6 +114,64 @@ pub fn memory_number(d: Directory, memory: usize, flash: usize) -> u8
         return 10;
     }
     0
+}
+
+fn known_family(family: u8) -> bool
+    ensures { λ r. ⌜ r ≡ knownFamily family ⌝ }
+{
+    (family == 2) | (family == 3)
+}
+
+// The first state of a family: no table is current.
+pub fn first_state(family: u8) -> FirstState
+    ensures { λ r. ⌜ r ≡ firstStateOf family ⌝ }
+    ensures first { λ r. ⌜ FirstOf family r ⌝ }
+{
+    if !known_family(family) {
+        return FirstState {
+            number: 11,
+            state: HolderState {
+                family: 0,
+                has_current: 0,
+                current: 0,
+            },
+        };
+    }
+    FirstState {
+        number: 0,
+        state: HolderState {
+            family,
+            has_current: 0,
+            current: 0,
+        },
+    }
+}
+
+// Whether no table is current, and 0 stands in its place, or one that is not empty.
+fn sound_current(d: Directory, s: HolderState) -> bool
+    ensures { λ r. ⌜ r ≡ soundCurrent d s ⌝ }
+{
+    if s.has_current == 0 {
+        return s.current == 0;
+    }
+    if s.has_current != 1 {
+        return false;
+    }
+    if 31 < s.current {
+        return false;
+    }
+    d.sizes[s.current as usize] != 0
+}
+
+// 11 for an unsound state or directory, 10 for memory or flash of another length than the total, else 0.
+fn device_number(d: Directory, s: HolderState, memory: usize, flash: usize) -> u8
+    ensures { λ r. ⌜ r ≡ (stateNumber d s orElse memoryNumber d memory flash) ⌝ }
+{
+    let sound = known_family(s.family) & sound_current(d, s);
+    if !sound {
+        return 11;
+    }
+    memory_number(d, memory, flash)
 }
 
 fn command_number(len: u8, size: u16, right: u8, offset: u16) -> u8
@@ -322,48 +384,95 @@ fn acknowledge(own: u8, p: Parts) -> Served
     answer(0, parts, &bytes)
 }
 
-// What a frame that is not refused does; t is the table that it addresses, p the parts of its identifier.
-fn act(d: Directory, t: Table, memory: &mut [u8], flash: &mut [u8], p: Parts, f: Frame) -> Served
-    requires { ⌜ (serveNumber (device d (now memory) (now flash)) f ≡ 0) × (t .start ≡ startOf d (tableOf f)) × (t .size ≡ sizeOf d (tableOf f))
-        × (p ≡ partsOf (f .id)) ⌝ }
-    ensures { λ r. ⌜ (r ≡ actOf (device d (now (memory .entry)) (now (flash .entry))) f)
-        × (now (memory .exit) ≡ actAfter (device d (now (memory .entry)) (now (flash .entry))) f .memory)
-        × (now (flash .exit) ≡ actAfter (device d (now (memory .entry)) (now (flash .entry))) f .flash) ⌝ }
+// Makes table k current, as a CMD, REQ or BURN that is not refused does: on the older family, where it was not, its bytes in memory become those in
+// flash.
+fn make_current(s: HolderState, t: Table, k: u8, flash: &[u8], memory: &mut [u8]) -> HolderState
+    requires { ⌜ (t .start + t .size ≤ length (now flash)) × (t .start + t .size ≤ length (now memory)) ⌝ }
+    ensures { λ r. ⌜ (r ≡ currently (s .family) k) × ((d : Directory) → t .start ≡ startOf d k → t .size ≡ sizeOf d k
+        → now (memory .exit) ≡ withCurrent (device d s (now (memory .entry)) (now (flash .entry))) k .memory) ⌝ }
 {
+    let is_current = (s.has_current == 1) & (s.current == k);
+    if (s.family == 2) & !is_current {
+        copy_table(t, flash, memory);
+    }
+    HolderState {
+        family: s.family,
+        has_current: 1,
+        current: k,
+    }
+}
+
+// What a frame that is not refused does; t is the table that it addresses, p the parts of its identifier.
+fn act(
+    d: Directory,
+    s: HolderState,
+    t: Table,
+    memory: &mut [u8],
+    flash: &mut [u8],
+    p: Parts,
+    f: Frame,
+) -> HolderAnswer
+    requires { ⌜ (serveNumber (device d s (now memory) (now flash)) f ≡ 0) × (t .start ≡ startOf d (tableOf f)) × (t .size ≡ sizeOf d (tableOf f))
+        × (p ≡ partsOf (f .id)) ⌝ }
+    ensures { λ r. ⌜ (r .served ≡ actOf (device d s (now (memory .entry)) (now (flash .entry))) f)
+        × (r .state ≡ actAfter (device d s (now (memory .entry)) (now (flash .entry))) f .state)
+        × (now (memory .exit) ≡ actAfter (device d s (now (memory .entry)) (now (flash .entry))) f .memory)
+        × (now (flash .exit) ≡ actAfter (device d s (now (memory .entry)) (now (flash .entry))) f .flash) ⌝ }
+{
+    if p.kind == XTND {
+        let served = answer_query(d, p.from, f);
+        return HolderAnswer { served, state: s };
+    }
+    let state = make_current(s, t, p.table, &flash[..], memory);
     let at = t.start as usize + p.offset as usize;
     if p.kind == CMD {
         copy_content(memory, at, f);
-        return no_answer(0);
+        let served = no_answer(0);
+        return HolderAnswer { served, state };
     }
     if p.kind == REQ {
-        return answer_request(d.own, p.from, at, &memory[..], f);
+        let served = answer_request(d.own, p.from, at, &memory[..], f);
+        return HolderAnswer { served, state };
     }
-    if p.kind == BURN {
-        copy_table(t, &memory[..], flash);
-        return acknowledge(d.own, p);
-    }
-    answer_query(d, p.from, f)
+    copy_table(t, &memory[..], flash);
+    let served = acknowledge(d.own, p);
+    HolderAnswer { served, state }
 }
 
-// What the holder of these tables, which lie back to back in memory and in flash, does with a frame.
-pub fn serve(d: Directory, memory: &mut [u8], flash: &mut [u8], f: Frame) -> Served
-    ensures { λ r. ⌜ (r ≡ serveOf (device d (now (memory .entry)) (now (flash .entry))) f)
-        × (now (memory .exit) ≡ deviceAfter (device d (now (memory .entry)) (now (flash .entry))) f .memory)
-        × (now (flash .exit) ≡ deviceAfter (device d (now (memory .entry)) (now (flash .entry))) f .flash) ⌝ }
-    ensures demand2 { λ r. ⌜ Demand2 (device d (now (memory .entry)) (now (flash .entry))) f r
-        (device d (now (memory .exit)) (now (flash .exit))) ⌝ }
+// A number, no frame, and the state as it was.
+fn refuse(number: u8, state: HolderState) -> HolderAnswer
+    ensures { λ r. ⌜ (r .served ≡ noAnswer number) × (r .state ≡ state) ⌝ }
+{
+    let served = no_answer(number);
+    HolderAnswer { served, state }
+}
+
+// What the holder of these tables, which lie back to back in memory and in flash, does with a frame in this state.
+pub fn serve(
+    d: Directory,
+    s: HolderState,
+    memory: &mut [u8],
+    flash: &mut [u8],
+    f: Frame,
+) -> HolderAnswer
+    ensures { λ r. ⌜ (r .served ≡ serveOf (device d s (now (memory .entry)) (now (flash .entry))) f)
+        × (r .state ≡ deviceAfter (device d s (now (memory .entry)) (now (flash .entry))) f .state)
+        × (now (memory .exit) ≡ deviceAfter (device d s (now (memory .entry)) (now (flash .entry))) f .memory)
+        × (now (flash .exit) ≡ deviceAfter (device d s (now (memory .entry)) (now (flash .entry))) f .flash) ⌝ }
+    ensures demand2 { λ r. ⌜ Demand2 (device d s (now (memory .entry)) (now (flash .entry))) f (r .served)
+        (device d (r .state) (now (memory .exit)) (now (flash .exit))) ⌝ }
     ensures examples { λ _. ⌜ Examples ⌝ }
 {
     // Looked up before the directory is judged: a processor does both at once.
     let t = table_at(d, table_of(f.id) as usize);
-    let unsound = memory_number(d, memory.len(), flash.len());
+    let unsound = device_number(d, s, memory.len(), flash.len());
     if unsound != 0 {
-        return no_answer(unsound);
+        return refuse(unsound, s);
     }
     let p = parts_of(f.id);
     let number = frame_number(d.own, t, p, f);
     if number != 0 {
-        return no_answer(number);
+        return refuse(number, s);
     }
-    act(d, t, memory, flash, p, f)
+    act(d, s, t, memory, flash, p, f)
 }

@@ -2,23 +2,27 @@
 use mathlib.Core.Path.{_≡_, refl, sym, _∙_, ap, ap₂, subst}
 use mathlib.Core.List.{List}
 use mathlib.Core.Logic.{_⊎_, inl, inr, _≢_}
-use mathlib.Core.Bool.{Bool, true, false}
+use mathlib.Core.Bool.{Bool, true, false, cond}
 use Prim.Native.Nat.{ℕ, zero, suc, _+_, _≤_}
 use native.Mathlib.Omega.{arith}
 use lib.Dec.{eqb}
-use lib.ListN.{length, take}
+use lib.ListN.{length, take, drop}
+use lib.Seq.{length-sets}
 use borrow.Author.Tests.{ltb-false, eqb-true, eqb-false, eq-eqb, ne-eqb, not-false}
 use Rattle.wire.specs.Order.{_if_else_}
 use Rattle.wire.proofs.Orders.{if-zero, else-zero}
 use Rattle.bus_rules.specs.Ident.{idFrom, idKind, idOffset}
 use Rattle.bus_rules.specs.Frames.{Frame, cmd, req, burn, xtnd, headNumber}
-use Rattle.bus_rules.specs.Device.{Directory, Device, device, ownOf, rangeOf, totalOf, memoryNumber}
-use Rattle.bus_rules.specs.Holder.{commandNumber, requestNumber, burnNumber, queryNumber, kindNumber, serveNumber, byteOf, readAt, requestAt}
+use Rattle.bus_rules.specs.Device.{Directory, HolderState, Device, device, ownOf, rangeOf, totalOf, memoryNumber, stateNumber, copyTable, reloads}
+use Rattle.bus_rules.specs.Device.{startOf, sizeOf, withCurrent}
+use Rattle.bus_rules.specs.Holder.{commandNumber, requestNumber, burnNumber, queryNumber, kindNumber, deviceNumber, serveNumber}
+use Rattle.bus_rules.specs.Holder.{byteOf, readAt, requestAt}
 use Rattle.bus_rules.specs.Holder.{tableOf, sizeAt, rightAt, byKind, noAnswer, replyTo, acknowledgement, placeOf, protocol, actOf, storing, burning}
-use Rattle.bus_rules.specs.Holder.{Served, answerWith, actAfter, servedBy, afterBy, serveOf, deviceAfter}
-use Rattle.bus_rules.specs.Demand2.{SoundDirectory}
+use Rattle.bus_rules.specs.Holder.{Served, answerWith, acting, actAfter, servedBy, afterBy, serveOf, deviceAfter}
+use Rattle.bus_rules.specs.Demand2.{SoundDirectory, SoundState}
 use Rattle.bus_rules.proofs.IdentLaws.{table-small}
 use Rattle.bus_rules.proofs.Directories.{memory-zero, table-within}
+use Rattle.bus_rules.proofs.HolderStates.{sound-state}
 
 -- ── What is chosen by type ─────────────────────────────────────────────────────────────────────────────────────────
 
@@ -55,8 +59,8 @@ by-type {P} k c r b x o = go (eqb k cmd) (eqb k req) (eqb k burn) (eqb k xtnd) r
     go false false false false e g h i = o (eqb-false _ _ e) (eqb-false _ _ g) (eqb-false _ _ h) (eqb-false _ _ i)
 
 -- what one device holds, another that is the same holds
-pub same-memories : {a b : Device} → a ≡ b → (b .memory ≡ a .memory) × (b .flash ≡ a .flash)
-same-memories h = (sym (ap (λ (v : Device). v .memory) h), sym (ap (λ (v : Device). v .flash) h))
+pub same-held : {a b : Device} → a ≡ b → (b .state ≡ a .state) × (b .memory ≡ a .memory) × (b .flash ≡ a .flash)
+same-held h = (sym (ap (λ (v : Device). v .state) h), sym (ap (λ (v : Device). v .memory) h), sym (ap (λ (v : Device). v .flash) h))
 
 -- ── Numbers by type ────────────────────────────────────────────────────────────────────────────────────────────────
 
@@ -85,17 +89,18 @@ module _ (e : Device) (f : Frame) where
 -- ── Actions by type ────────────────────────────────────────────────────────────────────────────────────────────────
 
 module _ (e : Device) (f : Frame) where
-  pub act-command : idKind (f .id) ≡ cmd → (actOf e f ≡ noAnswer 0) × (actAfter e f ≡ storing e f)
+  pub act-command : idKind (f .id) ≡ cmd → (actOf e f ≡ noAnswer 0) × (actAfter e f ≡ storing (acting e f) f)
   unfolding actOf actAfter
   act-command h = (by-command _ _ _ _ _ _ h, by-command _ _ _ _ _ _ h)
 
   pub act-request : idKind (f .id) ≡ req
-      → (actOf e f ≡ replyTo (ownOf e) (idFrom (f .id)) (readAt f 0) (rangeOf e (tableOf f) (idOffset (f .id)) (requestAt f 0 .count))) × (actAfter e f ≡ e)
+      → (actOf e f ≡ replyTo (ownOf e) (idFrom (f .id)) (readAt f 0) (rangeOf (acting e f) (tableOf f) (idOffset (f .id)) (requestAt f 0 .count)))
+      × (actAfter e f ≡ acting e f)
   unfolding actOf actAfter
   act-request h = (by-request _ _ _ _ _ _ h, by-request _ _ _ _ _ _ h)
 
   pub act-burn : idKind (f .id) ≡ burn
-      → (actOf e f ≡ acknowledgement (ownOf e) (idFrom (f .id)) (tableOf f)) × (actAfter e f ≡ burning e f)
+      → (actOf e f ≡ acknowledgement (ownOf e) (idFrom (f .id)) (tableOf f)) × (actAfter e f ≡ burning (acting e f) f)
   unfolding actOf actAfter
   act-burn h = (by-burn _ _ _ _ _ _ h, by-burn _ _ _ _ _ _ h)
 
@@ -103,6 +108,15 @@ module _ (e : Device) (f : Frame) where
       → (actOf e f ≡ replyTo (ownOf e) (idFrom (f .id)) (readAt f 1) (take (requestAt f 1 .count) (protocol (e .directory)))) × (actAfter e f ≡ e)
   unfolding actOf actAfter
   act-query h = (by-query _ _ _ _ _ _ h, by-query _ _ _ _ _ _ h)
+
+  -- what a CMD, REQ or BURN acts on has its table reloaded, or its memory as it was
+  pub acting-reloaded : reloads (e .state) (tableOf f) ≡ true → acting e f .memory ≡ copyTable (e .directory) (tableOf f) (e .flash) (e .memory)
+  unfolding withCurrent
+  acting-reloaded h = rw h
+
+  pub acting-kept : reloads (e .state) (tableOf f) ≡ false → acting e f .memory ≡ e .memory
+  unfolding withCurrent
+  acting-kept h = rw h
 
   act-other : idKind (f .id) ≢ cmd → idKind (f .id) ≢ req → idKind (f .id) ≢ burn → idKind (f .id) ≢ xtnd
       → (actOf e f ≡ noAnswer 0) × (actAfter e f ≡ e)
@@ -119,33 +133,42 @@ module _ (e : Device) (f : Frame) where
   refused-case zero h ne = absurd (ne refl)
   refused-case (suc n) h ne = (rw h, rw h)
 
-  -- what holds of a device that stored or burnt, and of one that is unchanged, holds of the device after any frame
-  after-any : (P : Device → Type 0) → (idKind (f .id) ≡ cmd → P (storing e f)) → (idKind (f .id) ≡ burn → P (burning e f)) → P e → P (deviceAfter e f)
-  after-any P c b same = go (serveNumber e f) refl
+  -- what holds of the device that a frame acts on, after it stored, as it is, or after it burnt, and of the device itself, holds of the device after a
+  -- served frame
+  pub after-served : (P : Device → Type 0) → (idKind (f .id) ≡ cmd → P (storing (acting e f) f)) → (idKind (f .id) ≡ req → P (acting e f))
+      → (idKind (f .id) ≡ burn → P (burning (acting e f) f)) → (idKind (f .id) ≡ xtnd → P e)
+      → (idKind (f .id) ≢ cmd → idKind (f .id) ≢ req → idKind (f .id) ≢ burn → idKind (f .id) ≢ xtnd → P e) → serveNumber e f ≡ 0 → P (deviceAfter e f)
+  after-served P c r b x o z = subst P (sym (served-case z .1)) (by-type (idKind (f .id)) (λ k. subst P (sym (act-command k .1)) (c k))
+      (λ k. subst P (sym (act-request k .1)) (r k)) (λ k. subst P (sym (act-burn k .1)) (b k)) (λ k. subst P (sym (act-query k .1)) (x k))
+      (λ u v w y. subst P (sym (act-other u v w y .1)) (o u v w y)))
+
+  -- and after any
+  after-any : (P : Device → Type 0) → (idKind (f .id) ≡ cmd → P (storing (acting e f) f)) → (idKind (f .id) ≡ req → P (acting e f))
+      → (idKind (f .id) ≡ burn → P (burning (acting e f) f)) → P e → P (deviceAfter e f)
+  after-any P c r b same = go (serveNumber e f) refl
     where
       go : (n : ℕ) → serveNumber e f ≡ n → P (deviceAfter e f)
-      go zero z = subst P (sym (served-case z .1)) (by-type (idKind (f .id)) (λ k. subst P (sym (act-command k .1)) (c k))
-          (λ k. subst P (sym (act-request k .1)) same) (λ k. subst P (sym (act-burn k .1)) (b k)) (λ k. subst P (sym (act-query k .1)) same)
-          (λ u v w x. subst P (sym (act-other u v w x .1)) same))
+      go zero z = after-served P c r b (λ k. same) (λ u v w x. same) z
       go (suc n) z = subst P (sym (refused-case (suc n) z (λ q. omega arith) .1)) same
 
-  -- no frame but a CMD or a BURN changes the device
-  pub unchanged : idKind (f .id) ≢ cmd → idKind (f .id) ≢ burn → deviceAfter e f ≡ e
-  unchanged c b = after-any (λ v. v ≡ e) (λ k. absurd (c k)) (λ k. absurd (b k)) refl
+  -- no frame but a CMD, a REQ or a BURN changes the device
+  pub unchanged : idKind (f .id) ≢ cmd → idKind (f .id) ≢ req → idKind (f .id) ≢ burn → deviceAfter e f ≡ e
+  unchanged c r b = after-any (λ v. v ≡ e) (λ k. absurd (c k)) (λ k. absurd (r k)) (λ k. absurd (b k)) refl
 
   -- no frame but a BURN changes the flash
   pub same-flash : idKind (f .id) ≢ burn → deviceAfter e f .flash ≡ e .flash
-  unfolding storing
-  same-flash b = after-any (λ v. v .flash ≡ e .flash) (λ k. refl) (λ k. absurd (b k)) refl
+  unfolding storing withCurrent
+  same-flash b = after-any (λ v. v .flash ≡ e .flash) (λ k. refl) (λ k. refl) (λ k. absurd (b k)) refl
 
   -- no frame changes the directory
   pub same-directory : deviceAfter e f .directory ≡ e .directory
-  unfolding storing burning
-  same-directory = after-any (λ v. v .directory ≡ e .directory) (λ k. refl) (λ k. refl) refl
+  unfolding storing burning withCurrent
+  same-directory = after-any (λ v. v .directory ≡ e .directory) (λ k. refl) (λ k. refl) (λ k. refl) refl
 
-  pub device-after : (m p : List ℕ) → m ≡ deviceAfter e f .memory → p ≡ deviceAfter e f .flash → device (e .directory) m p ≡ deviceAfter e f
-  device-after m p h g =
-      ap (λ (d : Directory). device d m p) (sym same-directory) ∙ ap₂ (device (deviceAfter e f .directory)) h g
+  pub device-after : (s : HolderState) (m p : List ℕ) → s ≡ deviceAfter e f .state → m ≡ deviceAfter e f .memory → p ≡ deviceAfter e f .flash
+      → device (e .directory) s m p ≡ deviceAfter e f
+  device-after s m p t h g =
+      ap₂ (λ (d : Directory) (x : HolderState). device d x m p) (sym same-directory) t ∙ ap₂ (device (deviceAfter e f .directory) (deviceAfter e f .state)) h g
 
   -- what is done is answered 0
   act-zero : actOf e f .number ≡ 0
@@ -202,6 +225,12 @@ query-zero len first count h =
     let h3 = if-zero 5 _ _ (h2 .1) in
     (eqb-true len 4 (not-false _ (h3 .0)), one-or-five (eqb count 1) (eqb count 5) count refl refl (h3 .1))
 
+-- 11 and 10
+device-zero : (e : Device) → deviceNumber e ≡ 0
+    → (stateNumber (e .directory) (e .state) ≡ 0) × (memoryNumber (e .directory) (length (e .memory)) (length (e .flash)) ≡ 0)
+unfolding deviceNumber
+device-zero e h = else-zero (stateNumber (e .directory) (e .state)) _ h
+
 -- a frame that is not refused
 pub record Accepted (e : Device) (f : Frame) : Type 0 where
   pub directory : SoundDirectory (e .directory)
@@ -213,10 +242,26 @@ pub record Accepted (e : Device) (f : Frame) : Type 0 where
 pub accepted : (e : Device) (f : Frame) → serveNumber e f ≡ 0 → Accepted e f
 unfolding serveNumber
 accepted e f h =
-    let h1 = else-zero (memoryNumber (e .directory) (length (e .memory)) (length (e .flash))) _ h in
+    let h1 = else-zero (deviceNumber e) _ h in
     let h2 = else-zero (headNumber (ownOf e) f) (kindNumber e f) (h1 .1) in
-    let h3 = memory-zero (e .directory) (length (e .memory)) (length (e .flash)) (h1 .0) in
+    let h3 = memory-zero (e .directory) (length (e .memory)) (length (e .flash)) (device-zero e (h1 .0) .1) in
     record { directory = h3 .0; memory = h3 .1; flash = h3 .2; head = h2 .0; kind = h2 .1 }
+
+-- and its state is sound
+pub accepted-state : (e : Device) (f : Frame) → serveNumber e f ≡ 0 → SoundState (e .directory) (e .state)
+unfolding serveNumber
+accepted-state e f h = sound-state (e .directory) (e .state) (device-zero e (else-zero (deviceNumber e) _ h .0) .0)
+
+-- what it acts on is as sound
+pub accepted-acting : (e : Device) (f : Frame) → Accepted e f → Accepted (acting e f) f
+unfolding kindNumber withCurrent copyTable
+accepted-acting e f a =
+    record { directory = a .directory; memory = same (reloads (e .state) (tableOf f)) ∙ a .memory; flash = a .flash; head = a .head; kind = a .kind }
+  where
+    same : (b : Bool) → length (cond b (copyTable (e .directory) (tableOf f) (e .flash) (e .memory)) (e .memory)) ≡ length (e .memory)
+    same true = length-sets (e .memory) (startOf (e .directory) (tableOf f))
+        (take (sizeOf (e .directory) (tableOf f)) (drop (startOf (e .directory) (tableOf f)) (e .flash)))
+    same false = refl
 
 module _ (e : Device) (f : Frame) (a : Accepted e f) where
   -- a range of the addressed table lies within the memory

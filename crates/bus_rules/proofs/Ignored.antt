@@ -9,7 +9,7 @@ use Rattle.bus_rules.specs.Ident.{idKind}
 use Rattle.bus_rules.specs.Frames.{Frame, content}
 use Rattle.bus_rules.specs.Request.{RequestRead}
 use Rattle.bus_rules.specs.Device.{Device}
-use Rattle.bus_rules.specs.Holder.{serveNumber, byteOf, readAt, requestAt, placeOf, storing, answerWith, serveOf, deviceAfter}
+use Rattle.bus_rules.specs.Holder.{serveNumber, byteOf, readAt, requestAt, placeOf, storing, acting, answerWith, serveOf, deviceAfter}
 use Rattle.bus_rules.proofs.FrameLaws.{content-at}
 use Rattle.bus_rules.proofs.Cases.{Accepted, accepted, served-type, request-length, query-length}
 use Rattle.bus_rules.proofs.Cases.{act-command, served-case}
@@ -43,13 +43,10 @@ module _ (d : Device) (f g : Frame) (same-id : g .id ≡ f .id) (same-len : g .l
     query = λ k l. request-same 1 (omega arith);
   }
 
-  place-same : placeOf d g ≡ placeOf d f
-  unfolding placeOf
-  place-same = rw same-id
-
-  store-same : storing d g ≡ storing d f
-  unfolding storing
-  store-same = rw (place-same, same)
+  -- stored in a device with the frame's table current
+  store-same : storing (acting d g) g ≡ storing (acting d f) f
+  unfolding storing placeOf
+  store-same = rw (same, same-id)
 
   same-mark : (i : ℕ) → 2 + i < f .len → answerWith (readAt g i .clear) (serveOf d f .frame) ≡ answerWith (readAt f i .clear) (serveOf d f .frame)
   same-mark i l = ap (λ (q : RequestRead). answerWith (q .clear) (serveOf d f .frame)) (read-same i l)

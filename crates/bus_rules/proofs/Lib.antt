@@ -5,9 +5,11 @@ pub mod RequestLaws
 pub mod FrameLaws
 pub mod RowTheorems
 pub mod Directories
+pub mod HolderStates
 pub mod Ranges
 pub mod Cases
 pub mod CopiedTables
+pub mod Families
 pub mod ServeNumber
 pub mod SameReplies
 pub mod Ignored

@@ -1,19 +1,15 @@
--- What a device that keeps the holder's rules replies, for a layer that hears only the bus: a CMD gets no reply; a REQ's reply goes to
--- the asked table and offset, its bytes are the range in the device after it, which is unchanged; a device that replies has an own number of at most 15.
+-- What a device that keeps the holder's rules replies, for a layer that hears only the bus: a CMD gets no reply; a REQ's reply goes to the asked table
+-- and offset, its bytes are the range in the device after it, in which the addressed table is current; a device that replies has an own number of at most 15.
 use Prim.Native.Nat.{ℕ, zero, suc, _*_, _≤_}
 use mathlib.Core.Path.{_≡_, refl, sym, _∙_, ap}
 use native.Mathlib.Omega.{arith}
 use Rattle.bus_rules.specs.Ident.{idOf, idFrom, idKind, idOffset}
 use Rattle.bus_rules.specs.Frames.{Frame, cmd, req, rsp, frameWith, padded}
 use Rattle.bus_rules.specs.Request.{request, requestOf, readRequestOf}
-use Rattle.bus_rules.specs.Device.{Device, ownOf, rangeOf}
+use Rattle.bus_rules.specs.Device.{Device, ownOf, rangeOf, currently, withCurrent}
 use Rattle.bus_rules.specs.Holder.{Served, byteOf, readAt, requestAt, tableOf, serveNumber, noAnswer, answerWith, replyTo, actOf}
 use Rattle.bus_rules.specs.Holder.{servedBy, serveOf, deviceAfter, Gives}
-use Rattle.bus_rules.proofs.Cases.{accepted, act-command, act-request, unchanged}
-
--- a REQ changes nothing, answered or not
-pub asked-unchanged : (d : Device) (q : Frame) → idKind (q .id) ≡ req → deviceAfter d q ≡ d
-asked-unchanged d q k = unchanged d q (λ e. omega arith) (λ e. omega arith)
+use Rattle.bus_rules.proofs.Cases.{accepted, act-command, act-request, served-case}
 
 module _ (d : Device) (q g : Frame) (e : Gives d q g) where
   -- a frame that is answered is not refused
@@ -35,7 +31,11 @@ module _ (d : Device) (q g : Frame) (e : Gives d q g) where
       (rangeOf after (tableOf q) (idOffset (q .id)) (requestAt q 0 .count))
   unfolding replyTo answerWith requestAt
   request-answered after h k =
-      rw (h ∙ asked-unchanged d q k) (sym (answered-act .2) ∙ ap (λ (s : Served). s .frame) (act-request d q k .0))
+      rw (h ∙ served-case d q (answered-act .0) .1 ∙ act-request d q k .1) (sym (answered-act .2) ∙ ap (λ (s : Served). s .frame) (act-request d q k .0))
+
+  pub answered-current : idKind (q .id) ≡ req → deviceAfter d q .state ≡ currently (d .state .family) (tableOf q)
+  unfolding withCurrent
+  answered-current k = ap (λ (v : Device). v .state) (served-case d q (answered-act .0) .1 ∙ act-request d q k .1)
 
   pub answerer-own : ownOf d ≤ 15
   answerer-own = accepted d q (answered-act .0) .directory .own

@@ -3,7 +3,7 @@ use mathlib.Core.Path.{_≡_, refl, sym, _∙_, ap, ap₂}
 use mathlib.Core.Logic.{_≢_}
 use mathlib.Core.Bool.{Bool, true, false, not}
 use mathlib.Core.List.{List}
-use Prim.Native.Nat.{ℕ, suc, _+_}
+use Prim.Native.Nat.{ℕ, zero, suc, _+_}
 use native.Mathlib.Omega.{arith}
 use lib.Dec.{eqb, ltb}
 use lib.ListN.{take}
@@ -12,9 +12,9 @@ use Rattle.wire.specs.Order.{_if_else_}
 use Rattle.bus_rules.specs.Ident.{idTable, idFrom, idKind, idOffset}
 use Rattle.bus_rules.specs.Frames.{Frame, cmd, req, burn, xtnd, headNumber}
 use Rattle.bus_rules.specs.Request.{Request, RequestRead}
-use Rattle.bus_rules.specs.Device.{Device, ownOf, rangeOf, sizeOf, rightOf}
+use Rattle.bus_rules.specs.Device.{Device, ownOf, rangeOf, sizeOf, rightOf, withCurrent}
 use Rattle.bus_rules.specs.Holder.{commandNumber, requestNumber, burnNumber, queryNumber, kindNumber, serveNumber, byteOf, readAt, requestAt}
-use Rattle.bus_rules.specs.Holder.{sizeAt, rightAt, Served, answerWith, replyTo, acknowledgement, protocol, actOf, burning, serveOf, deviceAfter}
+use Rattle.bus_rules.specs.Holder.{sizeAt, rightAt, Served, answerWith, replyTo, acknowledgement, protocol, actOf, acting, burning, serveOf, deviceAfter}
 use Rattle.bus_rules.proofs.Cases.{accepted, by-type, command-case, request-case, burn-case, query-case, other-case}
 use Rattle.bus_rules.proofs.Cases.{request-length, query-length, act-request, act-query, act-burn, served-case, refused-case, unchanged}
 
@@ -105,10 +105,22 @@ module _ (d : Device) (f g : Frame) (a : Alike f g) where
       let y = refused-case d f (suc n) z (λ e. omega arith) in
       (x .0 ∙ sym (y .0), x .1 ∙ sym (y .1))
 
+  -- two that are neither CMD nor BURN leave the same device
   pub device-same : idKind (f .id) ≢ cmd → idKind (f .id) ≢ burn → deviceAfter d g ≡ deviceAfter d f
-  device-same c b =
-      let k = sym (ap idKind (a .id)) in
-      unchanged d g (λ e. c (k ∙ e)) (λ e. b (k ∙ e)) ∙ sym (unchanged d f c b)
+  device-same c b = go (serveNumber d f) refl
+    where
+      k : idKind (g .id) ≡ idKind (f .id)
+      k = ap idKind (a .id)
+
+      both-unchanged : idKind (f .id) ≢ req → deviceAfter d g ≡ deviceAfter d f
+      both-unchanged r = unchanged d g (λ e. c (sym k ∙ e)) (λ e. r (sym k ∙ e)) (λ e. b (sym k ∙ e)) ∙ sym (unchanged d f c r b)
+
+      go : (n : ℕ) → serveNumber d f ≡ n → deviceAfter d g ≡ deviceAfter d f
+      go (suc n) z = refused-same n z .1
+      go zero z = by-type (idKind (f .id)) (λ e. absurd (c e))
+          (λ r. served-case d g (number-same ∙ z) .1 ∙ act-request d g (k ∙ r) .1
+          ∙ ap (λ (i : ℕ). withCurrent d (idTable i)) (a .id) ∙ sym (served-case d f z .1 ∙ act-request d f r .1))
+          (λ e. absurd (b e)) (λ x. both-unchanged (λ e. omega arith)) (λ u v w x. both-unchanged v)
 
   -- what a served BURN does follows from its identifier alone
   pub burn-same : serveNumber d f ≡ 0 → idKind (f .id) ≡ burn → (serveOf d g ≡ serveOf d f) × (deviceAfter d g ≡ deviceAfter d f)
@@ -119,7 +131,7 @@ module _ (d : Device) (f g : Frame) (a : Alike f g) where
       let u = act-burn d g (ap idKind (a .id) ∙ k) in
       let v = act-burn d f k in
       let e : acknowledgement (ownOf d) (idFrom (g .id)) (idTable (g .id)) ≡ acknowledgement (ownOf d) (idFrom (f .id)) (idTable (f .id)) = rw (a .id) in
-      let h : burning d g ≡ burning d f = rw (a .id) in
+      let h : burning (acting d g) g ≡ burning (acting d f) f = rw (a .id) in
       (x .0 ∙ u .0 ∙ e ∙ sym (y .0 ∙ v .0), x .1 ∙ u .1 ∙ h ∙ sym (y .1 ∙ v .1))
 
 -- ── Replies ────────────────────────────────────────────────────────────────────────────────────────────────────────
@@ -146,7 +158,7 @@ module _ (d : Device) (f g : Frame) (a : Alike f g) (z : serveNumber d f ≡ 0) 
   pub request-reply : idKind (f .id) ≡ req → serveOf d g ≡ answerWith (readAt g 0 .clear) (serveOf d f .frame)
   request-reply k =
       let q = a .request k (request-length d f (accepted d f z) k) in
-      same-reply 0 _ _ q (ap₂ (λ (r : Request) (n : ℕ). rangeOf d (idTable n) (idOffset n) (r .count)) q (a .id))
+      same-reply 0 _ _ q (ap₂ (λ (r : Request) (n : ℕ). rangeOf (withCurrent d (idTable n)) (idTable n) (idOffset n) (r .count)) q (a .id))
       (act-request d g (ap idKind (a .id) ∙ k) .0) (act-request d f k .0)
 
   pub query-reply : idKind (f .id) ≡ xtnd → serveOf d g ≡ answerWith (readAt g 1 .clear) (serveOf d f .frame)

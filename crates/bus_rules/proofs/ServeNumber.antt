@@ -1,7 +1,7 @@
 -- Each number is given exactly when the paper says.
 use mathlib.Core.Path.{_≡_, refl, sym, subst}
 use mathlib.Core.Logic.{_⊎_, inl, inr, _≢_}
-use mathlib.Core.Bool.{Bool, true, false, not, _||_}
+use mathlib.Core.Bool.{Bool, true, false, not, _&&_, _||_}
 use Prim.Native.Nat.{ℕ, zero, suc, _+_, _≤_, _<_, _^_}
 use native.Mathlib.Omega.{arith}
 use lib.Dec.{leb, ltb, eqb}
@@ -14,9 +14,11 @@ use Rattle.wire.proofs.Orders.{if-orElse, zero-orElse}
 use Rattle.bus_rules.specs.Ident.{idSpare, idTo}
 use Rattle.bus_rules.specs.Frames.{Frame, headNumber}
 use Rattle.bus_rules.specs.Device.{Device, ownOf, soundDirectory, totalOf, directoryNumber, lengthNumber, memoryNumber}
-use Rattle.bus_rules.specs.Holder.{commandNumber, requestNumber, burnNumber, queryNumber, kindNumber, serveNumber}
+use Rattle.bus_rules.specs.Device.{knownFamily, soundCurrent, stateNumber}
+use Rattle.bus_rules.specs.Holder.{commandNumber, requestNumber, burnNumber, queryNumber, kindNumber, deviceNumber, serveNumber}
 use Rattle.bus_rules.specs.Demand2.{CommandNumber, RequestNumber, BurnNumber, QueryNumber, KindNumber, ServeNumber}
 use Rattle.bus_rules.proofs.Directories.{apart, sound-says, says-sound, neither-not, not-both}
+use Rattle.bus_rules.proofs.HolderStates.{state-says, says-state}
 use Rattle.bus_rules.proofs.Cases.{command-case, request-case, burn-case, query-case, other-case}
 
 -- ── What a test says ───────────────────────────────────────────────────────────────────────────────────────────────
@@ -126,12 +128,27 @@ module _ (e : Device) (f : Frame) where
 module _ (e : Device) (f : Frame) where
   -- the four parts of the order as one chain
   whole : serveNumber e f
-      ≡ (11 if not (soundDirectory (e .directory))
+      ≡ (11 if not (knownFamily (e .state .family) && soundCurrent (e .directory) (e .state))
+      else 11 if not (soundDirectory (e .directory))
       else 10 if not (eqb (length (e .memory)) (totalOf (e .directory))) || not (eqb (length (e .flash)) (totalOf (e .directory)))
       else 1 if leb (2 ^ 29) (f .id) else 2 if not (eqb (idSpare (f .id)) 0)
       else 3 if ltb 8 (f .len) else 4 if not (eqb (idTo (f .id)) (ownOf e)) else kindNumber e f)
-  unfolding serveNumber memoryNumber directoryNumber lengthNumber headNumber
-  whole = rw (if-orElse, zero-orElse, if-orElse, if-orElse, zero-orElse, if-orElse, if-orElse, if-orElse, if-orElse, zero-orElse)
+  unfolding serveNumber deviceNumber stateNumber memoryNumber directoryNumber lengthNumber headNumber
+  whole = rw (
+    if-orElse,
+    zero-orElse,
+    if-orElse,
+    if-orElse,
+    zero-orElse,
+    if-orElse,
+    if-orElse,
+    zero-orElse,
+    if-orElse,
+    if-orElse,
+    if-orElse,
+    if-orElse,
+    zero-orElse,
+  )
 
   pub serve-numbers : ServeNumber e f (serveNumber e f)
   serve-numbers =
@@ -141,8 +158,10 @@ module _ (e : Device) (f : Frame) where
       let r1 = First (2 ^ 29 ≤ f .id) 1 r2 in
       let r10 = Unless ((length (e .memory) ≡ totalOf (e .directory)) × (length (e .flash) ≡ totalOf (e .directory))) 10 r1 in
       rw whole
-      (unless 11 _ _ r10 (λ h s. apart _ (says-sound (e .directory) s) (not-true _ h)) (λ h. sound-says (e .directory) (not-false _ h))
-      (λ s. unless 10 _ _ r1 (λ h l. not-both _ _ h (eq-eqb _ _ (l .0)) (eq-eqb _ _ (l .1)))
+      (unlesses 11 _ _ _ r10 (λ h s. apart _ (says-state (e .directory) (e .state) (s .0)) (not-true _ h))
+      (λ h s. apart _ (says-sound (e .directory) (s .1)) (not-true _ h))
+      (λ g h. (state-says (e .directory) (e .state) (not-false _ g), sound-says (e .directory) (not-false _ h)))
+      (λ t s. unless 10 _ _ r1 (λ h l. not-both _ _ h (eq-eqb _ _ (l .0)) (eq-eqb _ _ (l .1)))
       (λ h. let l = neither-not _ _ h in (eqb-true _ _ (l .0), eqb-true _ _ (l .1)))
       (λ l. link 1 _ _ r2 (leb-true _ _) (le-false _ _)
       (λ i. unless 2 _ _ r3 (ne-true _ _) (is-false _ _)

@@ -3,7 +3,7 @@ use Prim.Native.Nat.{ℕ, _-_}
 use mathlib.Core.Path.{_≡_}
 use mathlib.Core.List.{List, [], _∷_, _++_, map}
 use lib.ListN.{length, replicate}
-use Rattle.bus_rules.specs.Device.{Directory, Device, device}
+use Rattle.bus_rules.specs.Device.{Directory, HolderState, Device, device, firstStateOf}
 use Rattle.bus_rules.specs.Frames.{Frame}
 use Rattle.bus_rules.specs.Ident.{Parts, rows, part, partAt, sumOfRows, packOf, unpackOf}
 use Rattle.bus_rules.specs.Request.{readRequestOf, requestBytesOf}
@@ -26,9 +26,14 @@ abbrev pub signatureWith : (last : List ℕ) → List ℕ
 signatureWith last =
     0x4D ∷ 0x53 ∷ 0x33 ∷ 0x20 ∷ 0x46 ∷ 0x6F ∷ 0x72 ∷ 0x6D ∷ 0x61 ∷ 0x74 ∷ 0x20 ∷ 0x30 ∷ 0x34 ∷ 0x33 ∷ 0x35 ∷ 0x2E ∷ last
 
-abbrev pub holds : (last flash : List ℕ) → Device
-holds last flash =
+-- 02, C-13: a state: the family, whether a table is current, and that table
+abbrev pub state : (family has current : ℕ) → HolderState
+state family has current = record { family = family; «has_current» = has; current = current }
+
+abbrev pub holds : HolderState → (last flash : List ℕ) → Device
+holds s last flash =
     device (tables 0 20)
+    s
     (0xA0 ∷ 0xA1
     ∷ 0 ∷ 0 ∷ 0 ∷ 0 ∷ 0 ∷ 0 ∷ 0x14 ∷ 0xFE
     ∷ signatureWith last ++ 0xC2 ∷ 0xC3 ∷ [])
@@ -41,12 +46,25 @@ lastFour = 0x31 ∷ 0x34 ∷ 0x20 ∷ 0x00 ∷ []
 abbrev pub erased : List ℕ
 erased = replicate 32 0xFF
 
+-- it is of the newer family, and table 15 is current
 abbrev pub holder : Device
-holder = holds lastFour erased
+holder = holds (state 3 1 15) lastFour erased
 
 -- 02, C-11: its flash after table 15 is burnt
 abbrev pub signatureBurnt : List ℕ
 signatureBurnt = replicate 10 0xFF ++ signatureWith lastFour ++ replicate 2 0xFF
+
+-- C-13: a device with that flash, and a change to the signature that is not burnt
+abbrev pub changed : List ℕ
+changed = 0x31 ∷ 0xB0 ∷ 0xB1 ∷ 0x00 ∷ []
+
+abbrev pub unburnt : HolderState → Device
+unburnt s = holds s changed signatureBurnt
+
+-- a device that has table 0 alone: two bytes, to read and write, 3 and 4 in flash
+abbrev pub tableZero : HolderState → (memory : List ℕ) → Device
+tableZero s memory =
+    device (record { sizes = 2 ∷ replicate 31 0; rights = 2 ∷ replicate 31 0; «table_blocking» = 0; «write_blocking» = 0; own = 0 }) s memory (3 ∷ 4 ∷ [])
 
 -- an identifier by hand: taken apart, row by row from the low end, and put together; and what unpacking and packing answer
 pub record ByHand (id : ℕ) (parts : List ℕ) (p : Parts) : Type 0 where
@@ -59,14 +77,13 @@ pub record ByHand (id : ℕ) (parts : List ℕ) (p : Parts) : Type 0 where
 abbrev pub frame : (id len : ℕ) → List ℕ → Frame
 frame id len bytes = record { id = id; len = len; bytes = bytes ++ replicate (8 - length bytes) 0 }
 
--- a frame is answered, with this mark, and the device stays as it was
-abbrev pub Answers : Device → Frame → (clear : ℕ) → Frame → Type 0
-Answers e f clear g = (serveOf e f ≡ record { number = 0; frames = 1; clear = clear; frame = g }) × (deviceAfter e f ≡ e)
+-- a frame is answered, with this mark, and this is the device afterwards
+abbrev pub AnswersAfter : Device → Frame → (clear : ℕ) → Frame → Device → Type 0
+AnswersAfter e f clear g after = (serveOf e f ≡ record { number = 0; frames = 1; clear = clear; frame = g }) × (deviceAfter e f ≡ after)
 
--- a frame is answered, with mark 0, and the device's flash is this afterwards, all else as it was
-abbrev pub Burns : Device → Frame → Frame → (flash : List ℕ) → Type 0
-Burns e f g flash =
-    (serveOf e f ≡ record { number = 0; frames = 1; clear = 0; frame = g }) × (deviceAfter e f ≡ device (e .directory) (e .memory) flash)
+-- it stays as it was
+abbrev pub Answers : Device → Frame → (clear : ℕ) → Frame → Type 0
+Answers e f clear g = AnswersAfter e f clear g e
 
 -- a number and no frame
 abbrev pub alone : ℕ → Served
@@ -91,8 +108,8 @@ pub record Examples : Type 0 where
   pub signature : Answers holder (frame 0x40B878 3 (0x06 ∷ 0x00 ∷ 0x04 ∷ 0xFF ∷ [])) 1
       (frame 0x103B0 4 (0x31 ∷ 0x34 ∷ 0x20 ∷ 0x00 ∷ []))
   -- 002, 4.2: "id=0x18b838, DLC=3, Data = 0x07 0x00 0x42" brings "id=0x903b8, DLC=2, Data = 0x14 0xfe"
-  pub rpm : Answers holder (frame 0x18B838 3 (0x07 ∷ 0x00 ∷ 0x42 ∷ 0xFF ∷ [])) 1
-      (frame 0x903B8 2 (0x14 ∷ 0xFE ∷ []))
+  pub rpm : AnswersAfter holder (frame 0x18B838 3 (0x07 ∷ 0x00 ∷ 0x42 ∷ 0xFF ∷ [])) 1
+      (frame 0x903B8 2 (0x14 ∷ 0xFE ∷ [])) (holds (state 3 1 7) lastFour erased)
   -- XTND `80 06 10 45`: 2 and the blocking factors, to table 6, offset 130
   pub query : Answers holder (frame 0x3B800 4 (0x80 ∷ 0x06 ∷ 0x10 ∷ 0x45 ∷ 0xFF ∷ [])) 1
       (frame 0x20903B0 5 (0x02 ∷ 0x01 ∷ 0x02 ∷ 0x03 ∷ 0x04 ∷ []))
@@ -100,31 +117,73 @@ pub record Examples : Type 0 where
   -- first, bit 4 of the third
   pub bitFourSignature : Answers holder (frame 0x40B878 3 (0x06 ∷ 0x00 ∷ 0x14 ∷ [])) 0
       (frame 0x103B0 4 (0x31 ∷ 0x34 ∷ 0x20 ∷ 0x00 ∷ []))
-  pub bitFiveRpm : Answers holder (frame 0x18B838 3 (0x27 ∷ 0x00 ∷ 0x42 ∷ [])) 0
-      (frame 0x903B8 2 (0x14 ∷ 0xFE ∷ []))
+  pub bitFiveRpm : AnswersAfter holder (frame 0x18B838 3 (0x27 ∷ 0x00 ∷ 0x42 ∷ [])) 0
+      (frame 0x903B8 2 (0x14 ∷ 0xFE ∷ [])) (holds (state 3 1 7) lastFour erased)
   pub bitSevenQuery : Answers holder (frame 0x3B800 4 (0x80 ∷ 0x86 ∷ 0x10 ∷ 0x45 ∷ [])) 0
       (frame 0x20903B0 5 (0x02 ∷ 0x01 ∷ 0x02 ∷ 0x03 ∷ 0x04 ∷ []))
   pub bitFourQuery : Answers holder (frame 0x3B800 4 (0x80 ∷ 0x06 ∷ 0x10 ∷ 0x55 ∷ [])) 0
       (frame 0x20903B0 5 (0x02 ∷ 0x01 ∷ 0x02 ∷ 0x03 ∷ 0x04 ∷ []))
   -- CMD, table 15, offset 17, two bytes
   pub stored : (serveOf holder (frame 0x443878 2 (0xB0 ∷ 0xB1 ∷ 0xFF ∷ [])) ≡ alone 0)
-      × (deviceAfter holder (frame 0x443878 2 (0xB0 ∷ 0xB1 ∷ 0xFF ∷ [])) ≡ holds (0x31 ∷ 0xB0 ∷ 0xB1 ∷ 0x00 ∷ []) erased)
+      × (deviceAfter holder (frame 0x443878 2 (0xB0 ∷ 0xB1 ∷ 0xFF ∷ [])) ≡ holds (state 3 1 15) changed erased)
   -- 02, C-11: BURN of table 15, at offset 2,047, and of table 20; "The reply is XTND to the sender with offset 0, the burnt table, and bytes 0E 01"
-  pub burnt : Burns holder (frame 0x1FFE3878 0 (0xFF ∷ [])) (frame 0x383F8 2 (0x0E ∷ 0x01 ∷ [])) signatureBurnt
-  pub burnt20 : Burns holder (frame 0x23824 0 []) (frame 0x383A4 2 (0x0E ∷ 0x01 ∷ [])) (replicate 30 0xFF ++ 0xC2 ∷ 0xC3 ∷ [])
+  pub burnt : AnswersAfter holder (frame 0x1FFE3878 0 (0xFF ∷ [])) 0 (frame 0x383F8 2 (0x0E ∷ 0x01 ∷ [])) (holds (state 3 1 15) lastFour signatureBurnt)
+  pub burnt20 : AnswersAfter holder (frame 0x23824 0 []) 0 (frame 0x383A4 2 (0x0E ∷ 0x01 ∷ []))
+      (holds (state 3 1 20) lastFour (replicate 30 0xFF ++ 0xC2 ∷ 0xC3 ∷ []))
   -- the CMD again, on the burnt device: the flash stays; and a BURN of what it stored
-  pub storedLater : deviceAfter (holds lastFour signatureBurnt) (frame 0x443878 2 (0xB0 ∷ 0xB1 ∷ []))
-      ≡ holds (0x31 ∷ 0xB0 ∷ 0xB1 ∷ 0x00 ∷ []) signatureBurnt
-  pub burntAgain : Burns (holds (0x31 ∷ 0xB0 ∷ 0xB1 ∷ 0x00 ∷ []) signatureBurnt) (frame 0x23878 0 []) (frame 0x383F8 2 (0x0E ∷ 0x01 ∷ []))
-      (replicate 10 0xFF ++ signatureWith (0x31 ∷ 0xB0 ∷ 0xB1 ∷ 0x00 ∷ []) ++ replicate 2 0xFF)
+  pub storedLater : deviceAfter (holds (state 3 1 15) lastFour signatureBurnt) (frame 0x443878 2 (0xB0 ∷ 0xB1 ∷ [])) ≡ unburnt (state 3 1 15)
+  pub burntAgain : AnswersAfter (unburnt (state 3 1 15)) (frame 0x23878 0 []) 0 (frame 0x383F8 2 (0x0E ∷ 0x01 ∷ []))
+      (holds (state 3 1 15) changed (replicate 10 0xFF ++ signatureWith changed ++ replicate 2 0xFF))
+  -- 02, C-13: the signature's last four bytes, of the older family: with table 7 current, with none, with table 15; and of the newer
+  pub forgets : AnswersAfter (unburnt (state 2 1 7)) (frame 0x40B878 3 (0x06 ∷ 0x00 ∷ 0x04 ∷ [])) 1 (frame 0x103B0 4 lastFour)
+      (holds (state 2 1 15) lastFour signatureBurnt)
+  pub forgetsAtFirst : AnswersAfter (unburnt (state 2 0 0)) (frame 0x40B878 3 (0x06 ∷ 0x00 ∷ 0x04 ∷ [])) 1 (frame 0x103B0 4 lastFour)
+      (holds (state 2 1 15) lastFour signatureBurnt)
+  pub remembers : Answers (unburnt (state 2 1 15)) (frame 0x40B878 3 (0x06 ∷ 0x00 ∷ 0x04 ∷ [])) 1 (frame 0x103B0 4 changed)
+  pub newer : AnswersAfter (unburnt (state 3 1 7)) (frame 0x40B878 3 (0x06 ∷ 0x00 ∷ 0x04 ∷ [])) 1 (frame 0x103B0 4 changed) (unburnt (state 3 1 15))
+  -- a CMD of one byte at offset 19 writes into what was reloaded, and a BURN burns it; of table 15 current neither reloads
+  pub storedOlder : deviceAfter (unburnt (state 2 1 7)) (frame 0x4C3878 1 (0xB2 ∷ []))
+      ≡ holds (state 2 1 15) (0x31 ∷ 0x34 ∷ 0x20 ∷ 0xB2 ∷ []) signatureBurnt
+  pub storedCurrent : deviceAfter (unburnt (state 2 1 15)) (frame 0x4C3878 1 (0xB2 ∷ []))
+      ≡ holds (state 2 1 15) (0x31 ∷ 0xB0 ∷ 0xB1 ∷ 0xB2 ∷ []) signatureBurnt
+  pub burntOlder : AnswersAfter (unburnt (state 2 1 7)) (frame 0x23878 0 []) 0 (frame 0x383F8 2 (0x0E ∷ 0x01 ∷ []))
+      (holds (state 2 1 15) lastFour signatureBurnt)
+  pub burntCurrent : AnswersAfter (unburnt (state 2 1 15)) (frame 0x23878 0 []) 0 (frame 0x383F8 2 (0x0E ∷ 0x01 ∷ []))
+      (holds (state 2 1 15) changed (replicate 10 0xFF ++ signatureWith changed ++ replicate 2 0xFF))
+  -- the CMD of two bytes, a REQ of table 7, and the signature's again: gone; with a BURN after the CMD: kept
+  pub goneLater : serveOf (deviceAfter (deviceAfter (holds (state 2 1 15) lastFour signatureBurnt) (frame 0x443878 2 (0xB0 ∷ 0xB1 ∷ [])))
+      (frame 0x18B838 3 (0x07 ∷ 0x00 ∷ 0x42 ∷ []))) (frame 0x40B878 3 (0x06 ∷ 0x00 ∷ 0x04 ∷ [])) .frame ≡ frame 0x103B0 4 lastFour
+  pub keptLater : serveOf (deviceAfter (deviceAfter (unburnt (state 2 1 15)) (frame 0x23878 0 [])) (frame 0x18B838 3 (0x07 ∷ 0x00 ∷ 0x42 ∷ [])))
+      (frame 0x40B878 3 (0x06 ∷ 0x00 ∷ 0x04 ∷ [])) .frame ≡ frame 0x103B0 4 changed
+  -- the protocol query, with table 15 in its identifier, and a REQ that is refused
+  pub queryOlder : Answers (unburnt (state 2 1 7)) (frame 0x3B878 4 (0x80 ∷ 0x06 ∷ 0x10 ∷ 0x45 ∷ [])) 1
+      (frame 0x20903B0 5 (0x02 ∷ 0x01 ∷ 0x02 ∷ 0x03 ∷ 0x04 ∷ []))
+  pub refusedOlder : Refuses (unburnt (state 2 1 7)) (frame 0x40B878 3 (0x06 ∷ 0x00 ∷ 0x09 ∷ [])) 9
+  -- none is not table 0
+  pub noneIsNotTable0 : AnswersAfter (tableZero (state 2 0 0) (1 ∷ 2 ∷ [])) (frame 0xB800 3 (0x06 ∷ 0x00 ∷ 0x02 ∷ [])) 1 (frame 0x103B0 2 (3 ∷ 4 ∷ []))
+      (tableZero (state 2 1 0) (3 ∷ 4 ∷ []))
+  pub table0Current : Answers (tableZero (state 2 1 0) (1 ∷ 2 ∷ [])) (frame 0xB800 3 (0x06 ∷ 0x00 ∷ 0x02 ∷ [])) 1 (frame 0x103B0 2 (1 ∷ 2 ∷ []))
+  -- 11: family 4, 1 and 0; has_current 2; a table where has_current is 0; current table 32; an empty one; before 10
+  pub family4 : Refuses (unburnt (state 4 1 7)) (frame 0x40B878 3 (0x06 ∷ 0x00 ∷ 0x04 ∷ [])) 11
+  pub family1 : Refuses (unburnt (state 1 1 7)) (frame 0x40B878 3 (0x06 ∷ 0x00 ∷ 0x04 ∷ [])) 11
+  pub family0 : Refuses (unburnt (state 0 0 0)) (frame 0x40B878 3 (0x06 ∷ 0x00 ∷ 0x04 ∷ [])) 11
+  pub hasCurrent2 : Refuses (unburnt (state 2 2 7)) (frame 0x40B878 3 (0x06 ∷ 0x00 ∷ 0x04 ∷ [])) 11
+  pub noneWithTable : Refuses (unburnt (state 2 0 7)) (frame 0x40B878 3 (0x06 ∷ 0x00 ∷ 0x04 ∷ [])) 11
+  pub current32 : Refuses (unburnt (state 2 1 32)) (frame 0x40B878 3 (0x06 ∷ 0x00 ∷ 0x04 ∷ [])) 11
+  pub emptyCurrent : Refuses (unburnt (state 3 1 5)) (frame 0x40B878 3 (0x06 ∷ 0x00 ∷ 0x04 ∷ [])) 11
+  pub unsoundState : Refuses (device (tables 0 20) (state 4 0 0) [] []) (frame 0x20403881 9 []) 11
+  -- the first states of families
+  pub first2 : firstStateOf 2 ≡ record { number = 0; state = state 2 0 0 }
+  pub first3 : firstStateOf 3 ≡ record { number = 0; state = state 3 0 0 }
+  pub first4 : firstStateOf 4 ≡ record { number = 11; state = state 0 0 0 }
   -- no memory and no flash: 11 before 10, of own number 16 and of a table of 2,057 bytes
-  pub unsound : Refuses (device (tables 16 20) [] []) (frame 0x40B878 3 (0x06 ∷ 0x00 ∷ 0x04 ∷ [])) 11
-  pub tooLong : Refuses (device (tables 0 2057) [] []) (frame 0x40B878 3 (0x06 ∷ 0x00 ∷ 0x04 ∷ [])) 11
-  pub noMemory : Refuses (device (tables 0 2056) [] []) (frame 0x40B878 3 (0x06 ∷ 0x00 ∷ 0x04 ∷ [])) 10
+  pub unsound : Refuses (device (tables 16 20) (state 3 0 0) [] []) (frame 0x40B878 3 (0x06 ∷ 0x00 ∷ 0x04 ∷ [])) 11
+  pub tooLong : Refuses (device (tables 0 2057) (state 3 0 0) [] []) (frame 0x40B878 3 (0x06 ∷ 0x00 ∷ 0x04 ∷ [])) 11
+  pub noMemory : Refuses (device (tables 0 2056) (state 3 0 0) [] []) (frame 0x40B878 3 (0x06 ∷ 0x00 ∷ 0x04 ∷ [])) 10
   -- 10 before 1: memory too short, flash too short, flash too long
-  pub shortMemory : Refuses (device (tables 0 20) (replicate 31 0) erased) (frame 0x20403881 9 []) 10
-  pub shortFlash : Refuses (holds lastFour (replicate 31 0xFF)) (frame 0x20403881 9 []) 10
-  pub longFlash : Refuses (holds lastFour (replicate 33 0xFF)) (frame 0x20403881 9 []) 10
+  pub shortMemory : Refuses (device (tables 0 20) (state 3 0 0) (replicate 31 0) erased) (frame 0x20403881 9 []) 10
+  pub shortFlash : Refuses (holds (state 3 0 0) lastFour (replicate 31 0xFF)) (frame 0x20403881 9 []) 10
+  pub longFlash : Refuses (holds (state 3 0 0) lastFour (replicate 33 0xFF)) (frame 0x20403881 9 []) 10
   -- 1, 2, 3, 4: nine bytes to device 1, with a spare bit and bit 29, then without
   pub tooLarge : Refuses holder (frame 0x20403881 9 []) 1
   pub spareBit : Refuses holder (frame 0x403881 9 []) 2
@@ -142,7 +201,7 @@ pub record Examples : Type 0 where
   -- BURN of table 7, of table 4, of an empty table
   pub readOnlyBurn : Refuses holder (frame 0x23838 0 []) 7
   pub noRightBurn : Refuses holder (frame 0x23820 0 []) 7
-  pub emptyBurn : Refuses (device (tables 0 0) (replicate 12 0) (replicate 12 0xFF)) (frame 0x23878 0 []) 7
+  pub emptyBurn : Refuses (device (tables 0 0) (state 3 0 0) (replicate 12 0) (replicate 12 0xFF)) (frame 0x23878 0 []) 7
   -- CMD to table 7, REQ to table 4
   pub readOnly : Refuses holder (frame 0x183838 2 (0xB0 ∷ 0xB1 ∷ [])) 7
   pub noRight : Refuses holder (frame 0xB820 3 (0x06 ∷ 0x00 ∷ 0x02 ∷ [])) 7

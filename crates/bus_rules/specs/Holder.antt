@@ -1,5 +1,5 @@
--- 01 "Table holder": what a device answers to a frame, and the device after it, in the paper's order; BURN is 02, C-11's, the mark beside the
--- answer C-16's.
+-- 01 "Table holder": what a device answers to a frame, and the device after it, in the paper's order; BURN is 02, C-11's, the
+-- current table and the reload C-13's, the mark beside the answer C-16's.
 use Prim.Native.Nat.{ℕ, zero, suc, _+_}
 use mathlib.Core.Path.{_≡_}
 use mathlib.Core.Bool.{cond, not}
@@ -12,7 +12,7 @@ use Rattle.wire.specs.BigEndian.{beBytes}
 use Rattle.bus_rules.specs.Ident.{idTable, idFrom, idKind, idOffset, idOf}
 use Rattle.bus_rules.specs.Frames.{Frame, cmd, req, rsp, burn, xtnd, content, frameWith, noFrame, headNumber}
 use Rattle.bus_rules.specs.Request.{Request, RequestRead, readRequestOf}
-use Rattle.bus_rules.specs.Device.{Directory, Device, ownOf, rangeOf, copyTable, sizeOf, rightOf, startOf, memoryNumber}
+use Rattle.bus_rules.specs.Device.{Directory, Device, ownOf, rangeOf, copyTable, sizeOf, rightOf, startOf, memoryNumber, stateNumber, withCurrent}
 pub use Rattle.bus_rules.specs.declared.Served.{Served}
 
 -- ── Refusals by type. 6: length wrong (C-16: "6 no longer covers reserved bits"); 7: table empty, or lacks the right; 9: count not
@@ -91,10 +91,13 @@ kindNumber e f =
     (queryNumber (f .len) (byteOf f 0) (requestAt f 1 .count))
     5
 
+-- 11 and 10
+unfoldable pub deviceNumber : Device → ℕ
+deviceNumber e = stateNumber (e .directory) (e .state) orElse memoryNumber (e .directory) (length (e .memory)) (length (e .flash))
+
 -- Order: 11, 10, 1, 2, 3, 4, 5, 6, 7, 9, 8, with one exception: XTND of length 0 is 6
 unfoldable pub serveNumber : Device → Frame → ℕ
-serveNumber e f =
-    memoryNumber (e .directory) (length (e .memory)) (length (e .flash)) orElse headNumber (ownOf e) f orElse kindNumber e f
+serveNumber e f = deviceNumber e orElse headNumber (ownOf e) f orElse kindNumber e f
 
 -- ── Answers ────────────────────────────────────────────────────────────────────────────────────────────────────────
 
@@ -122,31 +125,36 @@ placeOf e f = startOf (e .directory) (tableOf f) + idOffset (f .id)
 unfoldable pub protocol : Directory → List ℕ
 protocol d = 2 ∷ (beBytes 2 (d .«table_blocking») ++ beBytes 2 (d .«write_blocking»))
 
+-- C-13: what a CMD, REQ or BURN acts on, the device with its table current: it "first makes its working bytes equal to its flash bytes, then acts"
+abbrev pub acting : Device → Frame → Device
+acting e f = withCurrent e (tableOf f)
+
 -- of a frame that is not refused: the answer, to the sender. (Another type is refused with 5 before.)
 unfoldable pub actOf : Device → Frame → Served
 actOf e f =
     byKind (idKind (f .id))
     (noAnswer 0)
-    (replyTo (ownOf e) (idFrom (f .id)) (readAt f 0) (rangeOf e (tableOf f) (idOffset (f .id)) (requestAt f 0 .count)))
+    (replyTo (ownOf e) (idFrom (f .id)) (readAt f 0) (rangeOf (acting e f) (tableOf f) (idOffset (f .id)) (requestAt f 0 .count)))
     (acknowledgement (ownOf e) (idFrom (f .id)) (tableOf f))
     (replyTo (ownOf e) (idFrom (f .id)) (readAt f 1) (take (requestAt f 1 .count) (protocol (e .directory))))
     (noAnswer 0)
 
 -- CMD stores the bytes at the offset
 unfoldable pub storing : Device → Frame → Device
-storing e f = record { directory = e .directory; memory = sets (e .memory) (placeOf e f) (content f); flash = e .flash }
+storing e f = record { directory = e .directory; state = e .state; memory = sets (e .memory) (placeOf e f) (content f); flash = e .flash }
 
 -- C-11: "A burn makes the flash bytes of that table equal to the table's and touches no other flash byte; working memory doesn't change"
 unfoldable pub burning : Device → Frame → Device
 burning e f = record {
   directory = e .directory;
+  state = e .state;
   memory = e .memory;
   flash = copyTable (e .directory) (tableOf f) (e .memory) (e .flash);
 }
 
--- and the device after it
+-- and the device after it; the protocol query leaves it
 unfoldable pub actAfter : Device → Frame → Device
-actAfter e f = byKind (idKind (f .id)) (storing e f) e (burning e f) e e
+actAfter e f = byKind (idKind (f .id)) (storing (acting e f) f) (acting e f) (burning (acting e f) f) e e
 
 -- of any frame: a refusal yields no frame and leaves the device unchanged
 unfoldable pub servedBy : ℕ → Served → Served

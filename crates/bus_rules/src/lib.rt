@@ -73,6 +73,21 @@ pub struct Directory {
     pub own: u8,
 }
 
+// A holder's state: its family (2, the older, or 3), and its current table: `has_current` is 1 and `current` that table, or both are 0 where none is.
+#[repr(C)]
+pub struct HolderState {
+    pub family: u8,
+    pub has_current: u8,
+    pub current: u8,
+}
+
+// A number, and the first state of a family, all 0 in a refusal.
+#[repr(C)]
+pub struct FirstState {
+    pub number: u8,
+    pub state: HolderState,
+}
+
 // A holder's answer: a number, how many frames it has (0 or 1), the mark `clear` (1 if it answers a REQ or a protocol query whose reserved
 // bits are clear, else 0), and the frame, all 0 where there is none.
 #[repr(C)]
@@ -81,4 +96,11 @@ pub struct Served {
     pub frames: u8,
     pub clear: u8,
     pub frame: Frame,
+}
+
+// A holder's answer, and its state after it.
+#[repr(C)]
+pub struct HolderAnswer {
+    pub served: Served,
+    pub state: HolderState,
 }

@@ -8,6 +8,7 @@ use crate::answers::unknown;
 use crate::answers::with_bytes;
 use crate::buses::device;
 use crate::buses::frame_of;
+use crate::buses::state;
 use crate::buses::with_frame;
 use crate::kept;
 use crate::lines::NONE;
@@ -57,6 +58,7 @@ pub(crate) fn fresh() -> World {
     let bridge = unmade();
     World {
         directory,
+        state: state(3, 0, 0),
         bridge,
         second: [0; 512],
         turns: 0,
@@ -65,10 +67,12 @@ pub(crate) fn fresh() -> World {
 
 fn with_bridge(w: World, bridge: Bridge, turns: u64, answer: Answer) -> Ran {
     let directory = w.directory;
+    let state = w.state;
     let second = w.second;
     kept(
         World {
             directory,
+            state,
             bridge,
             second,
             turns,

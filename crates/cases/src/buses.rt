@@ -16,6 +16,7 @@ use crate::lines::part;
 use crate::lines::room;
 use bus::Directory;
 use bus::Frame;
+use bus::HolderState;
 use bus::Packed;
 use bus::Parts;
 use bus::Request;
@@ -112,11 +113,45 @@ fn flash_len(memory: u64, flash: u64) -> u64 {
     if flash == NONE { memory } else { flash }
 }
 
-// serve LENGTH IDENTIFIER FLASH | BYTES: the number, the mark, and the frame answered.
-fn serve(d: Directory, memory: &mut [u8], flash: &mut [u8], id: u32, bytes: &[u8]) -> Answer {
-    let s = bus::holder::serve(d, memory, flash, frame_of(id, bytes));
+// serve LENGTH IDENTIFIER FLASH | BYTES: the number, the mark, and the frame answered; the state is then the one handed back.
+fn serve(w: World, memory: &mut [u8], flash: &mut [u8], id: u32, bytes: &[u8]) -> Ran {
+    let a = bus::holder::serve(w.directory, w.state, memory, flash, frame_of(id, bytes));
+    let s = a.served;
     let f = s.frame;
-    with_frame(pair(s.number, s.clear as u64), s.frames, f)
+    let answer = with_frame(pair(s.number, s.clear as u64), s.frames, f);
+    with_state(w, a.state, answer)
+}
+
+// first FAMILY: the number; the state is then that family's first.
+fn first(w: World, family: u8) -> Ran {
+    let r = bus::holder::first_state(family);
+    with_state(w, r.state, number(r.number))
+}
+
+// state FAMILY HAS_CURRENT CURRENT
+pub(crate) fn state(family: u8, has_current: u8, current: u8) -> HolderState {
+    HolderState {
+        family,
+        has_current,
+        current,
+    }
+}
+
+// current: the state's family, 1 where a table is current, and that table.
+fn state_numbers(s: HolderState) -> Answer {
+    numbers(
+        3,
+        [
+            s.family as u64,
+            s.has_current as u64,
+            s.current as u64,
+            0,
+            0,
+            0,
+            0,
+            0,
+        ],
+    )
 }
 
 // device OWN: a directory without tables.
@@ -141,18 +176,23 @@ fn with_table(d: Directory, k: u64, size: u16, right: u8) -> Directory {
     d
 }
 
-fn with_directory(w: World, directory: Directory) -> Ran {
+fn with_holder(w: World, directory: Directory, state: HolderState, answer: Answer) -> Ran {
     let bridge = w.bridge;
     let second = w.second;
     kept(
         World {
             directory,
+            state,
             bridge,
             second,
             turns: w.turns,
         },
-        nothing(),
+        answer,
     )
+}
+
+fn with_state(w: World, state: HolderState, answer: Answer) -> Ran {
+    with_holder(w, w.directory, state, answer)
 }
 
 const PACK: u64 = 0x7061636b;
@@ -164,6 +204,12 @@ const READ_REQUEST: u64 = 0x726561645f726571;
 const REQUEST_BYTES: u64 = 0x726571756573745f;
 
 const SERVE: u64 = 0x7365727665;
+
+const FIRST: u64 = 0x6669727374;
+
+const STATE: u64 = 0x7374617465;
+
+const CURRENT: u64 = 0x63757272656e74;
 
 const DEVICE: u64 = 0x646576696365;
 
@@ -183,24 +229,37 @@ fn number_call(a: Words, bytes: &[u8]) -> Answer {
     }
 }
 
-pub(crate) fn call(w: World, memory: &mut [u8], flash: &mut [u8], a: Words, bytes: &[u8]) -> Ran {
+// The calls on directory and state, `device` with the first state of family 3, and those that need neither.
+fn holder_call(w: World, a: Words, bytes: &[u8]) -> Ran {
     let n = a.n;
     let b = a.n8;
     let h = a.n16;
+    match n[2] {
+        DEVICE => with_holder(w, device(b[3]), state(3, 0, 0), nothing()),
+        TABLE => with_holder(
+            w,
+            with_table(w.directory, n[3], h[4], b[5]),
+            w.state,
+            nothing(),
+        ),
+        FIRST => first(w, b[3]),
+        STATE => with_state(w, state(b[3], b[4], b[5]), nothing()),
+        CURRENT => kept(w, state_numbers(w.state)),
+        _ => kept(w, number_call(a, bytes)),
+    }
+}
+
+pub(crate) fn call(w: World, memory: &mut [u8], flash: &mut [u8], a: Words, bytes: &[u8]) -> Ran {
+    let n = a.n;
     let x = a.n32;
     match n[2] {
-        SERVE => kept(
+        SERVE => serve(
             w,
-            serve(
-                w.directory,
-                room(memory, 0, n[3]),
-                room(flash, 0, flash_len(n[3], n[5])),
-                x[4],
-                bytes,
-            ),
+            room(memory, 0, n[3]),
+            room(flash, 0, flash_len(n[3], n[5])),
+            x[4],
+            bytes,
         ),
-        DEVICE => with_directory(w, device(b[3])),
-        TABLE => with_directory(w, with_table(w.directory, n[3], h[4], b[5])),
-        _ => kept(w, number_call(a, bytes)),
+        _ => holder_call(w, a, bytes),
     }
 }

@@ -15,6 +15,7 @@ use answers::put_answer;
 use answers::unknown;
 use bridge::Bridge;
 use bus::Directory;
+use bus::HolderState;
 use lines::Words;
 use lines::find;
 use lines::part;
@@ -22,9 +23,10 @@ use lines::put_bytes;
 use lines::words_of;
 ghost use Rattle.reckonings.specs.Reckonings.{Reckonings};
 
-// What the calls change beside the memory that they are lent: a device's directory, a bridge, its second buffer, how many turns it has had.
+// What the calls change beside the memory that they are lent: a device's directory and state, a bridge, its second buffer, how many turns it has had.
 struct World {
     directory: Directory,
+    state: HolderState,
     bridge: Bridge,
     second: [u8; 512],
     turns: u64,

@@ -4,7 +4,7 @@ use crate::Unpacked;
 ghost use mathlib.Core.Path.{_≡_};
 ghost use Rattle.bus_rules.specs.Ident.{packOf, unpackOf};
 ghost use Rattle.bus_rules.specs.Request.{readRequestOf, requestBytesOf};
-ghost use Rattle.bus_rules.specs.Device.{device};
+ghost use Rattle.bus_rules.specs.Device.{device, firstStateOf};
 ghost use Rattle.bus_rules.specs.Holder.{serveOf, deviceAfter};
 ghost use Rattle.honeygimlet.specs.Answers.{packedOut, unpackedOut};
 
@@ -54,15 +54,24 @@ pub extern "C" fn hg_bus_request_bytes(request: bus::Request) -> bus::RequestByt
 }
 
 #[no_mangle]
+pub extern "C" fn hg_bus_first_state(family: u8) -> bus::FirstState
+    ensures { λ r. ⌜ r ≡ firstStateOf family ⌝ }
+{
+    bus::holder::first_state(family)
+}
+
+#[no_mangle]
 pub extern "C" fn hg_bus_serve(
     directory: bus::Directory,
+    state: bus::HolderState,
     memory: &mut [u8],
     flash: &mut [u8],
     frame: bus::Frame,
-) -> bus::Served
-    ensures { λ r. ⌜ (r ≡ serveOf (device directory (now (memory .entry)) (now (flash .entry))) frame)
-        × (now (memory .exit) ≡ deviceAfter (device directory (now (memory .entry)) (now (flash .entry))) frame .memory)
-        × (now (flash .exit) ≡ deviceAfter (device directory (now (memory .entry)) (now (flash .entry))) frame .flash) ⌝ }
+) -> bus::HolderAnswer
+    ensures { λ r. ⌜ (r .served ≡ serveOf (device directory state (now (memory .entry)) (now (flash .entry))) frame)
+        × (r .state ≡ deviceAfter (device directory state (now (memory .entry)) (now (flash .entry))) frame .state)
+        × (now (memory .exit) ≡ deviceAfter (device directory state (now (memory .entry)) (now (flash .entry))) frame .memory)
+        × (now (flash .exit) ≡ deviceAfter (device directory state (now (memory .entry)) (now (flash .entry))) frame .flash) ⌝ }
 {
-    bus::holder::serve(directory, memory, flash, frame)
+    bus::holder::serve(directory, state, memory, flash, frame)
 }

@@ -12,13 +12,14 @@ use lib.ListN.{length, getD}
 use Rattle.wire.specs.Order.{_orElse_}
 use Rattle.wire.proofs.Orders.{order}
 use Rattle.bus_rules.specs.declared.Frame.{Frame}
+use Rattle.bus_rules.specs.declared.HolderState.{HolderState}
 use Rattle.bus_rules.specs.declared.Served.{Served}
 use Rattle.bus_rules.specs.Frames.{headNumber}
-use Rattle.bus_rules.specs.Device.{Device, device, ownOf, startOf, sizeOf, rightOf, memoryNumber}
-use Rattle.bus_rules.specs.Holder.{byteOf, noAnswer, kindNumber, serveNumber, serveOf, deviceAfter}
+use Rattle.bus_rules.specs.Device.{Device, device, ownOf, startOf, sizeOf, rightOf, memoryNumber, stateNumber}
+use Rattle.bus_rules.specs.Holder.{byteOf, noAnswer, kindNumber, deviceNumber, serveNumber, serveOf, deviceAfter}
 use Rattle.bus_rules.specs.Demand2.{Demand2}
 use Rattle.bus_rules.proofs.IdentLaws.{table-small}
-use Rattle.bus_rules.proofs.Cases.{served-case, refused-case, device-after, same-memories}
+use Rattle.bus_rules.proofs.Cases.{served-case, refused-case, device-after, same-held}
 use Rattle.bus_rules.specs.Examples.{Examples}
 use Rattle.bus_rules.proofs.FrameLaws.{IsFrame}
 use Rattle.bus_rules.proofs.Demand2.{demand2}
@@ -26,28 +27,29 @@ use Rattle.bus_rules.proofs.AllExamples.{examples}
 
 -- the device before the call
 abbrev before : tie.Start → Device
-before s = device (s .args .d) (s .args .memory .now) (s .args .flash .now)
+before s = device (s .args .d) (s .args .s) (s .args .memory .now) (s .args .flash .now)
 
 -- demand 2, of the values that the code's arguments have
-demanded : (s : tie.Start) (r : Served) (m k : List ℕ) → r ≡ serveOf (before s) (s .args .f)
-    → m ≡ deviceAfter (before s) (s .args .f) .memory → k ≡ deviceAfter (before s) (s .args .f) .flash
-    → Demand2 (before s) (s .args .f) r (device (s .args .d) m k)
+demanded : (s : tie.Start) (r : Served) (t : HolderState) (m k : List ℕ) → r ≡ serveOf (before s) (s .args .f)
+    → t ≡ deviceAfter (before s) (s .args .f) .state → m ≡ deviceAfter (before s) (s .args .f) .memory → k ≡ deviceAfter (before s) (s .args .f) .flash
+    → Demand2 (before s) (s .args .f) r (device (s .args .d) t m k)
 unfolding byteOf
-demanded s r m k p q g =
+demanded s r t m k p h q g =
     let a = s .args in
     let w : IsFrame (a .f) =
     record { eight = search needs; bytes = λ i l. let h : Fits w8 (getD (a .f .bytes) i 0) = search needs in omega arith } in
-    demand2 (before s) (a .f) r (device (a .d) m k) p (device-after (before s) (a .f) m k q g) w (search needs) (search needs)
+    demand2 (before s) (a .f) w r (device (a .d) t m k) p (device-after (before s) (a .f) t m k h q g) (search needs) (search needs)
 
 -- 11 and 10, then the frame's
-first-number : (e : Device) (f : Frame) (n : ℕ) → n ≡ memoryNumber (e .directory) (length (e .memory)) (length (e .flash)) → n ≢ 0
-    → n ≡ serveNumber e f
-unfolding serveNumber
+first-number : (e : Device) (f : Frame) (n : ℕ)
+    → n ≡ (stateNumber (e .directory) (e .state) orElse memoryNumber (e .directory) (length (e .memory)) (length (e .flash))) → n ≢ 0 → n ≡ serveNumber e f
+unfolding serveNumber deviceNumber
 first-number e f n h k = search order depth 12
 
-later-number : (e : Device) (f : Frame) (n k : ℕ) → n ≡ memoryNumber (e .directory) (length (e .memory)) (length (e .flash)) → n ≡ 0
+later-number : (e : Device) (f : Frame) (n k : ℕ)
+    → n ≡ (stateNumber (e .directory) (e .state) orElse memoryNumber (e .directory) (length (e .memory)) (length (e .flash))) → n ≡ 0
     → k ≡ (headNumber (ownOf e) f orElse kindNumber e f) → k ≡ serveNumber e f
-unfolding serveNumber
+unfolding serveNumber deviceNumber
 later-number e f n k h z l = search order depth 12
 
 -- the number of a frame to a sound device
@@ -60,19 +62,20 @@ number c =
     let m = c .before .before in
     let t = m .before .before .table-at .ensures in
     let k = m .before .before .before .table-of .ensures in
-    later-number (before s) (s .args .f) (m .before .memory-number .result) (c .frame-number .result) (m .before .memory-number .ensures) (m .if1 .left)
+    later-number (before s) (s .args .f) (m .before .device-number .result) (c .frame-number .result) (m .before .device-number .ensures) (m .if1 .left)
     (c .frame-number .ensures (before s) (t .1 ∙ ap (sizeOf (s .args .d)) k) (t .2 ∙ ap (rightOf (s .args .d)) k))
 
 -- a refusal
-refused : (s : tie.Start) (n : ℕ) (r : Served) → n ≡ serveNumber (before s) (s .args .f) → n ≢ 0 → r ≡ noAnswer n
-    → ((r ≡ serveOf (before s) (s .args .f)) × (s .args .memory .now ≡ deviceAfter (before s) (s .args .f) .memory)
-    × (s .args .flash .now ≡ deviceAfter (before s) (s .args .f) .flash))
-    × (Demand2 (before s) (s .args .f) r (before s) × Examples)
-refused s n r h k e =
+refused : (s : tie.Start) (n : ℕ) (r : Served) (t : HolderState) → n ≡ serveNumber (before s) (s .args .f) → n ≢ 0 → (r ≡ noAnswer n) × (t ≡ s .args .s)
+    → ((r ≡ serveOf (before s) (s .args .f)) × (t ≡ deviceAfter (before s) (s .args .f) .state)
+    × (s .args .memory .now ≡ deviceAfter (before s) (s .args .f) .memory) × (s .args .flash .now ≡ deviceAfter (before s) (s .args .f) .flash))
+    × (Demand2 (before s) (s .args .f) r (device (s .args .d) t (s .args .memory .now) (s .args .flash .now)) × Examples)
+refused s n r t h k e =
     let w = refused-case (before s) (s .args .f) n (sym h) k in
-    let p = e ∙ sym (w .0) in
-    let m = same-memories (w .1) in
-    ((p, m .0, m .1), (demanded s r _ _ p (m .0) (m .1), examples))
+    let p = e .0 ∙ sym (w .0) in
+    let m = same-held (w .1) in
+    let q = e .1 ∙ m .0 in
+    ((p, q, m .1, m .2), (demanded s r t _ _ p q (m .1) (m .2), examples))
 
 table-of-requires : tie.Need-table-of-requires
 table-of-requires c κs = search needs
@@ -83,18 +86,18 @@ cast-table-at c = search needs
 table-at-requires : tie.Need-table-at-requires
 table-at-requires c κs = omega (arith, c .table-of .ensures, table-small (c .before .before .before .args .f .id))
 
-memory-number-requires : tie.Need-memory-number-requires
-memory-number-requires c κs = search needs
+device-number-requires : tie.Need-device-number-requires
+device-number-requires c κs = search needs
 
-no-answer-requires : tie.Need-no-answer-requires
-no-answer-requires c κs = search needs
+refuse-requires : tie.Need-refuse-requires
+refuse-requires c κs = search needs
 
 returns : tie.Need-returns
 returns c =
     let s = c .before .before .before .before .before .before .before in
-    let n = c .before .before .memory-number in
+    let n = c .before .before .device-number in
     let k = c .before .if1 .taken in
-    refused s (n .result) _ (first-number (before s) (s .args .f) (n .result) (n .ensures) k) k (c .no-answer .ensures)
+    refused s (n .result) _ _ (first-number (before s) (s .args .f) (n .result) (n .ensures) k) k (c .refuse .ensures)
 
 parts-of-requires : tie.Need-parts-of-requires
 parts-of-requires c κs = search needs
@@ -102,13 +105,13 @@ parts-of-requires c κs = search needs
 frame-number-requires : tie.Need-frame-number-requires
 frame-number-requires c κs = c .parts-of .ensures
 
-no-answer-requires-2 : tie.Need-no-answer-requires-2
-no-answer-requires-2 c κs = search needs
+refuse-requires-2 : tie.Need-refuse-requires-2
+refuse-requires-2 c κs = search needs
 
 returns-2 : tie.Need-returns-2
 returns-2 c =
     let n = c .before .before in
-    refused (start n) (n .frame-number .result) _ (number n) (λ z. omega (arith, c .before .if2 .taken, z)) (c .no-answer2 .ensures)
+    refused (start n) (n .frame-number .result) _ _ (number n) (λ z. omega (arith, c .before .if2 .taken, z)) (c .refuse2 .ensures)
 
 act-requires : tie.Need-act-requires
 act-requires c κs =
@@ -136,10 +139,11 @@ returns-3 c =
     let s = start n in
     let e = served-case (before s) (s .args .f) (sym (number n) ∙ a .before .before .before .if2 .left) in
     let p = a .act .ensures .0 ∙ sym (e .0) in
-    let m = same-memories (e .1) in
-    let q = a .act .ensures .1 ∙ m .0 in
-    let g = a .act .ensures .2 ∙ m .1 in
-    ((p, q, g), (demanded s _ _ _ p q g, examples))
+    let m = same-held (e .1) in
+    let h = a .act .ensures .1 ∙ m .0 in
+    let q = a .act .ensures .2 ∙ m .1 in
+    let g = a .act .ensures .3 ∙ m .2 in
+    ((p, h, q, g), (demanded s _ _ _ _ p h q g, examples))
 
 pub serve-spec : {M : Type 1} → statement M
 serve-spec =
@@ -148,12 +152,12 @@ serve-spec =
     table-of-requires
     cast-table-at
     table-at-requires
-    memory-number-requires
-    no-answer-requires
+    device-number-requires
+    refuse-requires
     returns
     parts-of-requires
     frame-number-requires
-    no-answer-requires-2
+    refuse-requires-2
     returns-2
     act-requires
     same-length
