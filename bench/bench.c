@@ -26,7 +26,11 @@ PLAIN_DECLARE(gcc_O2_)
 /* The library's calls in the plain version's form. */
 #define LIBRARY_CALL static inline __attribute__((always_inline))
 LIBRARY_CALL void library_unpack(uint32_t id, hg_unpacked *out) { *out = hg_bus_unpack(id); }
-LIBRARY_CALL void library_serve(const hg_directory *d, uint8_t *memory, size_t memory_len, uint8_t *flash, size_t flash_len, const hg_frame *f, hg_served *out) { *out = hg_bus_serve(*d, memory, memory_len, flash, flash_len, *f); }
+LIBRARY_CALL void library_serve(const hg_directory *d, hg_holder_state *s, uint8_t *memory, size_t memory_len, uint8_t *flash, size_t flash_len, const hg_frame *f, hg_holder_answer *out)
+{
+    *out = hg_bus_serve(*d, *s, memory, memory_len, flash, flash_len, *f);
+    *s = out->state;
+}
 LIBRARY_CALL void library_turn(hg_bridge *b, const uint8_t *first, size_t first_len, const uint8_t *second, size_t second_len, hg_yielded *out) { *out = hg_bridge_turn_in_place(b, first, first_len, second, second_len); }
 LIBRARY_CALL void library_frame(hg_bridge *b, uint8_t *first, size_t first_len, const uint8_t *second, size_t second_len, const hg_frame *f, hg_yielded *out) { *out = hg_bridge_frame_in_place(b, first, first_len, second, second_len, *f); }
 LIBRARY_CALL void library_read_header(const uint8_t *file, size_t len, hg_mlg_header *out) { *out = hg_mlg_read_header(file, len); }
@@ -49,6 +53,8 @@ static uint64_t answer_digest(uint64_t h, uint8_t number, uint8_t frames, const 
     h = mixed(mixed(mixed(mixed(h, number), frames), f->id), f->len);
     return mixed_bytes(h, f->bytes, 8);
 }
+
+static uint64_t state_digest(uint64_t h, const hg_holder_state *s) { return mixed(mixed(mixed(h, s->family), s->has_current), s->current); }
 
 static uint64_t slot_digest(uint64_t h, const hg_slot *s)
 {
@@ -89,9 +95,16 @@ static uint32_t random_number(void)
 enum { IDS = 4096, FRAMES = 256, BRIDGES = 256, HEADERS = 16, ROOM = 1 << 20, LARGE = 15, SMALL = 16 };
 
 static uint32_t ids[IDS];
-static hg_directory directory, burn_directory; /* the second has LARGE tables of 2,056 bytes, then SMALL of 64, then one of the rest */
+static hg_directory directory, copy_directory; /* the second has LARGE tables of 2,056 bytes, then SMALL of 64, then one of the rest */
 static uint8_t memory[32768], memory_start[32768], flash[32768], flash_start[32768];
-static hg_frame commands[FRAMES], requests[FRAMES], small_burns[FRAMES], large_burns[FRAMES];
+static hg_holder_state states[FRAMES];
+
+/* Frames to a holder, and its state before each. */
+typedef struct {
+    hg_frame frames[FRAMES];
+    hg_holder_state before[FRAMES];
+} holder_inputs;
+static holder_inputs commands, requests, older_commands, older_requests, small_burns, large_burns, small_reloads, large_reloads;
 static hg_bridge bridges[BRIDGES];
 static uint8_t first[HG_BUFFER], first_start[HG_BUFFER], second[HG_BUFFER], second_start[HG_BUFFER];
 
@@ -106,6 +119,26 @@ static size_t log_lens[2];
 static const uint16_t log_sizes[2] = {32, 512};
 static uint8_t header_file[65536], list_file[65536], listed[ROOM];
 static size_t header_len, list_len;
+
+/* Before each frame the current table is its own, or, with `back` 1, that of the frame before it; before the first comes the last. */
+static void make_states(holder_inputs *in, uint8_t family, int back)
+{
+    for (int i = 0; i < FRAMES; i++) {
+        uint32_t id = in->frames[(i + FRAMES - back) % FRAMES].id;
+        in->before[i] = (hg_holder_state){family, 1, hg_bus_unpack(id).parts.table};
+    }
+}
+
+/* A request of 1 to 8 bytes, to any place of the sender. */
+static void make_request(hg_frame *r, hg_parts parts)
+{
+    parts.kind = HG_REQ;
+    r->id = hg_bus_pack(parts).id;
+    r->len = 3;
+    r->bytes[0] = (uint8_t)(random_number() % 32);
+    r->bytes[1] = (uint8_t)random_number();
+    r->bytes[2] = (uint8_t)(random_number() % 8 * 32 + 1 + random_number() % 8);
+}
 
 static void make_bus_inputs(void)
 {
@@ -122,33 +155,46 @@ static void make_bus_inputs(void)
         memory_start[i] = (uint8_t)random_number();
     for (int i = 0; i < FRAMES; i++) {
         hg_parts parts = {(uint16_t)(random_number() % 1016), HG_CMD, 3, 5, (uint8_t)(random_number() % 32)};
-        hg_frame *c = &commands[i], *r = &requests[i];
+        hg_frame *c = &commands.frames[i];
         c->id = hg_bus_pack(parts).id;
         c->len = (uint8_t)(1 + random_number() % 8);
         for (int k = 0; k < 8; k++)
             c->bytes[k] = (uint8_t)random_number();
-        parts.kind = HG_REQ;
-        r->id = hg_bus_pack(parts).id;
-        r->len = 3;
-        r->bytes[0] = (uint8_t)(random_number() % 32);
-        r->bytes[1] = (uint8_t)random_number();
-        r->bytes[2] = (uint8_t)(random_number() % 8 * 32 + 1 + random_number() % 8);
+        make_request(&requests.frames[i], parts);
     }
+    older_commands = commands;
+    older_requests = requests;
+    make_states(&commands, 3, 0);
+    make_states(&requests, 3, 0);
+    make_states(&older_commands, 2, 0);
+    make_states(&older_requests, 2, 0);
 }
 
 static void make_burn_inputs(void)
 {
-    burn_directory = directory;
+    copy_directory = directory;
     for (int i = 0; i < 32; i++)
-        burn_directory.sizes[i] = i < LARGE ? 2056 : i < LARGE + SMALL ? 64 : 32768 - LARGE * 2056 - SMALL * 64;
+        copy_directory.sizes[i] = i < LARGE ? 2056 : i < LARGE + SMALL ? 64 : 32768 - LARGE * 2056 - SMALL * 64;
     for (size_t i = 0; i < sizeof flash_start; i++)
         flash_start[i] = (uint8_t)random_number();
     for (int i = 0; i < FRAMES; i++) {
         hg_parts parts = {(uint16_t)(random_number() % 2048), HG_BURN, 3, 5, (uint8_t)(random_number() % LARGE)};
-        large_burns[i].id = hg_bus_pack(parts).id;
+        large_burns.frames[i].id = hg_bus_pack(parts).id;
         parts.table = (uint8_t)(LARGE + random_number() % SMALL);
-        small_burns[i].id = hg_bus_pack(parts).id;
+        small_burns.frames[i].id = hg_bus_pack(parts).id;
     }
+    make_states(&small_burns, 3, 0);
+    make_states(&large_burns, 3, 0);
+}
+
+/* Requests to the two halves of `count` tables by turns, on family 2: the table is never that of the frame before, so each is reloaded. */
+static void make_reloads(holder_inputs *in, unsigned first_table, unsigned count, unsigned offsets)
+{
+    for (unsigned i = 0; i < FRAMES; i++) {
+        unsigned table = first_table + i % 2 * (count / 2) + random_number() % (count / 2);
+        make_request(&in->frames[i], (hg_parts){(uint16_t)(random_number() % offsets), HG_REQ, 3, 5, (uint8_t)table});
+    }
+    make_states(in, 2, 1);
 }
 
 /* Opens transfers in free slots: reads and writes by turns, or checked writes, which all send the same bytes, so that the second buffer fits each. */
@@ -296,11 +342,20 @@ static void make_log_inputs(size_t bytes)
 
 static volatile uint64_t sink;
 
-static void restore_memory(void)
+static void restore_holder(const holder_inputs *in)
 {
     memcpy(memory, memory_start, sizeof memory);
     memcpy(flash, flash_start, sizeof flash);
+    memcpy(states, in->before, sizeof states);
 }
+static void restore_command(void) { restore_holder(&commands); }
+static void restore_request(void) { restore_holder(&requests); }
+static void restore_older_command(void) { restore_holder(&older_commands); }
+static void restore_older_request(void) { restore_holder(&older_requests); }
+static void restore_small_burn(void) { restore_holder(&small_burns); }
+static void restore_large_burn(void) { restore_holder(&large_burns); }
+static void restore_small_reload(void) { restore_holder(&small_reloads); }
+static void restore_large_reload(void) { restore_holder(&large_reloads); }
 static void restore_bridges(const hg_bridge *start)
 {
     memcpy(bridges, start, sizeof bridges);
@@ -334,18 +389,23 @@ static uint64_t buffers_digest(uint64_t h) { return mixed_bytes(mixed_bytes(h, f
     { \
         uint64_t a = 0; \
         for (int i = 0; i < FRAMES; i++) { \
-            hg_served s; \
-            V##_serve(d, memory, sizeof memory, flash, sizeof flash, &frames[i], &s); \
-            a += s.number + s.frame.id; \
+            hg_holder_answer out; \
+            V##_serve(d, &states[i], memory, sizeof memory, flash, sizeof flash, &frames[i], &out); \
+            hg_served *s = &out.served; \
+            a += s->number + s->frame.id; \
             if (check) \
-                a = mixed(answer_digest(a, s.number, s.frames, &s.frame), s.clear); \
+                a = state_digest(mixed(answer_digest(a, s->number, s->frames, &s->frame), s->clear), &states[i]); \
         } \
         return check ? mixed_bytes(mixed_bytes(a, memory, sizeof memory), flash, sizeof flash) : a; \
     } \
-    BODY command_body_##V(bool check) { return serve_frames_##V(&directory, commands, check); } \
-    BODY request_body_##V(bool check) { return serve_frames_##V(&directory, requests, check); } \
-    BODY small_burn_body_##V(bool check) { return serve_frames_##V(&burn_directory, small_burns, check); } \
-    BODY large_burn_body_##V(bool check) { return serve_frames_##V(&burn_directory, large_burns, check); } \
+    BODY command_body_##V(bool check) { return serve_frames_##V(&directory, commands.frames, check); } \
+    BODY request_body_##V(bool check) { return serve_frames_##V(&directory, requests.frames, check); } \
+    BODY older_command_body_##V(bool check) { return serve_frames_##V(&directory, older_commands.frames, check); } \
+    BODY older_request_body_##V(bool check) { return serve_frames_##V(&directory, older_requests.frames, check); } \
+    BODY small_burn_body_##V(bool check) { return serve_frames_##V(&copy_directory, small_burns.frames, check); } \
+    BODY large_burn_body_##V(bool check) { return serve_frames_##V(&copy_directory, large_burns.frames, check); } \
+    BODY small_reload_body_##V(bool check) { return serve_frames_##V(&copy_directory, small_reloads.frames, check); } \
+    BODY large_reload_body_##V(bool check) { return serve_frames_##V(&copy_directory, large_reloads.frames, check); } \
     BODY turn_body_##V(bool check) \
     { \
         uint64_t a = 0; \
@@ -419,8 +479,12 @@ typedef uint64_t batch(void);
 DEFINE_TEST_BATCHES(unpack)
 DEFINE_TEST_BATCHES(command)
 DEFINE_TEST_BATCHES(request)
+DEFINE_TEST_BATCHES(older_command)
+DEFINE_TEST_BATCHES(older_request)
 DEFINE_TEST_BATCHES(small_burn)
 DEFINE_TEST_BATCHES(large_burn)
+DEFINE_TEST_BATCHES(small_reload)
+DEFINE_TEST_BATCHES(large_reload)
 DEFINE_TEST_BATCHES(turn)
 DEFINE_TEST_BATCHES(frame)
 DEFINE_TEST_BATCHES(check_turn)
@@ -442,10 +506,14 @@ typedef struct {
 #define CHECKS(TEST) {TEST##_check_library, TEST##_check_gcc_O3, TEST##_check_clang_O3, TEST##_check_gcc_O2}
 static test tests[] = {
     {"unpack", "unpack", restore_nothing, IDS, 4000, RUNS(unpack), CHECKS(unpack)},
-    {"command", "serve a CMD", restore_memory, FRAMES, 8000, RUNS(command), CHECKS(command)},
-    {"request", "serve a REQ", restore_memory, FRAMES, 8000, RUNS(request), CHECKS(request)},
-    {"small_burn", "serve a BURN, 64 bytes", restore_memory, FRAMES, 8000, RUNS(small_burn), CHECKS(small_burn)},
-    {"large_burn", "serve a BURN, 2,056 bytes", restore_memory, FRAMES, 2000, RUNS(large_burn), CHECKS(large_burn)},
+    {"command", "serve a CMD", restore_command, FRAMES, 8000, RUNS(command), CHECKS(command)},
+    {"request", "serve a REQ", restore_request, FRAMES, 8000, RUNS(request), CHECKS(request)},
+    {"older_command", "serve a CMD, family 2", restore_older_command, FRAMES, 8000, RUNS(older_command), CHECKS(older_command)},
+    {"older_request", "serve a REQ, family 2", restore_older_request, FRAMES, 8000, RUNS(older_request), CHECKS(older_request)},
+    {"small_burn", "serve a BURN, 64 bytes", restore_small_burn, FRAMES, 8000, RUNS(small_burn), CHECKS(small_burn)},
+    {"large_burn", "serve a BURN, 2,056 bytes", restore_large_burn, FRAMES, 2000, RUNS(large_burn), CHECKS(large_burn)},
+    {"small_reload", "serve a REQ, 64 bytes reloaded", restore_small_reload, FRAMES, 8000, RUNS(small_reload), CHECKS(small_reload)},
+    {"large_reload", "serve a REQ, 2,056 bytes reloaded", restore_large_reload, FRAMES, 2000, RUNS(large_reload), CHECKS(large_reload)},
     {"turn", "turn in place", restore_turn, BRIDGES, 8000, RUNS(turn), CHECKS(turn)},
     {"frame", "frame in place", restore_frame, BRIDGES, 8000, RUNS(frame), CHECKS(frame)},
     {"check_turn", "turn, checked writes", restore_check_turn, BRIDGES, 8000, RUNS(check_turn), CHECKS(check_turn)},
@@ -537,6 +605,8 @@ int main(int argc, char **argv)
     make_bridge_inputs();
     make_log_inputs(counts ? (size_t)1 << 20 : (size_t)64 << 20);
     make_burn_inputs();
+    make_reloads(&small_reloads, LARGE, SMALL, 64 - 7);
+    make_reloads(&large_reloads, 0, LARGE, 2048);
     for (int i = 0; i < TESTS; i++)
         if (tests[i].operations == 0)
             tests[i].operations = blocks_in(strcmp(tests[i].key, "log512") == 0);

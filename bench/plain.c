@@ -53,8 +53,17 @@ static void no_frame(hg_served *out, uint8_t number)
 
 /* ---- Table holder ---- */
 
+static bool sound_state(const hg_directory *d, const hg_holder_state *s)
+{
+    if (s->family != 2 && s->family != 3)
+        return false;
+    if (s->has_current == 0)
+        return s->current == 0;
+    return s->has_current == 1 && s->current < 32 && d->sizes[s->current] != 0;
+}
+
 /* 11 and 10, or 0. */
-static uint8_t memory_number(const hg_directory *d, size_t memory_len, size_t flash_len)
+static uint8_t memory_number(const hg_directory *d, const hg_holder_state *s, size_t memory_len, size_t flash_len)
 {
     unsigned bad = d->own > 15, total = 0;
     for (int i = 0; i < 32; i++) {
@@ -62,7 +71,7 @@ static uint8_t memory_number(const hg_directory *d, size_t memory_len, size_t fl
         bad |= d->rights[i] > 2;
         total += d->sizes[i];
     }
-    if (bad || total > 32768)
+    if (bad || total > 32768 || !sound_state(d, s))
         return 11;
     return memory_len == total && flash_len == total ? 0 : 10;
 }
@@ -75,7 +84,16 @@ static size_t start_of(const hg_directory *d, size_t table)
     return at;
 }
 
-static size_t place_of(const hg_directory *d, uint32_t id) { return start_of(d, table_of(id)) + offset_of(id); }
+/* Makes a table current, which family 2 first reloads unless it was; hands back its start. */
+static size_t make_current(const hg_directory *d, hg_holder_state *s, uint8_t *memory, const uint8_t *flash, unsigned table)
+{
+    size_t start = start_of(d, table);
+    if (s->family == 2 && !(s->has_current && s->current == table))
+        memcpy(memory + start, flash + start, d->sizes[table]);
+    s->has_current = 1;
+    s->current = (uint8_t)table;
+    return start;
+}
 
 /* The request's reserved bits are ignored; `clear` says whether they are 0. */
 static void reply(const hg_directory *d, const hg_frame *f, const uint8_t *request, const uint8_t *bytes, hg_served *out)
@@ -90,42 +108,44 @@ static void reply(const hg_directory *d, const hg_frame *f, const uint8_t *reque
         out->frame.bytes[i] = i < count ? bytes[i] : 0;
 }
 
-static uint8_t serve_command(const hg_directory *d, uint8_t *memory, const hg_frame *f)
+static uint8_t serve_command(const hg_directory *d, hg_holder_state *s, uint8_t *memory, const uint8_t *flash, const hg_frame *f)
 {
-    unsigned table = table_of(f->id);
-    if (f->len == 0)
+    unsigned table = table_of(f->id), offset = offset_of(f->id), len = f->len;
+    if (len == 0)
         return 6;
     if (d->sizes[table] == 0 || d->rights[table] != 2)
         return 7;
-    if (offset_of(f->id) + f->len > d->sizes[table])
+    if (offset + len > d->sizes[table])
         return 8;
-    memcpy(memory + place_of(d, f->id), f->bytes, f->len);
+    size_t start = make_current(d, s, memory, flash, table);
+    memcpy(memory + start + offset, f->bytes, len);
     return 0;
 }
 
-static uint8_t serve_request(const hg_directory *d, const uint8_t *memory, const hg_frame *f, hg_served *out)
+static uint8_t serve_request(const hg_directory *d, hg_holder_state *s, uint8_t *memory, const uint8_t *flash, const hg_frame *f, hg_served *out)
 {
-    unsigned table = table_of(f->id), count = f->bytes[2] & 15;
+    unsigned table = table_of(f->id), offset = offset_of(f->id), count = f->bytes[2] & 15;
     if (f->len != 3)
         return 6;
     if (d->sizes[table] == 0 || d->rights[table] == 0)
         return 7;
     if (count < 1 || count > 8)
         return 9;
-    if (offset_of(f->id) + count > d->sizes[table])
+    if (offset + count > d->sizes[table])
         return 8;
-    reply(d, f, f->bytes, memory + place_of(d, f->id), out);
+    size_t start = make_current(d, s, memory, flash, table);
+    reply(d, f, f->bytes, memory + start + offset, out);
     return 0;
 }
 
-static uint8_t serve_burn(const hg_directory *d, const uint8_t *memory, uint8_t *flash, const hg_frame *f, hg_served *out)
+static uint8_t serve_burn(const hg_directory *d, hg_holder_state *s, uint8_t *memory, uint8_t *flash, const hg_frame *f, hg_served *out)
 {
     unsigned table = table_of(f->id);
     if (f->len != 0)
         return 6;
     if (d->sizes[table] == 0 || d->rights[table] != 2)
         return 7;
-    size_t start = start_of(d, table);
+    size_t start = make_current(d, s, memory, flash, table);
     memcpy(flash + start, memory + start, d->sizes[table]);
     *out = (hg_served){0, 1, 0, {id_of(0, HG_XTND, d->own, from_of(f->id), table), 2, {0x0E, 0x01}}};
     return 0;
@@ -148,28 +168,30 @@ static uint8_t serve_query(const hg_directory *d, const hg_frame *f, hg_served *
     return 0;
 }
 
-void PLAIN(serve)(const hg_directory *d, uint8_t *memory, size_t memory_len, uint8_t *flash, size_t flash_len, const hg_frame *f, hg_served *out)
+/* The state is changed in place; of the answer `served` alone is set. */
+void PLAIN(serve)(const hg_directory *d, hg_holder_state *s, uint8_t *memory, size_t memory_len, uint8_t *flash, size_t flash_len,
+                  const hg_frame *f, hg_holder_answer *out)
 {
-    uint8_t number = memory_number(d, memory_len, flash_len);
+    uint8_t number = memory_number(d, s, memory_len, flash_len);
     if (number == 0)
         number = head_number(d->own, f);
     if (number == 0) {
         switch (kind_of(f->id)) {
         case HG_CMD:
-            number = serve_command(d, memory, f);
+            number = serve_command(d, s, memory, flash, f);
             break;
         case HG_REQ:
-            number = serve_request(d, memory, f, out);
+            number = serve_request(d, s, memory, flash, f, &out->served);
             if (number == 0)
                 return;
             break;
         case HG_BURN:
-            number = serve_burn(d, memory, flash, f, out);
+            number = serve_burn(d, s, memory, flash, f, &out->served);
             if (number == 0)
                 return;
             break;
         case HG_XTND:
-            number = serve_query(d, f, out);
+            number = serve_query(d, f, &out->served);
             if (number == 0)
                 return;
             break;
@@ -177,7 +199,7 @@ void PLAIN(serve)(const hg_directory *d, uint8_t *memory, size_t memory_len, uin
             number = 5;
         }
     }
-    no_frame(out, number);
+    no_frame(&out->served, number);
 }
 
 /* ---- Bridge ---- */

@@ -61,50 +61,92 @@ static hg_frame framed(hg_parts parts, const char *bytes, uint8_t len) {
     return frame;
 }
 
-/* Both memories of a holder, and how they are lent with these lengths. */
+/* A holder: its directory, its state and both memories, and how the memories are lent with these lengths. */
 typedef struct {
+    hg_directory directory;
+    hg_holder_state state;
     uint8_t memory[50], flash[50];
-} memories;
+} tables;
 #define HELD(n, m) .memory = held.memory, .memory_len = n, .flash = held.flash, .flash_len = m
 #define WHOLE HELD(50, 50)
+/* The next call gets the state that this one hands back. */
+#define SERVE(f) (held.state = CALL(hg_bus_serve, .directory = held.directory, .state = held.state, WHOLE, .frame = f).state)
 
-static void holder(void) {
-    hg_directory directory = {.table_blocking = 0x1234, .write_blocking = 0x5678, .own = 9};
-    hg_directory unsound;
-    memories held;
-    hg_parts to_22 = {.offset = 17, .kind = HG_CMD, .from = 3, .to = 9, .table = 22};
-    hg_parts request = to_22, query = to_22, burn = to_22, burn_3;
-    hg_frame command = framed(to_22, "store", 5), frames[2], too_long = command;
-    request.kind = HG_REQ, query.kind = HG_XTND, burn.kind = HG_BURN;
-    burn_3 = burn, burn_3.table = 3;
-    too_long.len = 9;
-    directory.sizes[3] = 20, directory.rights[3] = 1;
-    directory.sizes[22] = 30, directory.rights[22] = 2;
-    unsound = directory, unsound.own = 16;
+/* Table 3 of twenty bytes may be read, table 22 of thirty may be written; all others are empty. */
+static tables fresh_tables(void) {
+    tables held = {.directory = {.table_blocking = 0x1234, .write_blocking = 0x5678, .own = 9}, .state = {0}};
+    held.directory.sizes[3] = 20, held.directory.rights[3] = 1;
+    held.directory.sizes[22] = 30, held.directory.rights[22] = 2;
     fill(held.memory, 50, 1);
     fill(held.flash, 50, 60);
-    CALL(hg_bus_serve, .directory = directory, WHOLE, .frame = command);
+    return held;
+}
+
+/* A frame of device 3 for a table of device 9. */
+static hg_frame to_table(uint8_t table, uint8_t kind, const char *bytes, uint8_t len) {
+    hg_parts parts = {.offset = 13, .kind = kind, .from = 3, .to = 9, .table = table};
+    return framed(parts, bytes, len);
+}
+
+static void holder(void) {
+    tables held = fresh_tables();
+    hg_frame command = to_table(22, HG_CMD, "store", 5), too_long = command;
+    too_long.len = 9;
+    held.state = CALL(hg_bus_first_state, .family = 2).state;
+    SERVE(command);
     /* six bytes, to table 4 and offset 300; the same with bit 4 set, and with two of the top bits; nine bytes */
-    CALL(hg_bus_serve, .directory = directory, WHOLE, .frame = framed(request, "\x04\x25\x86", 3));
-    CALL(hg_bus_serve, .directory = directory, WHOLE, .frame = framed(request, "\x04\x25\x96", 3));
-    CALL(hg_bus_serve, .directory = directory, WHOLE, .frame = framed(request, "\xA4\x25\x86", 3));
-    CALL(hg_bus_serve, .directory = directory, WHOLE, .frame = framed(request, "\x04\x25\x89", 3));
-    CALL(hg_bus_serve, .directory = directory, WHOLE, .frame = framed(query, "\x80\x04\x25\x85", 4));
-    CALL(hg_bus_serve, .directory = directory, WHOLE, .frame = framed(query, "\x80\x04\x25\x95", 4));
-    CALL(hg_bus_serve, .directory = directory, WHOLE, .frame = framed(query, "\x80\xA4\x25\x85", 4));
-    CALL(hg_bus_serve, .directory = directory, WHOLE, .frame = too_long);
+    SERVE(to_table(22, HG_REQ, "\x04\x25\x86", 3));
+    SERVE(to_table(22, HG_REQ, "\x04\x25\x96", 3));
+    SERVE(to_table(22, HG_REQ, "\xA4\x25\x86", 3));
+    SERVE(to_table(22, HG_REQ, "\x04\x25\x89", 3));
+    SERVE(to_table(22, HG_XTND, "\x80\x04\x25\x85", 4));
+    SERVE(to_table(22, HG_XTND, "\x80\x04\x25\x95", 4));
+    SERVE(to_table(22, HG_XTND, "\x80\xA4\x25\x85", 4));
+    SERVE(too_long);
     /* a burn, a write and a request after it; a burn with a byte, and one of a table that may be read; an acknowledgement */
-    CALL(hg_bus_serve, .directory = directory, WHOLE, .frame = framed(burn, "", 0));
-    CALL(hg_bus_serve, .directory = directory, WHOLE, .frame = framed(to_22, "again", 5));
-    CALL(hg_bus_serve, .directory = directory, WHOLE, .frame = framed(request, "\x04\x25\x86", 3));
-    CALL(hg_bus_serve, .directory = directory, WHOLE, .frame = framed(burn, "b", 1));
-    CALL(hg_bus_serve, .directory = directory, WHOLE, .frame = framed(burn_3, "", 0));
-    CALL(hg_bus_serve, .directory = directory, WHOLE, .frame = framed(query, "\x0E\x01", 2));
-    frames[0] = command, frames[1] = framed(burn, "", 0);
+    SERVE(to_table(22, HG_BURN, "", 0));
+    SERVE(to_table(22, HG_CMD, "again", 5));
+    SERVE(to_table(22, HG_REQ, "\x04\x25\x86", 3));
+    SERVE(to_table(22, HG_BURN, "b", 1));
+    SERVE(to_table(3, HG_BURN, "", 0));
+    SERVE(to_table(22, HG_XTND, "\x0E\x01", 2));
+}
+
+/* A table is written and left for another, and used again; none is current at first, and a query changes nothing. */
+static void holder_families(void) {
+    const uint8_t families[] = {2, 3}, kinds[] = {HG_REQ, HG_CMD, HG_BURN};
+    const char *bytes[] = {"\x04\x25\x86", "new", ""};
+    CALL(hg_bus_first_state, .family = 1);
+    CALL(hg_bus_first_state, .family = 4);
+    for (int i = 0; i < 6; i++) {
+        tables held = fresh_tables();
+        held.state = CALL(hg_bus_first_state, .family = families[i / 3]).state;
+        SERVE(to_table(22, HG_XTND, "\x80\x04\x25\x81", 4));
+        SERVE(to_table(22, HG_CMD, "store", 5));
+        SERVE(to_table(3, HG_XTND, "\x80\x04\x25\x81", 4));
+        SERVE(to_table(3, HG_REQ, "\x04\x25\x86", 3));
+        SERVE(to_table(22, kinds[i % 3], bytes[i % 3], kinds[i % 3] == HG_BURN ? 0 : 3));
+    }
+}
+
+/* A CMD and a BURN with an unsound directory, with unsound states, and with either memory short. */
+static void holder_refusals(void) {
+    const hg_holder_state unsound[] = {
+        {.family = 4, .has_current = 1, .current = 22}, {.family = 2, .has_current = 2, .current = 22},
+        {.family = 2, .has_current = 0, .current = 22}, {.family = 3, .has_current = 1, .current = 21},
+        {.family = 3, .has_current = 1, .current = 54},
+    };
+    tables held = fresh_tables();
+    hg_directory other = held.directory;
+    hg_frame frames[2];
+    other.own = 16;
+    held.state = (hg_holder_state){.family = 2, .has_current = 1, .current = 3};
+    frames[0] = to_table(22, HG_CMD, "store", 5), frames[1] = to_table(22, HG_BURN, "", 0);
     for (int i = 0; i < 2; i++) {
-        CALL(hg_bus_serve, .directory = unsound, WHOLE, .frame = frames[i]);
-        CALL(hg_bus_serve, .directory = directory, HELD(49, 50), .frame = frames[i]);
-        CALL(hg_bus_serve, .directory = directory, HELD(50, 49), .frame = frames[i]);
+        CALL(hg_bus_serve, .directory = other, .state = held.state, WHOLE, .frame = frames[i]);
+        for (int k = 0; k < 5; k++) CALL(hg_bus_serve, .directory = held.directory, .state = unsound[k], WHOLE, .frame = frames[i]);
+        CALL(hg_bus_serve, .directory = held.directory, .state = held.state, HELD(49, 50), .frame = frames[i]);
+        CALL(hg_bus_serve, .directory = held.directory, .state = held.state, HELD(50, 49), .frame = frames[i]);
     }
 }
 
@@ -336,6 +378,8 @@ int main(void) {
     identifiers();
     requests();
     holder();
+    holder_families();
+    holder_refusals();
     bridge_by_value();
     bridge_in_place();
     bridge_rests();

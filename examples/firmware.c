@@ -11,9 +11,11 @@
  * again.
  * Then a board (number 2) asks the device the same twice, once with a reserved bit of the request set. It gets the same answer; the device
  * keeps count of each sender's requests, and of those whose reserved bits were clear.
- * Last, the dash tunes: it writes today's map into table 3 and burns it; a BURN of table 7, which is read only, is refused; then it writes
+ * Then the dash tunes: it writes today's map into table 3 and burns it; a BURN of table 7, which is read only, is refused; then it writes
  * another map and does not burn that. The device is switched off and loses its working memory; at power-up its host loads that from flash. The
  * dash reads today's map, not yesterday's, and table 7 is as at the start.
+ * Up to here the device is of family 3. Last, it is a Megasquirt-2 (family 2), which keeps a single table in working memory. The dash writes a map into
+ * table 3, does not burn it and reads table 7: table 3 then has the map burnt before. It writes another map, burns that and reads table 7: it is kept.
  *
  *     gcc -std=c11 -Iinclude examples/firmware.c target/staticlib/libhoneygimlet.a -o target/firmware
  */
@@ -67,6 +69,7 @@ static bool bus_take(unsigned turn, bus_event *event)
 /* ---- The device: a table holder, and its host ---- */
 
 static hg_directory directory; /* all tables empty at first */
+static hg_holder_state state; /* the family, and the current table */
 static uint8_t memory[512 + 32], flash[512 + 32]; /* working memory, and flash of the same layout */
 static uint8_t *const write_table = memory, *const write_flash = flash;         /* table 3: 32 bytes, read and write */
 static uint8_t *const read_table = memory + 32, *const read_flash = flash + 32; /* table 7: 512 bytes, read only */
@@ -76,9 +79,15 @@ static unsigned missed; /* which CMD from now on the device misses, counted from
 static unsigned slow;   /* how many turns late its next reply is */
 static unsigned answered[16], clear[16]; /* each sender's requests that it answered, and those of them whose reserved bits were clear */
 
-/* At power-up the host loads working memory from flash. */
-static void power_up(void)
+/* At power-up the host loads working memory from flash, and no table is current. */
+static void power_up(uint8_t family)
 {
+    hg_first_state fresh = hg_bus_first_state(family);
+    if (fresh.number != 0) {
+        printf("the family is refused with number %u\n", fresh.number);
+        exit(1);
+    }
+    state = fresh.state;
     memcpy(memory, flash, sizeof memory);
     unplugged = false;
 }
@@ -101,7 +110,7 @@ static void device_start(void)
     memcpy(write_flash + WRITE_OFFSET, "fuel map old", MAP_COUNT);
     for (size_t i = 0; i < 512; i++)
         read_flash[i] = (uint8_t)(i * 7 + 3);
-    power_up();
+    power_up(3);
 }
 
 /* Serves a frame. The third reply is lost, the sixth arrives 25 turns late. */
@@ -115,7 +124,9 @@ static void device_frame(unsigned turn, hg_frame frame)
         printf("turn %3u  device  misses 0x%08" PRIX32 "\n", turn, frame.id);
         return;
     }
-    hg_served served = hg_bus_serve(directory, memory, sizeof memory, flash, sizeof flash, frame);
+    hg_holder_answer answer = hg_bus_serve(directory, state, memory, sizeof memory, flash, sizeof flash, frame);
+    hg_served served = answer.served;
+    state = answer.state; /* after a refusal too: then it is as it was */
     if (parts.kind == HG_BURN) /* answered 0, a real host now writes the table to its flash chip, before the acknowledgement goes out */
         printf("turn %3u  device  %s table %u, number %u\n", turn, served.number == 0 ? "burns" : "does not burn", parts.table, served.number);
     if (!served.frames)
@@ -283,6 +294,14 @@ static bool read_done(uint32_t ticket, const uint8_t *bytes, size_t count, const
     return same;
 }
 
+/* Whether a read, once it has ended, shows the bytes that it should, and can be closed. */
+static bool read_shows(uint32_t ticket, const uint8_t *bytes, size_t count, const char *whose)
+{
+    while (hg_bridge_status(bridge, ticket) == HG_NOT_FINISHED)
+        loop_turn();
+    return read_done(ticket, bytes, count, whose) && closed(ticket);
+}
+
 /* A read and a write at the same time; false where the device's tables are not what they should be. */
 static bool read_and_write(void)
 {
@@ -367,9 +386,7 @@ static uint32_t open_rested(uint16_t offset)
 
 static bool read_eight(uint32_t ticket, uint16_t offset)
 {
-    while (hg_bridge_status(bridge, ticket) == HG_NOT_FINISHED)
-        loop_turn();
-    return read_done(ticket, read_table + offset, 8, "the table's") && closed(ticket);
+    return read_shows(ticket, read_table + offset, 8, "the table's");
 }
 
 /* A read is closed before its answer, which comes 20 turns late; false where anybody gets its bytes. */
@@ -434,12 +451,20 @@ static bool burn(uint8_t table, bool expected)
     return same;
 }
 
-/* Whether flash, or working memory after power-up, is as it should be: table 3 as it was burnt, table 7 as at the start. */
+/* Whether flash, or working memory after power-up or a reload, is as it should be: table 3 as it was burnt, table 7 as at the start. */
 static bool has_burnt(const char *where, const uint8_t *bytes, const uint8_t *wanted)
 {
     bool same = memcmp(bytes, wanted, sizeof flash) == 0;
     printf("          device  has in %s %s\n", where, same ? "the map burnt, and table 7 as at the start" : "NOT what it should");
     return same;
+}
+
+/* The dash reads the map; false where it is another than the one burnt. */
+static bool read_map(const char *burnt)
+{
+    uint32_t ticket = opened("read", hg_bridge_open_read(bridge, first, sizeof first, second, sizeof second, DEVICE, WRITE_TABLE,
+                                                         WRITE_OFFSET, MAP_COUNT));
+    return read_shows(ticket, (const uint8_t *)burnt, MAP_COUNT, "the map burnt");
 }
 
 /* The device is off for a turn, then on again; false where the dash does not read the map that it burnt. */
@@ -449,13 +474,8 @@ static bool off_and_on(const uint8_t *wanted)
     puts("          device  is switched off");
     loop_turn();
     puts("          device  is switched on");
-    power_up();
-    uint32_t ticket = opened("read", hg_bridge_open_read(bridge, first, sizeof first, second, sizeof second, DEVICE, WRITE_TABLE,
-                                                         WRITE_OFFSET, MAP_COUNT));
-    while (hg_bridge_status(bridge, ticket) == HG_NOT_FINISHED)
-        loop_turn();
-    return read_done(ticket, (const uint8_t *)"fuel map new", MAP_COUNT, "the map burnt") && closed(ticket) &&
-           has_burnt("working memory", memory, wanted);
+    power_up(3);
+    return read_map("fuel map new") && has_burnt("working memory", memory, wanted);
 }
 
 /* Today's map is burnt, a later one is not; false where the device has another one after it was switched off, or lost table 7. */
@@ -470,6 +490,27 @@ static bool tune(void)
     if (!burn(WRITE_TABLE, true) || !has_burnt("flash", flash, wanted) || !burn(READ_TABLE, false) || !has_burnt("flash", flash, wanted))
         return false;
     return check("fuel map odd", HG_DONE) && off_and_on(wanted);
+}
+
+/* Writes a map, burns it or not, and reads table 7 before the map; false where that is not the one which is now in flash. */
+static bool touch_another(const char *map, bool burns, const char *in_flash)
+{
+    uint8_t wanted[sizeof flash];
+    memcpy(wanted, flash, sizeof wanted);
+    memcpy(wanted + WRITE_OFFSET, in_flash, MAP_COUNT);
+    rested_reset();
+    if (!check(map, HG_DONE) || (burns && !burn(WRITE_TABLE, true)) || !read_eight(open_rested(0), 0) || !read_map(in_flash))
+        return false;
+    printf("          dash    wrote \"%s\", %s, and reads \"%s\"\n", map, burns ? "burnt" : "not burnt", in_flash);
+    return has_burnt("flash", flash, wanted) && has_burnt("working memory", memory, wanted);
+}
+
+/* On a Megasquirt-2 a map that is not burnt is gone once another table is read, and a burnt one is not; false where it is otherwise. */
+static bool forget(void)
+{
+    puts("          device  is a Megasquirt-2 from now on");
+    power_up(2);
+    return touch_another("fuel map odd", false, "fuel map new") && touch_another("fuel map top", true, "fuel map top");
 }
 
 int main(void)
@@ -488,5 +529,5 @@ int main(void)
     if (!check("fuel map six", HG_DIFFERENT))
         return 1;
     rested_reset();
-    return late_answer() && reserved_bit() && tune() ? 0 : 1;
+    return late_answer() && reserved_bit() && tune() && forget() ? 0 : 1;
 }

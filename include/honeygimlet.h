@@ -4,7 +4,7 @@
  *
  * Every call judges its arguments: any number in any argument is allowed, and a refusal carries one of the numbers below,
  * changes nothing that it was lent and yields no frame; every other number in its answer is 0, save a block's kind and place, and the
- * bridge that a call by value hands back as it was.
+ * bridge or the holder's state that a call by value hands back as it was.
  * What a caller must see to, since no call can: a pointer is not null (not even with length 0), points to as many bytes as
  * the length beside it says, fewer than 2^63, and memory that a call may write overlaps no other memory lent to that call.
  * What is handed in by value is initialised: `hg_bridge b = {0};` before the first reset, `hg_frame f = {0};` before its bytes are set.
@@ -13,19 +13,19 @@
  * them different memory do not meet. No call's time grows with a product of two lengths. What it grows with, and the bytes of stack
  * that a call takes at most, beside its arguments, its answer and what memcpy takes (the first row that fits):
  *
- *   hg_bus_serve                              size of a burnt table, at most 2,056  209
- *   hg_bus_*                                  nothing                                 8
- *   hg_bridge_*                               nothing                               733
- *   hg_mlg_read_block                         record length                          72
- *   hg_mlg_write_data                         record length                          16
- *   hg_mlg_write_mark, hg_mlg_*_value         nothing                                88
- *   hg_mlg_write_header                       fields, names and info                712
- *   hg_mlg_read_header, hg_mlg_*_span         data begin: the header is judged      744
- *   hg_mlg_count_blocks                       length of the file                    808
- *   hg_mlg_list                               length of the file, at most 65,536  1,048
- *   hg_frd_count_blocks                       number of blocks                      104
- *   hg_frd_write_data                         record length                           8
- *   hg_frd_*                                  nothing                                72
+ *   hg_bus_serve                              size of a burnt or reloaded table, at most 2,056  240
+ *   hg_bus_*                                  nothing                                             8
+ *   hg_bridge_*                               nothing                                           733
+ *   hg_mlg_read_block                         record length                                      72
+ *   hg_mlg_write_data                         record length                                      16
+ *   hg_mlg_write_mark, hg_mlg_*_value         nothing                                            88
+ *   hg_mlg_write_header                       fields, names and info                            712
+ *   hg_mlg_read_header, hg_mlg_*_span         data begin: the header is judged                  744
+ *   hg_mlg_count_blocks                       length of the file                                808
+ *   hg_mlg_list                               length of the file, at most 65,536              1,048
+ *   hg_frd_count_blocks                       number of blocks                                  104
+ *   hg_frd_write_data                         record length                                       8
+ *   hg_frd_*                                  nothing                                            72
  *
  * "Numbers" in the comments are the refusals in the order in which they are judged; 0, done, is left out.
  */
@@ -165,6 +165,26 @@ typedef struct {
 } hg_directory;
 HG_SIZE(hg_directory, 102);
 
+/*
+ * A holder's state: its family, and its current table, which is that of the last CMD, REQ or BURN answered 0, on either family; at first none is.
+ * It goes by value. Set it from hg_bus_first_state, and hand on what each call hands back, `state = answer.state`, also after a refusal,
+ * which hands back the state that it was given. Sound, else 11: family is 2 or 3, and either has_current and current are 0, or has_current is 1 and
+ * current is a table whose size is not 0. So a state that was never set, all 0, makes every frame be refused; and so does one whose current table the
+ * host gave size 0: it sets has_current and current to 0 then.
+ */
+typedef struct {
+    uint8_t family;      /* 2, the older, or 3 */
+    uint8_t has_current; /* 1 where a table is current, else 0 */
+    uint8_t current;     /* that table, 0..31; 0 where none is */
+} hg_holder_state;
+HG_SIZE(hg_holder_state, 3);
+
+typedef struct {
+    uint8_t number;
+    hg_holder_state state; /* all 0 where the number is not 0 */
+} hg_first_state;
+HG_SIZE(hg_first_state, 4);
+
 /* An answer: a number, how many frames it has (0 or 1), the mark `clear`, and the frame, all 0 where there is none. */
 typedef struct {
     uint8_t number;
@@ -174,25 +194,43 @@ typedef struct {
 } hg_served;
 HG_SIZE(hg_served, 20);
 
+/* What a holder answers (its number is served.number), and its state after that, to be handed to the next call. */
+typedef struct {
+    hg_served served;
+    hg_holder_state state;
+} hg_holder_answer;
+HG_SIZE(hg_holder_answer, 24);
+
+/* A holder's state at power-up: of that family, and no table is current. Number: 11 (family other than 2 or 3). */
+hg_first_state hg_bus_first_state(uint8_t family);
+
 /*
  * What a holder of tables does with a frame. It is lent working memory (`memory`) and flash, ordinary memory in which the host keeps what its
- * flash chip holds: both lengths are the sum of the sizes, and the two must not overlap. A holder that nobody burns is lent a flash all the same.
+ * flash chip holds: both lengths are the sum of the sizes, and the two must not overlap. A holder that nobody burns is lent a flash all the same;
+ * on family 2 it holds the tables from the start, for they are reloaded from it.
  * CMD (length 1..8, right 2) stores its bytes at the offset of the table, in working memory alone, and has no answer; REQ (length 3, count
  * 1..8, right 1 or 2) answers with an RSP of the table's bytes in working memory; BURN (length 0, right 2; the offset is not looked at) makes
  * the table's bytes in flash equal to those in working memory, and answers the sender with its acknowledgement: an XTND with offset 0, the burnt
  * table and the two bytes 0x0E 0x01; XTND with the first byte 0x80, the protocol query (length 4, request bytes after the first, count 1 or
  * 5), answers with the protocol's version, or that and the two blocking factors. Other types, and XTND with another first byte, are 5: so is
  * an acknowledgement that arrives.
+ * A CMD, REQ or BURN answered 0 makes its table current. Family 2 (Megasquirt-2) keeps a single table in working memory: where the table was
+ * not current, it is first reloaded, its bytes in working memory made equal to those in flash, and what was written there and not burnt is gone;
+ * then a CMD writes into the reloaded bytes, a REQ answers from them, and a BURN burns them, so flash stays as it was. That goes for tables that may
+ * only be read too, and for bytes that the host itself put into working memory: live values it puts into flash as well. Family 3 never reloads.
+ * The protocol query, whatever table stands in its identifier, and refusals neither reload nor change the state.
  * No chip is written here: after a frame of kind HG_BURN answered 0 the host writes that table from flash to its chip, then sends the
  * acknowledgement; where the chip fails, it does not send it, and loads flash from the chip again (for 0x0E 0x00, burn failed, there is no call).
- * At power-up it loads flash from the chip, and working memory from flash.
+ * At power-up it loads flash from the chip, and working memory from flash, and starts with hg_bus_first_state again.
  * Reserved bits of a request are ignored, as by hg_bus_read_request: a set one changes `clear` and nothing else of the answer. `clear` is
  * 1 where a REQ or a protocol query was answered and its reserved bits were 0; it is 0 where one was set, for every other frame, a BURN too,
  * and in every refusal.
- * Numbers: 11, 10 (working memory or flash), 1, 2, 3, 4, 5, 6, 7, 9, 8, save that XTND of length 0 is 6; a BURN is never 9 or 8.
- * Changes the addressed bytes of working memory for a CMD answered 0, the table's bytes in flash for a BURN answered 0, and nothing else.
+ * Numbers: 11 (directory or state), 10 (working memory or flash), 1, 2, 3, 4, 5, 6, 7, 9, 8, save that XTND of length 0 is 6; a BURN is never 9
+ * or 8.
+ * Changes the addressed bytes of working memory for a CMD answered 0, the table's bytes in flash for a BURN answered 0, on family 2 the reloaded
+ * table's bytes in working memory, and nothing else.
  */
-hg_served hg_bus_serve(hg_directory directory, uint8_t *memory, size_t memory_len, uint8_t *flash, size_t flash_len, hg_frame frame);
+hg_holder_answer hg_bus_serve(hg_directory directory, hg_holder_state state, uint8_t *memory, size_t memory_len, uint8_t *flash, size_t flash_len, hg_frame frame);
 
 /* ---- Bridge ---- */
 

@@ -75,6 +75,22 @@ pub struct Directory {
     pub own: u8,
 }
 
+/// `has_current` is 1 where a table is current, else 0; `current` is that table, 0 where none is.
+#[repr(C)]
+#[derive(Clone, Copy, Debug, Default, PartialEq, Eq)]
+pub struct HolderState {
+    pub family: u8,
+    pub has_current: u8,
+    pub current: u8,
+}
+
+#[repr(C)]
+#[derive(Clone, Copy, Debug, Default, PartialEq, Eq)]
+pub struct FirstState {
+    pub number: u8,
+    pub state: HolderState,
+}
+
 /// `clear` is 1 for an answered REQ or protocol query whose reserved bits were 0, else 0.
 #[repr(C)]
 #[derive(Clone, Copy, Debug, Default, PartialEq, Eq)]
@@ -83,6 +99,13 @@ pub struct Served {
     pub frames: u8,
     pub clear: u8,
     pub frame: Frame,
+}
+
+#[repr(C)]
+#[derive(Clone, Copy, Debug, Default, PartialEq, Eq)]
+pub struct HolderAnswer {
+    pub served: Served,
+    pub state: HolderState,
 }
 
 #[repr(C)]
@@ -268,7 +291,10 @@ const _: () = {
     assert!(size_of::<RequestRead>() == 6);
     assert!(size_of::<RequestBytes>() == 4);
     assert!(size_of::<Directory>() == 102);
+    assert!(size_of::<HolderState>() == 3);
+    assert!(size_of::<FirstState>() == 4);
     assert!(size_of::<Served>() == 20);
+    assert!(size_of::<HolderAnswer>() == 24);
     assert!(size_of::<Yielded>() == 20);
     assert!(size_of::<Slot>() == 16);
     assert!(size_of::<Bridge>() == 76);

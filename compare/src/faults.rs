@@ -153,6 +153,94 @@ faults! {
     FlashLengthBefore11,
     FlashLengthAfter1,
     FlashLengthAfter4,
+    // the holder's state: which is sound
+    Family0Taken,
+    Family1Taken,
+    Family4Taken,
+    FamiliesOver3Taken,
+    EmptyCurrentTaken,
+    Current32Taken,
+    CurrentTakenModulo32,
+    HasCurrent2Taken,
+    UnusedCurrentTaken,
+    UnusedCurrentIsCurrent,
+    NoneRefused,
+    Current0Refused,
+    Current31Refused,
+    StateAfter10,
+    StateAfter1,
+    StateAfterAllElse,
+    StateUnjudgedByQuery,
+    // when a table is reloaded
+    NeverReloads,
+    ReloadsOnFamily3,
+    CmdDoesNotReload,
+    ReqDoesNotReload,
+    BurnDoesNotReload,
+    NoneDoesNotReload,
+    NoneIsTable0,
+    TableThatMayBeReadIsKept,
+    CurrentReloaded,
+    CmdBeforeReload,
+    ReqBeforeReload,
+    RefusedReloads,
+    WrongLengthReloads,
+    WithoutRightReloads,
+    PastTheEndReloads,
+    NoCountReloads,
+    QueryReloads,
+    // what is reloaded
+    WholeMemoryReloaded,
+    ReloadsUpToTheTable,
+    ReloadsFromTheOffset,
+    EightBytesReloaded,
+    FirstByteNotReloaded,
+    LastByteNotReloaded,
+    ByteBeforeReloadedToo,
+    ByteAfterReloadedToo,
+    ReloadsToTheBeginning,
+    ReloadsFromTheBeginning,
+    ReloadsTheTableLeft,
+    TableLeftReloadedToo,
+    TableLeftIsBurnt,
+    ReloadClearsTheTable,
+    ReloadBurns,
+    ReloadExchangesTheTwo,
+    ReloadErasesTheFlash,
+    // which table is current after a call
+    CmdKeepsCurrent,
+    ReqKeepsCurrent,
+    BurnKeepsCurrent,
+    NoneStaysNone,
+    FirstStaysCurrent,
+    Family2RemembersNothing,
+    Family3RemembersNothing,
+    BurnLeavesNone,
+    RefusedIsCurrent,
+    WrongLengthIsCurrent,
+    WithoutRightIsCurrent,
+    PastTheEndIsCurrent,
+    NoCountIsCurrent,
+    QueryIsCurrent,
+    QueryLeavesNone,
+    NextTableIsCurrent,
+    CurrentWithoutTableBit4,
+    ReplyTableIsCurrent,
+    CurrentIsUnmarked,
+    ServedBecomesFamily2,
+    ServedBecomesFamily3,
+    RefusalClearsState,
+    RefusalLeavesNone,
+    UnsoundStateCleared,
+    UnsoundCurrentCleared,
+    // first states
+    FirstStateHasTable0,
+    FirstStateOfFamily1,
+    FirstStateOfFamily4,
+    FirstStateAlwaysOfFamily2,
+    FirstStateAlwaysOfFamily3,
+    RefusedFirstStateHasFamily,
+    RefusedFirstStateIs5,
     // bridge
     BufferBeforeState,
     OpensWithTicket0AtEnd,
@@ -309,23 +397,75 @@ impl Faulty {
         lent
     }
 
+    /// This side reloads by itself where that is due, so that it may do so wrongly; then the model acts, and reloads nothing.
+    fn serve_frame(&self, call: &mut Holding) -> Served {
+        let taken = taken_state(self.0, call);
+        let served = call.number(taken) == 0;
+        let due = served && call.reloads(taken);
+        let late = [(CmdBeforeReload, CMD), (ReqBeforeReload, REQ)];
+        let late = due && late.contains(&(self.0, call.parts.kind));
+        if due && !late {
+            reload(self.0, call);
+        }
+        call.left = call.before.clone();
+        let answer = self.act(call, if served { NOTHING_RELOADED } else { taken });
+        if late || undue_reload(self.0, call, answer.number) {
+            copy_table(Extent::Table, call.place.clone(), &call.left.flash, &mut call.left.working);
+        }
+        answer
+    }
+
+    /// What this side answers to a frame, and leaves in both memories, where it takes the state so.
+    fn act(&self, call: &mut Holding, state: HolderState) -> Served {
+        let (mut directory, mut frame) = (call.directory, call.frame);
+        let kind = call.parts.kind;
+        frame_asked(self.0, kind, call.parts.table, &mut directory, &mut frame);
+        let mut answer = self.judged(call, directory, state, frame);
+        answer = match kind {
+            BURN => burn_with(self.0, call, answer),
+            _ => beside_flash(self.0, call, &frame, answer),
+        };
+        if let Some(bytes) = request_bytes_of(kind, &frame) {
+            answer = answer_with(self.0, kind, &frame, bytes, answer);
+        }
+        answer.clear = match (self.0, answer.number) {
+            (CmdIsClear, 0) if kind == CMD => 1,
+            (CmdClearAsAReq, 0) if kind == CMD && frame.len == 3 => (reserved(&frame.bytes) == (false, false)) as u8,
+            (RefusedFramesAreClear, 1..) => 1,
+            _ => answer.clear,
+        };
+        answer.number = match (self.0, kind, answer.number) {
+            (RangeBeforeCount, REQ, 9) => 8,
+            (XtndLength0Is5, XTND, 6) if frame.len == 0 => 5,
+            (_, _, number) => number,
+        };
+        if self.has(GarbagePastReply) && answer.frames == 1 && answer.frame.len < 8 {
+            answer.frame.bytes[7] = 1;
+        }
+        if self.has(CmdClearsLastByte) && call.left.working != call.before.working {
+            call.left.working[call.place.end - 1] = 0;
+        }
+        answer
+    }
+
     /// The model's answer, with the length of the flash judged as this side does.
-    fn judged(&self, directory: Directory, memory: &mut [u8], flash: &mut [u8], frame: Frame, parts: Parts) -> Served {
+    fn judged(&self, call: &mut Holding, directory: Directory, state: HolderState, frame: Frame) -> Served {
         let total = holder::total(&directory);
+        let (Parts { kind, to, .. }, Memories { working, flash }) = (call.parts, &mut call.left);
         let taken = match self.0 {
-            FlashUnjudged => memory.len() == total,
-            LongerFlashTaken => memory.len() == total && flash.len() > total,
-            ShorterFlashTaken => memory.len() == total && flash.len() < total,
-            FlashJudgedByBurnsAlone => memory.len() == total && parts.kind != BURN,
-            FlashLengthAfter1 => memory.len() == total && frame.id >= 1 << 29,
-            FlashLengthAfter4 => memory.len() == total && parts.to != directory.own,
-            MemoryJudgedByFlash => memory.len() == flash.len(),
+            FlashUnjudged => working.len() == total,
+            LongerFlashTaken => working.len() == total && flash.len() > total,
+            ShorterFlashTaken => working.len() == total && flash.len() < total,
+            FlashJudgedByBurnsAlone => working.len() == total && kind != BURN,
+            FlashLengthAfter1 => working.len() == total && frame.id >= 1 << 29,
+            FlashLengthAfter4 => working.len() == total && to != directory.own,
+            MemoryJudgedByFlash => working.len() == flash.len(),
             _ => false,
         };
-        if taken && (memory.len(), flash.len()) != (total, total) {
-            return Model.serve(directory, &mut vec![0; total], &mut vec![0; total], frame);
+        if taken && (working.len(), flash.len()) != (total, total) {
+            return Model.serve(directory, state, &mut vec![0; total], &mut vec![0; total], frame).served;
         }
-        Model.serve(directory, memory, flash, frame)
+        Model.serve(directory, state, working, flash, frame).served
     }
 
     /// The answer to a reply to slot `index` that brought other bytes than it sent; `answer` is the model's.
@@ -368,10 +508,18 @@ fn of_type(frame: &Frame, kind: u8) -> Frame {
     Frame { id: frame.id & !(7 << 15) | (kind as u32) << 15, ..*frame }
 }
 
-/// The frame, and the rights, with which the model burns as this side would.
-fn burn_asked(fault: Fault, kind: u8, table: u8, directory: &mut Directory, frame: &mut Frame) {
+/// The frame, and the rights, with which the model does as this side would.
+fn frame_asked(fault: Fault, kind: u8, table: u8, directory: &mut Directory, frame: &mut Frame) {
+    if fault == RightNotAsked && directory.rights.iter().all(|right| *right < 3) {
+        directory.rights = [2; 32];
+    }
     let right = &mut directory.rights[table as usize];
     match (fault, kind) {
+        (RspServed, RSP) => *frame = of_type(frame, CMD),
+        (QueryReadFromByte0, XTND) if frame.bytes[0] == 0x80 => {
+            frame.bytes[1..4].rotate_right(1);
+            frame.bytes[1] = 0x80;
+        }
         (Type3IsBurn | Type3BurnsToo, 3) | (Type5IsBurn | Type5BurnsToo, 5) => *frame = of_type(frame, BURN),
         (Type3IsBurn | Type5IsBurn | BurnNotServed, BURN) => *frame = of_type(frame, 6),
         (BurnOfALengthServed, BURN) if frame.len <= 8 => frame.len = 0,
@@ -382,40 +530,245 @@ fn burn_asked(fault: Fault, kind: u8, table: u8, directory: &mut Directory, fram
     }
 }
 
-/// A holder's call: the parts of its frame, where its table lies, and both memories, before it and as they are left.
+/// A sound state with which the model reloads nothing.
+const NOTHING_RELOADED: HolderState = HolderState { family: 3, has_current: 0, current: 0 };
+
+/// A holder's call: what it is given, the parts of its frame, where its table lies, and both memories, before it acts and as they are left.
 struct Holding {
+    directory: Directory,
+    state: HolderState,
+    frame: Frame,
     parts: Parts,
-    right: u8,
     place: Range<usize>,
     before: Memories,
     left: Memories,
 }
 
 impl Holding {
+    fn new(directory: Directory, state: HolderState, frame: Frame, lent: Memories) -> Holding {
+        let parts = identifier::unpack(frame.id).unwrap_or(Parts { kind: 9, ..Parts::default() });
+        let place = holder::place(&directory, parts.table);
+        Holding { directory, state, frame, parts, place, before: lent.clone(), left: lent }
+    }
+
+    fn right(&self) -> u8 {
+        self.directory.rights[self.parts.table as usize]
+    }
+
+    /// The model's number with another state.
+    fn number(&self, state: HolderState) -> u8 {
+        holder::serve(&self.directory, &state, &self.before, &self.frame).err().unwrap_or(0)
+    }
+
+    fn is_current(&self, state: HolderState) -> bool {
+        state.has_current == 1 && state.current == self.parts.table
+    }
+
+    /// Whether a frame that is served with this state reloads its table.
+    fn reloads(&self, state: HolderState) -> bool {
+        state.family == 2 && !self.is_current(state) && [CMD, REQ, BURN].contains(&self.parts.kind)
+    }
+
+    /// Whether something else is judged, or a query answered, before this side judges the state.
+    fn answers_first(&self, fault: Fault) -> bool {
+        match (fault, self.number(NOTHING_RELOADED)) {
+            (StateAfter10, 10) | (StateAfter1, 10 | 1) | (StateAfterAllElse, 1..) => true,
+            (StateUnjudgedByQuery, 0) => self.parts.kind == XTND,
+            _ => false,
+        }
+    }
+
+    /// Where the table lies that was current, if one was.
+    fn place_left(&self) -> Range<usize> {
+        match self.state.has_current {
+            1 if self.state.current < 32 => holder::place(&self.directory, self.state.current),
+            _ => 0..0,
+        }
+    }
+
     /// Whether the flash had the table as the working memory did.
     fn burnt_before(&self) -> bool {
         self.before.working[self.place.clone()] == self.before.flash[self.place.clone()]
     }
 
     fn burn(&mut self) {
-        self.left.flash[self.place.clone()].copy_from_slice(&self.before.working[self.place.clone()]);
+        copy_table(Extent::Table, self.place.clone(), &self.before.working, &mut self.left.flash);
+    }
+}
+
+/// What a side copies from one memory to the other: a table, or with a fault something else.
+#[derive(Clone, Copy)]
+enum Extent {
+    Table,
+    Nothing,
+    WholeMemory,
+    UpToTheTable,
+    EightBytes,
+    FromByte(usize),
+    WithoutTheLast,
+    OneByteBefore,
+    OneByteAfter,
+    ToTheBeginning,
+    FromTheBeginning,
+}
+
+fn copy_table(extent: Extent, place: Range<usize>, from: &[u8], to: &mut [u8]) {
+    let (size, Range { start, end }) = (place.len(), place.clone());
+    let part = match extent {
+        Extent::Table => start..end,
+        Extent::Nothing => start..start,
+        Extent::WholeMemory => 0..to.len(),
+        Extent::UpToTheTable => 0..end,
+        Extent::EightBytes => start..end.min(start + 8),
+        Extent::FromByte(byte) => start + size.min(byte)..end,
+        Extent::WithoutTheLast => start..end - 1,
+        Extent::OneByteBefore => start.saturating_sub(1)..end,
+        Extent::OneByteAfter => start..to.len().min(end + 1),
+        Extent::ToTheBeginning => return to[..size].copy_from_slice(&from[place]),
+        Extent::FromTheBeginning => return to[place].copy_from_slice(&from[..size]),
+    };
+    to[part.clone()].copy_from_slice(&from[part]);
+}
+
+/// What this side burns, and what it reloads.
+fn extents(fault: Fault, offset: u16) -> (Extent, Extent) {
+    let burnt = match fault {
+        BurnsNothing => Extent::Nothing,
+        BurnsTheWholeMemory => Extent::WholeMemory,
+        BurnsUpToTheTable => Extent::UpToTheTable,
+        BurnsFromTheOffset => Extent::FromByte(offset as usize),
+        BurnsEightBytes => Extent::EightBytes,
+        FirstByteNotBurnt => Extent::FromByte(1),
+        LastByteNotBurnt => Extent::WithoutTheLast,
+        ByteBeforeBurntToo => Extent::OneByteBefore,
+        ByteAfterBurntToo => Extent::OneByteAfter,
+        BurnsToTheBeginning => Extent::ToTheBeginning,
+        BurnsFromTheBeginning => Extent::FromTheBeginning,
+        _ => Extent::Table,
+    };
+    let reloaded = match fault {
+        NeverReloads | ReloadsTheTableLeft | ReloadBurns => Extent::Nothing,
+        WholeMemoryReloaded => Extent::WholeMemory,
+        ReloadsUpToTheTable => Extent::UpToTheTable,
+        ReloadsFromTheOffset => Extent::FromByte(offset as usize),
+        EightBytesReloaded => Extent::EightBytes,
+        FirstByteNotReloaded => Extent::FromByte(1),
+        LastByteNotReloaded => Extent::WithoutTheLast,
+        ByteBeforeReloadedToo => Extent::OneByteBefore,
+        ByteAfterReloadedToo => Extent::OneByteAfter,
+        ReloadsToTheBeginning => Extent::ToTheBeginning,
+        ReloadsFromTheBeginning => Extent::FromTheBeginning,
+        _ => Extent::Table,
+    };
+    (burnt, reloaded)
+}
+
+/// What this side does to both memories where a reload is due.
+fn reload(fault: Fault, call: &mut Holding) {
+    let (place, place_left) = (call.place.clone(), call.place_left());
+    let (_, extent) = extents(fault, call.parts.offset);
+    let Memories { working, flash } = &mut call.before;
+    let unburnt = working.clone();
+    copy_table(extent, place.clone(), flash, working);
+    match fault {
+        ReloadsTheTableLeft | TableLeftReloadedToo => copy_table(Extent::Table, place_left, flash, working),
+        TableLeftIsBurnt => copy_table(Extent::Table, place_left, &unburnt, flash),
+        ReloadClearsTheTable => working[place].fill(0),
+        ReloadBurns | ReloadExchangesTheTwo => copy_table(Extent::Table, place, &unburnt, flash),
+        ReloadErasesTheFlash => flash[place].fill(0xFF),
+        _ => {}
+    }
+}
+
+/// Of the faults below, those that reload the table; the others make it current.
+const UNDUE_RELOADS: [Fault; 6] =
+    [RefusedReloads, WrongLengthReloads, WithoutRightReloads, PastTheEndReloads, NoCountReloads, QueryReloads];
+
+/// Whether a fault takes a frame, answered with this number, for one that has touched its table.
+fn touches(fault: Fault, kind: u8, number: u8) -> bool {
+    let touching = [CMD, REQ, BURN].contains(&kind);
+    match fault {
+        RefusedReloads | RefusedIsCurrent => touching && (6..=9).contains(&number),
+        WrongLengthReloads | WrongLengthIsCurrent => touching && number == 6,
+        WithoutRightReloads | WithoutRightIsCurrent => number == 7,
+        PastTheEndReloads | PastTheEndIsCurrent => number == 8,
+        NoCountReloads | NoCountIsCurrent => kind == REQ && number == 9,
+        QueryReloads | QueryIsCurrent => kind == XTND && number == 0,
+        _ => false,
+    }
+}
+
+/// Whether this side reloads the table after a frame, answered with this number, that reloads none.
+fn undue_reload(fault: Fault, call: &Holding, number: u8) -> bool {
+    UNDUE_RELOADS.contains(&fault)
+        && touches(fault, call.parts.kind, number)
+        && call.state.family == 2
+        && !call.is_current(call.state)
+}
+
+/// The state by which the model judges a call, and finds whether a reload is due, as this side does by the one given.
+fn taken_state(fault: Fault, call: &Holding) -> HolderState {
+    let (state, directory) = (call.state, &call.directory);
+    let of_family = |family| HolderState { family, ..state };
+    let of_current = |has_current, current| HolderState { has_current, current, ..state };
+    let refused = of_family(0);
+    let reads_only = call.right() == 1;
+    match (fault, state.family, state.has_current, state.current) {
+        (Family0Taken, 0, _, _) | (Family1Taken, 1, _, _) | (ReloadsOnFamily3, 3, _, _) => of_family(2),
+        (Family4Taken, 4, _, _) | (FamiliesOver3Taken, 4.., _, _) | (NoneDoesNotReload, 2, 0, _) => of_family(3),
+        (CmdDoesNotReload, 2, _, _) if call.parts.kind == CMD => of_family(3),
+        (ReqDoesNotReload, 2, _, _) if call.parts.kind == REQ => of_family(3),
+        (BurnDoesNotReload, 2, _, _) if call.parts.kind == BURN => of_family(3),
+        (TableThatMayBeReadIsKept, 2, _, _) if reads_only => of_family(3),
+        (EmptyCurrentTaken, _, 1, 0..=31) if call.place_left().is_empty() => of_current(0, 0),
+        (Current32Taken, _, 1, 32) | (UnusedCurrentTaken, _, 0, _) => of_current(0, 0),
+        (CurrentReloaded, _, 1, _) if call.is_current(state) => of_current(0, 0),
+        (CurrentTakenModulo32, _, 1, current) => of_current(1, current % 32),
+        (HasCurrent2Taken, _, 2, current) | (UnusedCurrentIsCurrent, _, 0, current @ 1..) => of_current(1, current),
+        (NoneIsTable0, _, 0, 0) if directory.sizes[0] > 0 => of_current(1, 0),
+        (NoneRefused, _, 0, _) | (Current0Refused, _, 1, 0) | (Current31Refused, _, 1, 31) => refused,
+        (StateAfter10 | StateAfter1 | StateAfterAllElse | StateUnjudgedByQuery, ..) if call.answers_first(fault) => {
+            NOTHING_RELOADED
+        }
+        _ => state,
+    }
+}
+
+/// The state that this side hands back with this number.
+fn left_state(fault: Fault, call: &Holding, number: u8) -> HolderState {
+    let (given, Parts { kind, table, .. }) = (call.state, call.parts);
+    let of_current = |has_current, current| HolderState { has_current, current, ..given };
+    if touches(fault, kind, number) && !UNDUE_RELOADS.contains(&fault) && !call.place.is_empty() {
+        return of_current(1, table);
+    }
+    match (fault, number, kind) {
+        (RefusalClearsState, 1.., _) | (UnsoundStateCleared, 11, _) => HolderState::default(),
+        (RefusalLeavesNone, 1..=10, _) | (UnsoundCurrentCleared, 11, _) => of_current(0, 0),
+        (QueryLeavesNone, 0, XTND) | (BurnLeavesNone, 0, BURN) => of_current(0, 0),
+        (_, 1.., _) | (_, 0, XTND) => given,
+        (CmdKeepsCurrent, 0, CMD) | (ReqKeepsCurrent, 0, REQ) | (BurnKeepsCurrent, 0, BURN) => given,
+        (NoneStaysNone, ..) if given.has_current == 0 => given,
+        (FirstStaysCurrent, ..) if given.has_current == 1 => given,
+        (Family2RemembersNothing, ..) if given.family == 2 => given,
+        (Family3RemembersNothing, ..) if given.family == 3 => given,
+        (NextTableIsCurrent, ..) => of_current(1, table + 1),
+        (CurrentWithoutTableBit4, ..) => of_current(1, table % 16),
+        (ReplyTableIsCurrent, 0, REQ) => of_current(1, call.frame.bytes[0] % 32),
+        (CurrentIsUnmarked, ..) => of_current(given.has_current, table),
+        (ServedBecomesFamily2, ..) => HolderState { family: 2, ..of_current(1, table) },
+        (ServedBecomesFamily3, ..) => HolderState { family: 3, ..of_current(1, table) },
+        _ => of_current(1, table),
     }
 }
 
 /// What this side leaves in both memories after a served burn, in place of what the model left.
 fn burnt(fault: Fault, call: &mut Holding) {
-    let Range { start, end } = call.place;
-    let (size, table) = (end - start, start..end);
+    let table = call.place.clone();
+    let (extent, _) = extents(fault, call.parts.offset);
     let (flash, left) = (&call.before.flash, &mut call.left);
+    left.flash.copy_from_slice(flash);
+    copy_table(extent, table.clone(), &left.working, &mut left.flash);
     match fault {
-        BurnsNothing => left.flash.copy_from_slice(flash),
-        BurnsTheWholeMemory => left.flash.copy_from_slice(&left.working),
-        BurnsUpToTheTable => left.flash[..start].copy_from_slice(&left.working[..start]),
-        BurnsFromTheOffset => {
-            let kept = start..start + size.min(call.parts.offset as usize);
-            left.flash[kept.clone()].copy_from_slice(&flash[kept]);
-        }
-        BurnsEightBytes if size > 8 => left.flash[start + 8..end].copy_from_slice(&flash[start + 8..end]),
         BurnsFromTheFlash => {
             left.flash.copy_from_slice(flash);
             left.working[table.clone()].copy_from_slice(&flash[table]);
@@ -423,15 +776,6 @@ fn burnt(fault: Fault, call: &mut Holding) {
         BurnExchangesTheTwo => left.working[table.clone()].copy_from_slice(&flash[table]),
         BurnClearsTheTable => left.working[table].fill(0),
         BurnErasesAlone => left.flash[table].fill(0xFF),
-        FirstByteNotBurnt => left.flash[start] = flash[start],
-        LastByteNotBurnt => left.flash[end - 1] = flash[end - 1],
-        ByteBeforeBurntToo if start > 0 => left.flash[start - 1] = left.working[start - 1],
-        ByteAfterBurntToo if end < flash.len() => left.flash[end] = left.working[end],
-        BurnsToTheBeginning => {
-            left.flash.copy_from_slice(flash);
-            left.flash[..size].copy_from_slice(&left.working[table]);
-        }
-        BurnsFromTheBeginning => left.flash[table].copy_from_slice(&left.working[..size]),
         _ => {}
     }
 }
@@ -473,8 +817,8 @@ fn burn_with(fault: Fault, call: &mut Holding, answer: Served) -> Served {
             return refused(8);
         }
         (BurnOfABurntTableIsSilent, 0) if call.burnt_before() => return Served::default(),
-        (BurnsRightBeforeLength, 6) if empty || call.right != 2 => return refused(7),
-        (EmptyTableBurns, 7) if empty && call.right == 2 => {
+        (BurnsRightBeforeLength, 6) if empty || call.right() != 2 => return refused(7),
+        (EmptyTableBurns, 7) if empty && call.right() == 2 => {
             let id = Parts { offset: 0, kind: XTND, from: parts.to, to: parts.from, table: parts.table };
             return Served { number: 0, frames: 1, clear: 0, frame: holder::frame(id, &[0x0E, 0x01]) };
         }
@@ -770,70 +1114,37 @@ impl Side for Faulty {
         answer
     }
 
-    fn serve(&self, mut directory: Directory, memory: &mut [u8], flash: &mut [u8], mut frame: Frame) -> Served {
+    fn first_state(&self, family: u8) -> FirstState {
+        let FirstState { number, state } = Model.first_state(family);
+        let first =
+            |family, has_current| FirstState { number: 0, state: HolderState { family, has_current, current: 0 } };
+        match (self.0, number, family) {
+            (FirstStateHasTable0, 0, _) => first(family, 1),
+            (FirstStateOfFamily1, _, 1) | (FirstStateOfFamily4, _, 4) => first(family, 0),
+            (FirstStateAlwaysOfFamily2, 0, _) => first(2, 0),
+            (FirstStateAlwaysOfFamily3, 0, _) => first(3, 0),
+            (RefusedFirstStateHasFamily, 11, _) => FirstState { number, ..first(family, 0) },
+            (RefusedFirstStateIs5, 11, _) => FirstState { number: 5, state },
+            _ => FirstState { number, state },
+        }
+    }
+
+    fn serve(
+        &self, directory: Directory, state: HolderState, memory: &mut [u8], flash: &mut [u8], frame: Frame,
+    ) -> HolderAnswer {
         let total = holder::total(&directory);
-        let parts = identifier::unpack(frame.id).unwrap_or(Parts { kind: 9, ..Parts::default() });
-        let kind = parts.kind;
-        if self.has(MemoryLengthBefore11) && total != memory.len() {
-            return Served { number: 10, ..Served::default() };
-        }
-        if self.has(FlashLengthBefore11) && total != flash.len() {
-            return Served { number: 10, ..Served::default() };
-        }
-        if self.has(TotalOf32769) && total == 32_769 {
-            return Served { number: 1, ..Served::default() };
-        }
-        if self.has(RightNotAsked) && directory.rights.iter().all(|right| *right < 3) {
-            directory.rights = [2; 32];
-        }
-        if self.has(RspServed) && kind == 2 {
-            frame.id &= !(7 << 15);
-        }
-        if self.has(QueryReadFromByte0) && kind == XTND && frame.bytes[0] == 0x80 {
-            frame.bytes[1..4].rotate_right(1);
-            frame.bytes[1] = 0x80;
-        }
-        burn_asked(self.0, kind, parts.table, &mut directory, &mut frame);
-        let before = Memories { working: memory.to_vec(), flash: flash.to_vec() };
-        let mut answer = self.judged(directory, memory, flash, frame, parts);
-        let start = holder::start(&directory, parts.table);
-        let table = parts.table as usize;
-        let mut call = Holding {
-            parts,
-            right: directory.rights[table],
-            place: start..start + directory.sizes[table] as usize,
-            before,
-            left: Memories { working: memory.to_vec(), flash: flash.to_vec() },
-        };
-        answer = match kind {
-            BURN => burn_with(self.0, &mut call, answer),
-            _ => beside_flash(self.0, &mut call, &frame, answer),
+        let mut call =
+            Holding::new(directory, state, frame, Memories { working: memory.to_vec(), flash: flash.to_vec() });
+        let refused = |number| Served { number, ..Served::default() };
+        let served = match self.0 {
+            MemoryLengthBefore11 if memory.len() != total => refused(10),
+            FlashLengthBefore11 if flash.len() != total => refused(10),
+            TotalOf32769 if total == 32_769 => refused(1),
+            _ => self.serve_frame(&mut call),
         };
         memory.copy_from_slice(&call.left.working);
         flash.copy_from_slice(&call.left.flash);
-        if let Some(bytes) = request_bytes_of(kind, &frame) {
-            answer = answer_with(self.0, kind, &frame, bytes, answer);
-        }
-        answer.clear = match (self.0, answer.number) {
-            (CmdIsClear, 0) if kind == CMD => 1,
-            (CmdClearAsAReq, 0) if kind == CMD && frame.len == 3 => (reserved(&frame.bytes) == (false, false)) as u8,
-            (RefusedFramesAreClear, 1..) => 1,
-            _ => answer.clear,
-        };
-        if self.has(RangeBeforeCount) && answer.number == 9 && kind == 1 {
-            answer.number = 8;
-        }
-        if self.has(XtndLength0Is5) && answer.number == 6 && kind == 7 && frame.len == 0 {
-            answer.number = 5;
-        }
-        if self.has(GarbagePastReply) && answer.frames == 1 && answer.frame.len < 8 {
-            answer.frame.bytes[7] = 1;
-        }
-        if self.has(CmdClearsLastByte) && *memory != call.before.working[..] {
-            let end: usize = directory.sizes[..=parts.table as usize].iter().map(|size| *size as usize).sum();
-            memory[end - 1] = 0;
-        }
-        answer
+        HolderAnswer { served, state: left_state(self.0, &call, served.number) }
     }
 
     fn open_read(&self, b: Bridge, mut lent: Buffers, device: u8, table: u8, offset: u16, count: usize) -> Opened {

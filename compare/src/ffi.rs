@@ -14,7 +14,8 @@ extern "C" {
     fn hg_bus_unpack(id: u32) -> Unpacked;
     fn hg_bus_read_request(first: u8, second: u8, third: u8) -> RequestRead;
     fn hg_bus_request_bytes(request: Request) -> RequestBytes;
-    fn hg_bus_serve(directory: Directory, memory: *mut u8, memory_len: usize, flash: *mut u8, flash_len: usize, frame: Frame) -> Served;
+    fn hg_bus_first_state(family: u8) -> FirstState;
+    fn hg_bus_serve(directory: Directory, state: HolderState, memory: *mut u8, memory_len: usize, flash: *mut u8, flash_len: usize, frame: Frame) -> HolderAnswer;
 
     fn hg_bridge_open_read(b: Bridge, first: *const u8, first_len: usize, second: *const u8, second_len: usize, device: u8, table: u8, offset: u16, count: usize) -> Opened;
     fn hg_bridge_open_write(b: Bridge, first: *mut u8, first_len: usize, second: *const u8, second_len: usize, device: u8, table: u8, offset: u16, bytes: *const u8, count: usize) -> Opened;
@@ -79,8 +80,15 @@ impl Side for Library {
         unsafe { hg_bus_request_bytes(request) }
     }
 
-    fn serve(&self, directory: Directory, memory: &mut [u8], flash: &mut [u8], frame: Frame) -> Served {
-        unsafe { hg_bus_serve(directory, memory.as_mut_ptr(), memory.len(), flash.as_mut_ptr(), flash.len(), frame) }
+    fn first_state(&self, family: u8) -> FirstState {
+        unsafe { hg_bus_first_state(family) }
+    }
+
+    fn serve(
+        &self, directory: Directory, state: HolderState, memory: &mut [u8], flash: &mut [u8], frame: Frame,
+    ) -> HolderAnswer {
+        let (one, one_len, other, other_len) = (memory.as_mut_ptr(), memory.len(), flash.as_mut_ptr(), flash.len());
+        unsafe { hg_bus_serve(directory, state, one, one_len, other, other_len, frame) }
     }
 
     fn open_read(&self, b: Bridge, lent: Buffers, device: u8, table: u8, offset: u16, count: usize) -> Opened {

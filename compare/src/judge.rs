@@ -17,13 +17,19 @@ pub trait Answer: PartialEq + Debug {
 macro_rules! answers {
     ($($name:ty),*) => { $(impl Answer for $name { fn number(&self) -> u8 { self.number } })* };
 }
-answers!(Packed, Unpacked, RequestBytes, Served, Yielded, Opened, Changed, Span);
+answers!(Packed, Unpacked, RequestBytes, FirstState, Yielded, Opened, Changed, Span);
 answers!(MlgHeader, MlgBlock, Written, Raw, Shown, FrdHeader, FrdBlock);
 
 /// Reading a request never refuses.
 impl Answer for RequestRead {
     fn number(&self) -> u8 {
         0
+    }
+}
+
+impl Answer for HolderAnswer {
+    fn number(&self) -> u8 {
+        self.served.number
     }
 }
 

@@ -29,6 +29,12 @@ pub fn all(side: &dyn Side) -> Vec<Reckoning> {
     burns(side, &mut list);
     burns_refused(side, &mut list);
     tuning(side, &mut list);
+    first_states(side, &mut list);
+    unsound_states(side, &mut list);
+    tables_left(side, &mut list);
+    tables_not_current(side, &mut list);
+    none_is_not_table_0(side, &mut list);
+    nothing_reloaded(side, &mut list);
     bridge_read(side, &mut list);
     silent_device(side, &mut list);
     checked_write(side, &mut list);
@@ -83,10 +89,19 @@ fn requests(side: &dyn Side, list: &mut List) {
     list.add("0B B8 come back under 0x20102B0", answer, Served { number: 0, frames: 1, clear: 1, frame: reply });
 }
 
-/// What a holder with a flash of the right length answers.
+/// A holder's state with this table current, and with none.
+fn of_current(family: u8, current: u8) -> HolderState {
+    HolderState { family, has_current: 1, current }
+}
+
+fn of_none(family: u8) -> HolderState {
+    HolderState { family, has_current: 0, current: 0 }
+}
+
+/// What a holder of family 3 with a flash of the right length answers.
 fn served(side: &dyn Side, directory: Directory, memory: &mut [u8], frame: Frame) -> Served {
     let mut flash = vec![0xFF; memory.len()];
-    side.serve(directory, memory, &mut flash, frame)
+    side.serve(directory, of_none(3), memory, &mut flash, frame).served
 }
 
 /// Table 7 with 0B B8 at offset 6, to be asked by device 5 with `06 10 02`; blocking factors 0102 and 0304.
@@ -208,24 +223,33 @@ fn tuned() -> (Directory, Vec<u8>, Vec<u8>) {
 
 /// 02, C-11: burns from device 5. By 01's rows, type 4 is 0x20000, from 5 0x2800, table 7 0x38, so 0x22838; the reply's type 7 is
 /// 0x38000, to 5 0x280, so 0x382B8. Table 6 is 0x30, table 20 0x24; offset 8 is 0x200000, offset 2,047 0x1FFC0000.
+/// C-13: on the older family so far as the burnt table is current.
 fn burns(side: &dyn Side, list: &mut List) {
-    let cases: [(&str, u32, u32, std::ops::Range<usize>); 6] = [
-        ("table 7", 0x22838, 0x382B8, 4..12),
-        ("table 7, offset 8", 0x222838, 0x382B8, 4..12),
-        ("table 7, offset 2,047", 0x1FFE2838, 0x382B8, 4..12),
-        ("table 7, from device 0 itself", 0x20038, 0x38038, 4..12),
-        ("table 6", 0x22830, 0x382B0, 0..4),
-        ("table 20", 0x22824, 0x382A4, 20..22),
+    let cases: [(&str, u32, u32, u8, std::ops::Range<usize>); 6] = [
+        ("table 7", 0x22838, 0x382B8, 7, 4..12),
+        ("table 7, offset 8", 0x222838, 0x382B8, 7, 4..12),
+        ("table 7, offset 2,047", 0x1FFE2838, 0x382B8, 7, 4..12),
+        ("table 7, from device 0 itself", 0x20038, 0x38038, 7, 4..12),
+        ("table 6", 0x22830, 0x382B0, 6, 0..4),
+        ("table 20", 0x22824, 0x382A4, 20, 20..22),
     ];
-    for (name, id, reply, place) in cases {
-        let (directory, mut memory, mut flash) = tuned();
-        let answer = side.serve(directory, &mut memory, &mut flash, frame(id, &[]));
-        let wanted = Served { number: 0, frames: 1, clear: 0, frame: frame(reply, &[0x0E, 0x01]) };
-        list.add(&format!("a burn of {name}"), answer, wanted);
-        let (_, as_found, mut burnt) = tuned();
-        burnt[place.clone()].copy_from_slice(&as_found[place]);
-        list.add(&format!("both memories after a burn of {name}"), (memory, flash), (as_found, burnt));
+    for (name, id, reply, table, place) in cases {
+        for state in [of_current(2, table), of_current(3, table), of_current(3, 8), of_none(3)] {
+            let (directory, mut memory, mut flash) = tuned();
+            let answer = side.serve(directory, state, &mut memory, &mut flash, frame(id, &[]));
+            let served = Served { number: 0, frames: 1, clear: 0, frame: frame(reply, &[0x0E, 0x01]) };
+            let wanted = HolderAnswer { served, state: of_current(state.family, table) };
+            list.add(&format!("a burn of {name}, {state:?}"), answer, wanted);
+            let (_, as_found, mut burnt) = tuned();
+            burnt[place.clone()].copy_from_slice(&as_found[place.clone()]);
+            list.add(&format!("both memories after a burn of {name}, {state:?}"), (memory, flash), (as_found, burnt));
+        }
     }
+}
+
+/// A refusal: a number, and the state as it was given.
+fn refused(number: u8, state: HolderState) -> HolderAnswer {
+    HolderAnswer { served: Served { number, ..Served::default() }, state }
 }
 
 /// 02, C-11: "length 0, right 2"; "10 also for a flash of the wrong length". Both memories stay as they were.
@@ -253,36 +277,79 @@ fn burns_refused(side: &dyn Side, list: &mut List) {
         ("to own number 16", own_16, 22, 22, burn, 11),
     ];
     for (name, directory, memory_len, flash_len, frame, number) in cases {
-        let (_, mut memory, mut flash) = tuned();
-        let answer = side.serve(directory, &mut memory[..memory_len], &mut flash[..flash_len], frame);
-        let refused = Served { number, ..Served::default() };
-        let (_, memory_before, flash_before) = tuned();
-        let wanted = (refused, memory_before, flash_before);
-        list.add(&format!("a burn {name}"), (answer, memory, flash), wanted);
+        for state in [of_none(2), of_current(2, 20), of_current(3, 7)] {
+            let (_, mut memory, mut flash) = tuned();
+            let answer = side.serve(directory, state, &mut memory[..memory_len], &mut flash[..flash_len], frame);
+            let (_, memory_before, flash_before) = tuned();
+            let wanted = (refused(number, state), memory_before, flash_before);
+            list.add(&format!("a burn {name}, {state:?}"), (answer, memory, flash), wanted);
+        }
     }
+    long_flash(side, list);
+}
+
+fn long_flash(side: &dyn Side, list: &mut List) {
     let (directory, mut memory, mut flash) = tuned();
     flash.push(0xFF);
     let (memory_before, flash_before) = (memory.clone(), flash.clone());
-    for (name, frame) in [("burn", burn), ("CMD", frame(0x2838, &[1]))] {
-        let number = side.serve(directory, &mut memory, &mut flash, frame).number;
-        let wanted = (10, memory_before.clone(), flash_before.clone());
-        list.add(&format!("a {name} with a long flash"), (number, memory.clone(), flash.clone()), wanted);
+    for (name, frame) in [("burn", frame(0x22838, &[])), ("CMD", frame(0x2838, &[1]))] {
+        let answer = side.serve(directory, of_none(2), &mut memory, &mut flash, frame);
+        let wanted = (refused(10, of_none(2)), memory_before.clone(), flash_before.clone());
+        list.add(&format!("a {name} with a long flash"), (answer, memory.clone(), flash.clone()), wanted);
     }
 }
 
-/// 02, C-11: table 20 is written, burnt, written again, read and burnt again; then its acknowledgement comes back.
+/// A holder of `tuned` tables, and its state.
+struct Tuned<'a> {
+    side: &'a dyn Side,
+    state: HolderState,
+    memory: Vec<u8>,
+    flash: Vec<u8>,
+}
+
+impl Tuned<'_> {
+    fn new(side: &dyn Side, state: HolderState) -> Tuned<'_> {
+        let (_, memory, flash) = tuned();
+        Tuned { side, state, memory, flash }
+    }
+
+    /// The answer to a frame; the next call gets the state that this one hands back.
+    fn serve(&mut self, frame: Frame) -> Served {
+        let answer = self.side.serve(tuned().0, self.state, &mut self.memory, &mut self.flash, frame);
+        self.state = answer.state;
+        answer.served
+    }
+}
+
+/// What is answered to a request and to a burn of table 20, from device 5.
+fn answered(bytes: &[u8]) -> Served {
+    Served { number: 0, frames: 1, clear: 1, frame: frame(0x102B0, bytes) }
+}
+
+fn acknowledged() -> Served {
+    Served { number: 0, frames: 1, clear: 0, frame: frame(0x382A4, &[0x0E, 0x01]) }
+}
+
+/// 02, C-11: table 20 is written, burnt, written again, read and burnt again; then its acknowledgement comes back. On either family, since
+/// no other table is used between.
 fn tuning(side: &dyn Side, list: &mut List) {
-    let (directory, mut memory, mut flash) = tuned();
+    for family in [2, 3] {
+        tuning_on(side, list, family);
+    }
+}
+
+fn tuning_on(side: &dyn Side, list: &mut List, family: u8) {
+    let mut holder = Tuned::new(side, of_none(family));
     let mut step = |name: &str, frame, wanted, table: [u8; 2], burnt: [u8; 2]| {
-        let answer = side.serve(directory, &mut memory, &mut flash, frame);
-        list.add(name, (answer, &memory[20..], &flash[20..]), (wanted, &table[..], &burnt[..]));
+        let answer = holder.serve(frame);
+        let got = (answer, holder.state, &holder.memory[20..], &holder.flash[20..]);
+        list.add(&format!("family {family}, {name}"), got, (wanted, of_current(family, 20), &table[..], &burnt[..]));
     };
-    let answered = |clear, frame| Served { number: 0, frames: 1, clear, frame };
-    let acknowledged = answered(0, frame(0x382A4, &[0x0E, 0x01]));
+    let acknowledged = acknowledged();
     step("a write", frame(0x2824, &[0x11, 0x22]), Served::default(), [0x11, 0x22], [0xFF, 0xFF]);
     step("its burn", frame(0x22824, &[]), acknowledged, [0x11, 0x22], [0x11, 0x22]);
     step("a write after it", frame(0x42824, &[0x33]), Served::default(), [0x11, 0x33], [0x11, 0x22]);
-    let read = answered(1, frame(0x102B0, &[0x11, 0x33]));
+    let read = answered(&[0x11, 0x33]);
     step("what is read then", frame(0xA824, &[0x06, 0x00, 0x02]), read, [0x11, 0x33], [0x11, 0x22]);
     step("a second burn", frame(0x22824, &[]), acknowledged, [0x11, 0x33], [0x11, 0x33]);
     step("a third", frame(0x22824, &[]), acknowledged, [0x11, 0x33], [0x11, 0x33]);
@@ -290,7 +357,154 @@ fn tuning(side: &dyn Side, list: &mut List) {
         let refused = Served { number, ..Served::default() };
         step(&format!("an XTND of {bytes:02X?}"), frame(0x3A824, bytes), refused, [0x11, 0x33], [0x11, 0x33]);
     }
-    list.add("the other tables' bytes", (&memory[..20], &flash[..20]), (&tuned().1[..20], &[0xFF; 20][..]));
+    list.add("others", (&holder.memory[..20], &holder.flash[..20]), (&tuned().1[..20], &[0xFF; 20][..]));
+}
+
+/// 02, C-13: "its family (2, the older, or 3)"; "none at first"; "11 for an unknown family".
+fn first_states(side: &dyn Side, list: &mut List) {
+    let refused = FirstState { number: 11, state: HolderState::default() };
+    let known: Vec<u8> = (0..=255).filter(|family| side.first_state(*family) != refused).collect();
+    list.add("families with a first state, of all 256", known, vec![2, 3]);
+    for family in [2, 3] {
+        let wanted = FirstState { number: 0, state: of_none(family) };
+        list.add(&format!("the first state of family {family}"), side.first_state(family), wanted);
+    }
+}
+
+/// 02, C-13: "11 for an unknown family or a current table empty or over 31", judged before 10; the state comes back as it was.
+fn unsound_states(side: &dyn Side, list: &mut List) {
+    let state = |family, has_current, current| HolderState { family, has_current, current };
+    let unsound = [
+        [state(0, 0, 0), state(1, 0, 0), state(4, 0, 0), state(255, 0, 0), state(0, 1, 7), state(4, 1, 7)],
+        [state(2, 2, 7), state(3, 2, 0), state(2, 255, 7), state(2, 0, 7), state(3, 0, 31), state(2, 0, 32)],
+        [state(2, 1, 32), state(3, 1, 39), state(2, 1, 255), state(2, 1, 0), state(3, 1, 10), state(2, 1, 31)],
+    ];
+    let (command, request, burn) = (frame(0x2838, &[1]), frame(0xA838, &[6, 0, 2]), frame(0x22838, &[]));
+    let (query, too_large) = (frame(0x3A838, &[0x80, 6, 0, 1]), frame(0x2000_2838, &[1]));
+    for state in unsound.concat() {
+        for (frame, len) in [(command, 22), (request, 22), (burn, 22), (query, 22), (too_large, 22), (command, 21)] {
+            let (directory, mut memory, mut flash) = tuned();
+            let answer = side.serve(directory, state, &mut memory[..len], &mut flash, frame);
+            let (_, memory_before, flash_before) = tuned();
+            let wanted = (refused(11, state), memory_before, flash_before);
+            list.add(&format!("{frame:?} with {state:?}"), (answer, memory, flash), wanted);
+        }
+    }
+    let no_right = state(2, 1, 9);
+    let (directory, mut memory, mut flash) = tuned();
+    let answer = side.serve(directory, no_right, &mut memory, &mut flash, query);
+    let wanted = HolderAnswer { served: answered(&[2]), state: no_right };
+    list.add("a current table without a right is sound", answer, wanted);
+}
+
+/// 02, C-13: "unburnt changes to the others are gone". Table 20 is written, or written, burnt and written again; table 7 is read; table 20 is
+/// read again. By 01's rows REQ is 0x8000, from 5 0x2800, so table 20's 0xA824 and table 7's 0xA838.
+fn tables_left(side: &dyn Side, list: &mut List) {
+    let (write, burn, write_again) = (frame(0x2824, &[0x11, 0x22]), frame(0x22824, &[]), frame(0x42824, &[0x33]));
+    let read = |table: u32| frame(0xA800 + table, &[0x06, 0x00, 0x02]);
+    let (unburnt, burnt) = ([write, write_again].to_vec(), [write, burn, write_again].to_vec());
+    let (erased, first, changed) = ([0xFF, 0xFF], [0x11, 0x22], [0x11, 0x33]);
+    let cases = [
+        ("unburnt", 2, &unburnt, erased, erased, erased),
+        ("unburnt", 3, &unburnt, [5, 6], changed, erased),
+        ("burnt", 2, &burnt, erased, first, first),
+        ("burnt", 3, &burnt, [5, 6], changed, first),
+    ];
+    for (name, family, frames, table_7, table_20, flash) in cases {
+        let mut holder = Tuned::new(side, side.first_state(family).state);
+        let mut add = |what: &str, got: (Served, &Tuned), answer, current, table: [u8; 2]| {
+            let got = (got.0, got.1.state, &got.1.memory[20..], &got.1.flash[20..]);
+            let wanted = (answer, of_current(family, current), &table[..], &flash[..]);
+            list.add(&format!("family {family}, {name}: {what}"), got, wanted);
+        };
+        let mut answer = Served::default();
+        frames.iter().for_each(|frame| answer = holder.serve(*frame));
+        add("table 20 is written", (answer, &holder), Served::default(), 20, changed);
+        answer = holder.serve(read(0x38));
+        add("table 7 is read", (answer, &holder), answered(&table_7), 7, changed);
+        answer = holder.serve(read(0x24));
+        add("table 20 is read", (answer, &holder), answered(&table_20), 20, table_20);
+    }
+}
+
+/// 02, C-13: "for any table not current first makes its working bytes equal to its flash bytes, then acts". Table 20 of working memory is 21
+/// and 22, of flash 31 and 32; nothing else changes.
+fn tables_not_current(side: &dyn Side, list: &mut List) {
+    let states = [
+        (of_none(2), true),
+        (of_current(2, 7), true),
+        (of_current(2, 20), false),
+        (of_none(3), false),
+        (of_current(3, 7), false),
+        (of_current(3, 20), false),
+    ];
+    let (request, command, burn) = (frame(0xA824, &[6, 0, 2]), frame(0x42824, &[33]), frame(0x22824, &[]));
+    for (state, reloads) in states {
+        let [first, second] = if reloads { [31, 32] } else { [21, 22] };
+        let burnt = [first, second]; // a reloaded table's burn leaves the flash as it was
+        let cases = [
+            ("a REQ", request, answered(&[first, second]), [first, second], [31, 32]),
+            ("a CMD", command, Served::default(), [first, 33], [31, 32]),
+            ("a BURN", burn, acknowledged(), [first, second], burnt),
+        ];
+        for (name, frame, answer, table, in_flash) in cases {
+            let mut holder = Tuned::new(side, state);
+            holder.flash[20..].copy_from_slice(&[31, 32]);
+            let (_, mut memory, mut flash) = tuned();
+            memory[20..].copy_from_slice(&table);
+            flash[20..].copy_from_slice(&in_flash);
+            let got = (holder.serve(frame), holder.state, holder.memory, holder.flash);
+            let wanted = (answer, of_current(state.family, 20), memory, flash);
+            list.add(&format!("{name} for table 20, {state:?}"), got, wanted);
+        }
+    }
+}
+
+/// 02, C-13: "none at first": table 0 is reloaded then, and not while it is current.
+fn none_is_not_table_0(side: &dyn Side, list: &mut List) {
+    let mut directory = Directory::default();
+    (directory.sizes[0], directory.rights[0]) = (2, 1);
+    for (state, wanted) in [(of_none(2), [3, 4]), (of_current(2, 0), [1, 2]), (of_none(3), [1, 2])] {
+        let (mut memory, mut flash) = ([1, 2], [3, 4]);
+        let answer = side.serve(directory, state, &mut memory, &mut flash, frame(0xA800, &[0x06, 0x00, 0x02]));
+        let served = HolderAnswer { served: answered(&wanted), state: of_current(state.family, 0) };
+        list.add(&format!("table 0 is read, {state:?}"), (answer, memory, flash), (served, wanted, [3, 4]));
+    }
+}
+
+/// 02, C-13: frames that are refused, and the protocol query, reload nothing and leave the state as it is. CMD is 0x2800, REQ 0xA800, RSP
+/// 0x12800, type 3 0x1A800, BURN 0x22800, XTND 0x3A800, all from device 5; table 8 is 0x40, 9 0x48, 10 0x50 and 20 0x24.
+fn nothing_reloaded(side: &dyn Side, list: &mut List) {
+    let cases: [(&str, u32, &[u8], u8); 19] = [
+        ("2^29 or more", 0x2000_2824, &[1], 1),
+        ("spare bits", 0x2825, &[1], 2),
+        ("to device 1", 0x28A4, &[1], 4),
+        ("an RSP", 0x12824, &[1, 2], 5),
+        ("type 3", 0x1A824, &[], 5),
+        ("an acknowledgement", 0x3A824, &[0x0E, 0x01], 5),
+        ("a CMD without bytes", 0x2824, &[], 6),
+        ("a REQ of two bytes", 0xA824, &[6, 0], 6),
+        ("a BURN of a byte", 0x22824, &[1], 6),
+        ("an XTND without bytes", 0x3A824, &[], 6),
+        ("a CMD for table 8, which may be read", 0x2840, &[1], 7),
+        ("a REQ for table 9, without a right", 0xA848, &[6, 0, 1], 7),
+        ("a BURN of table 8", 0x22840, &[], 7),
+        ("a BURN of table 10, which is empty", 0x22850, &[], 7),
+        ("a CMD past the end", 0x42824, &[1, 2], 8),
+        ("a REQ past the end", 0x4A824, &[6, 0, 2], 8),
+        ("a REQ for nine", 0xA824, &[6, 0, 9], 9),
+        ("a query of two", 0x3A824, &[0x80, 6, 0, 2], 9),
+        ("a query", 0x3A824, &[0x80, 6, 0, 1], 0),
+    ];
+    for (name, id, bytes, number) in cases {
+        for state in [of_none(2), of_current(2, 7), of_none(3), of_current(3, 7)] {
+            let mut holder = Tuned::new(side, state);
+            let wanted = if number == 0 { answered(&[2]) } else { refused(number, state).served };
+            let (_, memory, flash) = tuned();
+            let got = (holder.serve(frame(id, bytes)), holder.state, holder.memory, holder.flash);
+            list.add(&format!("{name}, {state:?}"), got, (wanted, state, memory, flash));
+        }
+    }
 }
 
 fn bridge_read(side: &dyn Side, list: &mut List) {

@@ -24,7 +24,10 @@ pub trait Side {
     fn unpack(&self, id: u32) -> Unpacked;
     fn read_request(&self, first: u8, second: u8, third: u8) -> RequestRead;
     fn request_bytes(&self, request: Request) -> RequestBytes;
-    fn serve(&self, directory: Directory, memory: &mut [u8], flash: &mut [u8], frame: Frame) -> Served;
+    fn first_state(&self, family: u8) -> FirstState;
+    fn serve(
+        &self, directory: Directory, state: HolderState, memory: &mut [u8], flash: &mut [u8], frame: Frame,
+    ) -> HolderAnswer;
 
     // a call that changes one of the two buffers gets both to write, so that a side that changes the other can be tried
     fn open_read(&self, b: Bridge, lent: Buffers, device: u8, table: u8, offset: u16, count: usize) -> Opened;
@@ -146,13 +149,26 @@ impl Side for Model {
         }
     }
 
-    fn serve(&self, directory: Directory, memory: &mut [u8], flash: &mut [u8], frame: Frame) -> Served {
+    fn first_state(&self, family: u8) -> FirstState {
+        match holder::first_state(family) {
+            Ok(state) => FirstState { number: 0, state },
+            Err(number) => FirstState { number, state: HolderState::default() },
+        }
+    }
+
+    /// A refusal hands back the state that it was given.
+    fn serve(
+        &self, directory: Directory, state: HolderState, memory: &mut [u8], flash: &mut [u8], frame: Frame,
+    ) -> HolderAnswer {
         let lent = Memories { working: memory.to_vec(), flash: flash.to_vec() };
-        served(holder::serve(&directory, &lent, &frame).map(|(after, answer)| {
-            memory.copy_from_slice(&after.working);
-            flash.copy_from_slice(&after.flash);
-            answer
-        }))
+        match holder::serve(&directory, &state, &lent, &frame) {
+            Ok(left) => {
+                memory.copy_from_slice(&left.lent.working);
+                flash.copy_from_slice(&left.lent.flash);
+                HolderAnswer { served: served(Ok(left.answer)), state: left.state }
+            }
+            Err(number) => HolderAnswer { served: served(Err(number)), state },
+        }
     }
 
     fn open_read(&self, b: Bridge, lent: Buffers, device: u8, table: u8, offset: u16, count: usize) -> Opened {

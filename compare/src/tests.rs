@@ -2,12 +2,14 @@
 //! the customer's demands.
 
 use crate::abi::*;
-use crate::kinds::holder::{random_directory, random_frame};
+use crate::judge::Judge;
+use crate::kinds::holder::{random_directory, random_frame, run, sound_state};
 use crate::model::bridge::{self, fresh, Buffers};
-use crate::model::holder::Memories;
+use crate::model::holder::{Left, Memories};
 use crate::model::{be32, frd, holder, identifier, listing, mlg, request, value, zero_ended, Number};
 use crate::model::{BURN, CMD, REQ, XTND};
 use crate::rng::Rng;
+use crate::side::{Model, Side};
 
 #[test]
 fn identifiers_pack_and_unpack() {
@@ -51,26 +53,27 @@ fn reserved_bits_change_the_mark_alone() {
     for _ in 0..20_000 {
         let directory = random_directory(&mut rng);
         let lent = random_memories(&mut rng, &directory);
-        let frame = random_frame(&mut rng, &directory);
+        let (frame, state) = (random_frame(&mut rng, &directory), sound_state(&mut rng, &directory, 0));
         let at = match (identifier::unpack(frame.id).map(|parts| parts.kind), frame.bytes[0]) {
             (Ok(REQ), _) => 0,
             (Ok(XTND), 0x80) => 1,
             _ => {
-                let answer = holder::serve(&directory, &lent, &frame);
-                assert!(answer.is_err() || answer.unwrap().1.is_none_or(|(_, clear)| !clear));
+                let answer = holder::serve(&directory, &state, &lent, &frame);
+                assert!(answer.is_err() || answer.unwrap().answer.is_none_or(|(_, clear)| !clear));
                 continue;
             }
         };
         let mut cleared = frame;
         cleared.bytes[at] %= 32;
         cleared.bytes[at + 2] &= 0xEF;
-        let wanted = holder::serve(&directory, &lent, &cleared);
-        let answer = holder::serve(&directory, &lent, &frame);
+        let wanted = holder::serve(&directory, &state, &lent, &cleared);
+        let answer = holder::serve(&directory, &state, &lent, &frame);
         match &answer {
-            Ok((_, answer)) => marks[answer.unwrap().1 as usize] += 1,
+            Ok(left) => marks[left.answer.unwrap().1 as usize] += 1,
             Err(number) => refused[*number as usize] += (frame != cleared) as u32,
         }
-        let marked = wanted.map(|(left, answer)| (left, answer.map(|(reply, _)| (reply, frame == cleared))));
+        let marked =
+            wanted.map(|left| Left { answer: left.answer.map(|(reply, _)| (reply, frame == cleared)), ..left });
         assert_eq!(answer, marked);
     }
     assert!(marks.iter().all(|count| *count > 1000), "{marks:?}");
@@ -83,24 +86,37 @@ fn random_memories(rng: &mut Rng, directory: &Directory) -> Memories {
     Memories { working: rng.bytes(total), flash: rng.bytes(total) }
 }
 
-/// A device whose tables are kept one by one: what each has in working memory, and in the flash.
+/// A device whose tables are kept one by one: what each has in working memory, and in the flash; its family, and the table of the last served
+/// CMD, REQ or BURN.
 struct Tables {
     working: Vec<Vec<u8>>,
     flash: Vec<Vec<u8>>,
+    family: u8,
+    last: Option<u8>,
 }
 
 impl Tables {
-    fn new(directory: &Directory, lent: &Memories) -> Tables {
+    fn new(directory: &Directory, lent: &Memories, family: u8) -> Tables {
         let split = |memory: &[u8]| -> Vec<Vec<u8>> {
             let mut rest = memory.iter().copied();
             directory.sizes.iter().map(|size| rest.by_ref().take(*size as usize).collect()).collect()
         };
-        Tables { working: split(&lent.working), flash: split(&lent.flash) }
+        Tables { working: split(&lent.working), flash: split(&lent.flash), family, last: None }
     }
 
-    /// A frame that was served: what it writes or burns, and what is answered to a CMD, a BURN and a REQ.
+    /// What a holder is left with that has done the same.
+    fn left(&self) -> (HolderState, Memories) {
+        let (has_current, current) = self.last.map_or((0, 0), |table| (1, table));
+        let state = HolderState { family: self.family, has_current, current };
+        (state, Memories { working: self.working.concat(), flash: self.flash.concat() })
+    }
+
+    /// A frame that was served: what it reloads, writes or burns, and what is answered to a CMD, a BURN and a REQ.
     fn take(&mut self, own: u8, parts: Parts, frame: &Frame, answer: Option<holder::Answer>) {
         let (table, offset) = (parts.table as usize, parts.offset as usize);
+        if parts.kind != XTND && self.last.replace(parts.table) != Some(parts.table) && self.family == 2 {
+            self.working[table] = self.flash[table].clone();
+        }
         match parts.kind {
             CMD => {
                 let bytes = &frame.bytes[..frame.len as usize];
@@ -126,52 +142,153 @@ impl Tables {
 }
 
 /// 02, C-11: "A burn makes the flash bytes of that table equal to the table's and touches no other flash byte; working memory doesn't
-/// change." Whatever is written after it, the flash has each table as at its last burn.
+/// change." Whatever is written after it, the flash has each table as at its last burn. C-13: "remembers the current table: none at first, then
+/// on either family that of the last served CMD, REQ or BURN"; "On the older family a served CMD, REQ or BURN for any table not current first
+/// makes its working bytes equal to its flash bytes, then acts."
 #[test]
-fn burns_keep_tables() {
+fn holders_keep_tables() {
     let mut rng = Rng::new(1, 106, 0);
-    let (mut burns, mut written_after, mut refused) = (0, 0, [0; 12]);
-    for _ in 0..200 {
+    let (mut burns, mut written_after, mut forgotten, mut refused) = (0, 0, 0, [0; 12]);
+    for family in [2, 3].repeat(200) {
         let directory = random_directory(&mut rng);
         let mut lent = random_memories(&mut rng, &directory);
-        let mut tables = Tables::new(&directory, &lent);
+        let mut state = holder::first_state(family).unwrap();
+        let mut tables = Tables::new(&directory, &lent, state.family);
         let mut burnt = [false; 32];
         for _ in 0..300 {
             let frame = random_frame(&mut rng, &directory);
-            match holder::serve(&directory, &lent, &frame) {
-                Ok((left, answer)) => {
+            match holder::serve(&directory, &state, &lent, &frame) {
+                Ok(left) => {
                     let parts = identifier::unpack(frame.id).unwrap();
-                    tables.take(directory.own, parts, &frame, answer);
-                    lent = left;
+                    let before = tables.working[parts.table as usize].clone();
+                    tables.take(directory.own, parts, &frame, left.answer);
+                    (state, lent) = (left.state, left.lent);
                     burns += (parts.kind == BURN) as u32;
                     written_after += (parts.kind == CMD && burnt[parts.table as usize]) as u32;
+                    forgotten += (parts.kind == REQ && before != tables.working[parts.table as usize]) as u32;
                     burnt[parts.table as usize] |= parts.kind == BURN;
                 }
                 Err(number) => refused[number as usize] += 1,
             }
-            assert_eq!(lent.working, tables.working.concat());
-            assert_eq!(lent.flash, tables.flash.concat());
+            assert_eq!((state, &lent), (tables.left().0, &tables.left().1));
         }
     }
     assert!(burns > 1000 && written_after > 1000, "{burns} burns, {written_after} writes after them");
+    assert!(forgotten > 1000, "{forgotten} requests that reload other bytes");
     assert!([1, 2, 3, 4, 5, 6, 7, 8, 9, 11].iter().all(|number| refused[*number] > 10), "{refused:?}");
 }
 
-/// 02, C-11: "offset not looked at", of every table and from every sender.
+/// 02, C-13: what the families share. A frame is served on the older family as on the other with the table reloaded by hand, if it was not
+/// current; and refused on both alike.
+#[test]
+fn families_differ_by_the_reload() {
+    let mut rng = Rng::new(1, 108, 0);
+    let (mut reloads, mut others, mut refused) = (0, 0, 0);
+    for _ in 0..20_000 {
+        let directory = random_directory(&mut rng);
+        let lent = random_memories(&mut rng, &directory);
+        let frame = random_frame(&mut rng, &directory);
+        let parts = identifier::unpack(frame.id).unwrap_or_default();
+        let older = HolderState { family: 2, ..sound_state(&mut rng, &directory, parts.table) };
+        let newer = HolderState { family: 3, ..older };
+        let current = older.has_current == 1 && older.current == parts.table;
+        let mut found = lent.clone();
+        if parts.kind != XTND && !current && holder::serve(&directory, &older, &lent, &frame).is_ok() {
+            let place = holder::place(&directory, parts.table);
+            found.working[place.clone()].copy_from_slice(&lent.flash[place]);
+            reloads += 1;
+        }
+        let wanted = holder::serve(&directory, &newer, &found, &frame);
+        let wanted = wanted.map(|left| Left { state: HolderState { family: 2, ..left.state }, ..left });
+        let answer = holder::serve(&directory, &older, &lent, &frame);
+        others += (answer.is_ok() && found == lent) as u32;
+        refused += answer.is_err() as u32;
+        assert_eq!(answer, wanted);
+    }
+    assert!(reloads > 1000 && others > 1000 && refused > 1000, "{reloads} reloads, {others} others, {refused} refused");
+}
+
+/// 02, C-13: "11 for an unknown family or a current table empty or over 31", of all states; what is unused is 0. The frame is for another
+/// device, so 4 where the state is sound.
+#[test]
+fn soundness_of_states() {
+    let mut directory = Directory { own: 9, ..Directory::default() };
+    (directory.sizes[0], directory.sizes[5], directory.sizes[31]) = (1, 2056, 3);
+    let lent = Memories { working: vec![1; 2060], flash: vec![2; 2060] };
+    let frame = holder::frame(Parts { to: 8, ..Parts::default() }, &[1]);
+    let mut sound = Vec::new();
+    for bytes in 0..1u32 << 24 {
+        let [_, family, has_current, current] = bytes.to_be_bytes();
+        let state = HolderState { family, has_current, current };
+        match holder::serve(&directory, &state, &lent, &frame) {
+            Err(4) => sound.push([family, has_current, current]),
+            answer => assert_eq!(answer, Err(11)),
+        }
+    }
+    let of_family = |family| [[family, 0, 0], [family, 1, 0], [family, 1, 5], [family, 1, 31]];
+    assert_eq!(sound, [of_family(2), of_family(3)].concat());
+    let all_empty = Directory { sizes: [0; 32], ..directory };
+    assert!([2, 3].iter().all(|family| holder::sound_state(&all_empty, &holder::first_state(*family).unwrap())));
+}
+
+/// A refusal hands back the state that it was given, sound or not, and a query too; neither memory changes. 11 comes before 10.
+#[test]
+fn states_that_stay() {
+    let mut directory = Directory { own: 9, sizes: [8; 32], rights: [1; 32], ..Directory::default() };
+    directory.sizes[31] = 0;
+    let to_20 = |kind, bytes: &[u8]| holder::frame(Parts { offset: 1, kind, from: 12, to: 9, table: 20 }, bytes);
+    let frames = [(to_20(CMD, &[1]), 7), (to_20(REQ, &[6, 0, 8]), 8), (to_20(XTND, &[0x80, 6, 0, 1]), 0)];
+    let stays = |(family, has_current, current), len, frame, number| {
+        let state = HolderState { family, has_current, current };
+        let (mut memory, mut flash) = (vec![1; len], vec![2; 248]);
+        let answer = Model.serve(directory, state, &mut memory, &mut flash, frame);
+        assert_eq!((answer.served.number, answer.state), (number, state));
+        assert_eq!((memory, flash), (vec![1; len], vec![2; 248]));
+    };
+    for (frame, number) in frames {
+        for sound in [(2, 1, 7), (2, 0, 0), (3, 1, 20), (3, 0, 0)] {
+            stays(sound, 248, frame, number);
+            stays(sound, 247, frame, 10);
+        }
+        for unsound in [(4, 1, 7), (1, 0, 0), (2, 2, 7), (2, 0, 7), (3, 1, 32), (2, 1, 31)] {
+            stays(unsound, 248, frame, 11);
+            stays(unsound, 247, frame, 11);
+        }
+    }
+}
+
+/// The inputs of the comparison: more frames are served than refused, and among them are CMD, REQ and BURN that reload a table.
+#[test]
+fn most_holder_frames_are_served() {
+    let mut judge = Judge::new(&Model);
+    for iteration in 0..2500 {
+        run(&mut Rng::new(1, 2, iteration), &mut judge).unwrap();
+    }
+    let calls = judge.tally.iter().filter(|((name, _), _)| name.starts_with("serve"));
+    let (served, refused): (Vec<_>, Vec<_>) = calls.partition(|((_, number), _)| *number == 0);
+    let sum = |counts: &[(&(&str, u8), &u64)]| counts.iter().map(|(_, count)| **count).sum::<u64>();
+    assert!(sum(&served) > sum(&refused), "{served:?} {refused:?}");
+    let reloaded: Vec<_> =
+        served.iter().filter(|((name, _), count)| name.ends_with("reloaded") && **count > 100).collect();
+    assert_eq!(reloaded.len(), 3, "{served:?}");
+}
+
+/// 02, C-11: "offset not looked at", of every table and from every sender, where the table is current.
 #[test]
 fn a_burns_offset_is_not_looked_at() {
     let mut rng = Rng::new(1, 107, 0);
     let mut directory = Directory { own: 9, rights: [2; 32], ..Directory::default() };
     directory.sizes = [(); 32].map(|_| rng.within(1, 5) as u16);
     let lent = random_memories(&mut rng, &directory);
-    for table in 0..32 {
-        let mut tables = Tables::new(&directory, &lent);
+    for (family, table) in [2, 3].into_iter().flat_map(|family| (0..32).map(move |table| (family, table))) {
+        let state = HolderState { family, has_current: 1, current: table };
+        let mut tables = Tables { last: Some(table), ..Tables::new(&directory, &lent, family) };
         for offset in 0..2048 {
             let parts = Parts { offset, kind: BURN, from: (offset % 16) as u8, to: 9, table };
             let frame = Frame { bytes: [7; 8], ..holder::frame(parts, &[]) };
-            let (left, answer) = holder::serve(&directory, &lent, &frame).unwrap();
-            tables.take(9, parts, &frame, answer);
-            assert_eq!((left.working, left.flash), (tables.working.concat(), tables.flash.concat()));
+            let left = holder::serve(&directory, &state, &lent, &frame).unwrap();
+            tables.take(9, parts, &frame, left.answer);
+            assert_eq!((left.state, left.lent), tables.left());
         }
     }
 }
@@ -185,7 +302,9 @@ fn refusals_of_a_burn() {
     let mut directory = Directory { own: 16, ..Directory::default() };
     (directory.sizes[3], directory.sizes[20]) = (4, 0);
     let mut lent = Memories { working: vec![1; 3], flash: vec![2; 11] };
-    let number = |directory: &Directory, lent: &Memories, frame: &Frame| holder::serve(directory, lent, frame).err();
+    let state = holder::first_state(2).unwrap();
+    let number =
+        |directory: &Directory, lent: &Memories, frame: &Frame| holder::serve(directory, &state, lent, frame).err();
     assert_eq!(number(&directory, &lent, &frame), Some(11));
     directory.own = 9;
     assert_eq!(number(&directory, &lent, &frame), Some(10));
@@ -220,12 +339,13 @@ fn refusals_of_a_burn() {
 fn lengths_of_both_memories() {
     let mut directory = Directory { own: 9, rights: [2; 32], ..Directory::default() };
     (directory.sizes[3], directory.sizes[20]) = (4, 3);
+    let state = HolderState { family: 2, has_current: 1, current: 3 };
     let to_20 = |kind, bytes: &[u8]| holder::frame(Parts { offset: 1, kind, from: 12, to: 9, table: 20 }, bytes);
     let frames = [to_20(CMD, &[1]), to_20(REQ, &[6, 0, 1]), to_20(BURN, &[]), to_20(XTND, &[0x80, 6, 0, 1])];
     for (working, flash) in (0..16).flat_map(|working| (0..16).map(move |flash| (working, flash))) {
         let lent = Memories { working: vec![1; working], flash: vec![2; flash] };
         for frame in frames {
-            let number = holder::serve(&directory, &lent, &frame).err();
+            let number = holder::serve(&directory, &state, &lent, &frame).err();
             assert_eq!(number, if (working, flash) == (7, 7) { None } else { Some(10) });
         }
     }
@@ -237,11 +357,12 @@ fn acknowledgements_that_arrive() {
     let directory = Directory { own: 9, sizes: [8; 32], rights: [2; 32], ..Directory::default() };
     let lent = Memories { working: vec![1; 256], flash: vec![2; 256] };
     let burn = holder::frame(Parts { offset: 5, kind: BURN, from: 3, to: 9, table: 20 }, &[]);
-    let (reply, _) = holder::serve(&directory, &lent, &burn).unwrap().1.unwrap();
+    let state = holder::first_state(2).unwrap();
+    let (reply, _) = holder::serve(&directory, &state, &lent, &burn).unwrap().answer.unwrap();
     let other = Directory { own: 3, ..directory };
     for len in 0..=8 {
         let arriving = Frame { len, ..reply };
-        let number = holder::serve(&other, &lent, &arriving).err();
+        let number = holder::serve(&other, &state, &lent, &arriving).err();
         assert_eq!(number, Some(if len == 0 { 6 } else { 5 }));
         let buffers = Buffers { first: &[0; 512], second: &[0; 512] };
         assert_eq!(bridge::frame(&fresh(3), buffers, &arriving).err(), Some(5));
@@ -255,8 +376,10 @@ fn protocol_query() {
     let directory = Directory { table_blocking: 0x0102, write_blocking: 0x0304, own: 3, ..Directory::default() };
     let id = identifier::pack(Parts { offset: 2047, kind: 7, from: 9, to: 3, table: 31 }).unwrap();
     let none = Memories { working: vec![], flash: vec![] };
+    let state = holder::first_state(2).unwrap();
     let answer = |len, bytes| {
-        holder::serve(&directory, &none, &Frame { id, len, bytes }).map(|(left, answer)| (left == none, answer))
+        let answer = holder::serve(&directory, &state, &none, &Frame { id, len, bytes });
+        answer.map(|left| (left.lent == none && left.state == state, left.answer))
     };
     assert_eq!(answer(0, [0x80, 6, 0, 1, 0, 0, 0, 0]), Err(6));
     assert_eq!(answer(1, [0x0C, 6, 0, 1, 0, 0, 0, 0]), Err(5));
@@ -439,15 +562,29 @@ fn transfers_that_wait_for_others() {
     }
 }
 
+/// A holder, with its state and both memories.
+struct Device {
+    directory: Directory,
+    state: HolderState,
+    lent: Memories,
+}
+
+impl Device {
+    /// The answer to a frame that is served.
+    fn serve(&mut self, frame: &Frame) -> Option<holder::Answer> {
+        let left = holder::serve(&self.directory, &self.state, &self.lent, frame).unwrap();
+        (self.state, self.lent) = (left.state, left.lent);
+        left.answer
+    }
+}
+
 /// Turns beside a holder until the transfer with ticket 1 has ended, how many; the holder misses the frame of one turn.
-fn turns_with_holder(dash: &mut Dash, directory: &Directory, lent: &mut Memories, missed: Option<usize>) -> usize {
+fn turns_with_holder(dash: &mut Dash, device: &mut Device, missed: Option<usize>) -> usize {
     let mut turns = 0;
     while dash.status(1) == 15 {
         let frame = dash.turn().unwrap();
         if missed != Some(turns) {
-            let (left, answer) = holder::serve(directory, lent, &frame).unwrap();
-            *lent = left;
-            if let Some((reply, clear)) = answer {
+            if let Some((reply, clear)) = device.serve(&frame) {
                 assert!(clear); // what a bridge asks has zeros in its reserved bits
                 dash.frame(&reply);
             }
@@ -464,34 +601,72 @@ fn bridge_and_holder_together() {
     let mut rng = Rng::new(1, 102, 0);
     let directory = Directory { own: 5, sizes: [200; 32], rights: [2; 32], ..Directory::default() };
     for _ in 0..1000 {
-        let mut lent = random_memories(&mut rng, &directory);
-        let flash = lent.flash.clone();
+        let lent = random_memories(&mut rng, &directory);
         let (table, count) = (rng.below(32), rng.within(1, 128));
+        let state = sound_state(&mut rng, &directory, table as u8);
+        let mut device = Device { directory, state, lent };
+        let flash = device.lent.flash.clone();
         let offset = rng.below(201 - count);
         let place = 200 * table + offset;
         let (kind, bytes) = (rng.pick(&[READ, WRITE, CHECK]), rng.bytes(count));
         let started = count.div_ceil(8);
         let missed = (kind == CHECK && rng.percent(50)).then(|| rng.below(started));
-        let mut wanted = lent.working.clone();
+        let mut wanted = device.lent.working.clone();
+        if state.family == 2 && (state.has_current, state.current) != (1, table as u8) {
+            wanted[200 * table..200 * table + 200].copy_from_slice(&flash[200 * table..200 * table + 200]);
+        }
+        let found = wanted.clone();
         if kind != READ {
             wanted[place..place + count].copy_from_slice(&bytes);
         }
         if let Some(turn) = missed {
             let part = place + 8 * turn..place + count.min(8 * turn + 8);
-            wanted[part.clone()].copy_from_slice(&lent.working[part]);
+            wanted[part.clone()].copy_from_slice(&found[part]);
         }
         let different = kind == CHECK && wanted[place..place + count] != bytes;
         let mut dash = Dash::new(0, &mut rng);
         assert_eq!(dash.open(kind, table as u8, offset as u16, &bytes), Ok(1));
-        let turns = turns_with_holder(&mut dash, &directory, &mut lent, missed);
+        let turns = turns_with_holder(&mut dash, &mut device, missed);
         let read_back = if different { missed.unwrap() + 1 } else { started };
         assert_eq!(turns, started + if kind == CHECK { read_back } else { 0 });
-        assert_eq!((&lent.working, &lent.flash), (&wanted, &flash));
+        assert_eq!((&device.lent.working, &device.lent.flash), (&wanted, &flash));
         assert_eq!(dash.status(1), if different { 18 } else { 0 });
         let shown = bridge::bytes(&dash.state, &dash.first, 1);
         let shown = shown.map(|(start, length)| dash.first[start..start + length].to_vec());
-        let table = if kind == READ { lent.working[place..place + count].to_vec() } else { vec![] };
+        let table = if kind == READ { wanted[place..place + count].to_vec() } else { vec![] };
         assert_eq!(shown, if different { Err(18) } else { Ok(table) });
+    }
+}
+
+/// 02, C-13: "In demand 3 a reload after the device sent the read's first answer counts as a write." Table 7 holds an unburnt change; another
+/// asker uses table 8 before or between the two answers to a read of it. The read's own first request may reload, and counts as no write.
+#[test]
+fn a_reload_between_two_answers() {
+    let (unburnt, burnt) = ([1; 8], [2; 8]);
+    let cases = [
+        (2, "", [unburnt, unburnt]),
+        (2, "before", [burnt, burnt]),
+        (2, "between", [unburnt, burnt]), // no content that the table ever had
+        (3, "before", [unburnt, unburnt]),
+        (3, "between", [unburnt, unburnt]),
+    ];
+    let mut directory = Directory { own: 5, rights: [2; 32], ..Directory::default() };
+    (directory.sizes[7], directory.sizes[8]) = (16, 1);
+    let other = holder::frame(Parts { offset: 0, kind: REQ, from: 9, to: 5, table: 8 }, &[6, 0, 1]);
+    for (family, used, shown) in cases {
+        let lent = Memories { working: vec![1; 17], flash: vec![2; 17] };
+        let mut device = Device { directory, state: HolderState { family, has_current: 1, current: 7 }, lent };
+        let mut dash = Dash { state: fresh(3), first: vec![0; 512], second: vec![0; 512] };
+        let ticket = dash.open(READ, 7, 0, &[0; 16]).unwrap();
+        for before in ["before", "between"] {
+            if used == before {
+                device.serve(&other).unwrap();
+            }
+            let asked = dash.turn().unwrap();
+            let (reply, _) = device.serve(&asked).unwrap();
+            dash.frame(&reply);
+        }
+        assert_eq!(dash.shown(ticket), shown.concat(), "family {family}, {used}");
     }
 }
 
@@ -610,7 +785,8 @@ fn late_replies_bring_no_old_bytes() {
     let mut directory = Directory { own: 5, ..Directory::default() };
     (directory.sizes[7], directory.rights[7]) = (2000, 1);
     let lent = random_memories(&mut rng, &directory);
-    let table = &lent.working;
+    let table = lent.flash.clone(); // the first answer is from the reloaded table, and so are all others
+    let mut device = Device { directory, state: holder::first_state(2).unwrap(), lent };
     let (mut done, mut refused) = (0, 0);
     for _ in 0..300 {
         let mut dash = Dash::new(0, &mut rng);
@@ -619,7 +795,7 @@ fn late_replies_bring_no_old_bytes() {
         for turn in 0..1000 {
             open.extend(random_read(&mut dash, &mut rng));
             if let Some(asked) = dash.turn() {
-                let (reply, _) = holder::serve(&directory, &lent, &asked).unwrap().1.unwrap();
+                let (reply, _) = device.serve(&asked).unwrap();
                 replies.push((turn + rng.below(slowest), reply)); // the turn after which it arrives
             }
             let (due, later): (Vec<_>, Vec<_>) = replies.into_iter().partition(|(due, _)| *due <= turn);

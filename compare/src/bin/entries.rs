@@ -75,7 +75,10 @@ structs! {
     "hg_request_read" RequestRead { request, clear }
     "hg_request_bytes" RequestBytes { number, bytes }
     "hg_directory" Directory { sizes, rights, table_blocking, write_blocking, own }
+    "hg_holder_state" HolderState { family, has_current, current }
+    "hg_first_state" FirstState { number, state }
     "hg_served" Served { number, frames, clear, frame }
+    "hg_holder_answer" HolderAnswer { served, state }
     "hg_slot" Slot { ticket, offset, phase, kind, device, table, count, progress, sends, left }
     "hg_bridge" Bridge { slots, issued, own, last, rests }
     "hg_opened" Opened { bridge, ticket, number }
@@ -157,40 +160,102 @@ fn requests() {
     call("hg_bus_request_bytes", Model.request_bytes(Request { table: 22, count: 16, offset: 1234 }));
 }
 
-fn holder() {
-    let mut directory = Directory { table_blocking: 0x1234, write_blocking: 0x5678, own: 9, ..Directory::default() };
-    (directory.sizes[3], directory.rights[3]) = (20, 1);
-    (directory.sizes[22], directory.rights[22]) = (30, 2);
-    let (mut memory, mut flash): ([u8; 50], [u8; 50]) = (pattern(1), pattern(60));
-    let parts = |kind| Parts { offset: 17, kind, from: 3, to: 9, table: 22 };
-    let to_22 = |kind, bytes: &[u8]| model::holder::frame(parts(kind), bytes);
-    let (command, burn) = (to_22(CMD, b"store"), to_22(BURN, b""));
-    let mut lend = |directory, memory_len, flash_len, frame| {
-        let (memory, flash) = (&mut memory[..memory_len], &mut flash[..flash_len]);
-        call("hg_bus_serve", Model.serve(directory, memory, flash, frame));
+/// A holder: its directory, its state and both memories.
+struct Tables {
+    directory: Directory,
+    state: HolderState,
+    memory: [u8; 50],
+    flash: [u8; 50],
+}
+
+impl Tables {
+    /// Table 3 of twenty bytes may be read, table 22 of thirty may be written; all others are empty.
+    fn new(state: HolderState) -> Tables {
+        let mut directory =
+            Directory { table_blocking: 0x1234, write_blocking: 0x5678, own: 9, ..Directory::default() };
+        (directory.sizes[3], directory.rights[3]) = (20, 1);
+        (directory.sizes[22], directory.rights[22]) = (30, 2);
+        Tables { directory, state, memory: pattern(1), flash: pattern(60) }
+    }
+
+    /// The tables of a holder in the first state of a family.
+    fn first(family: u8) -> Tables {
+        Tables::new(call("hg_bus_first_state", Model.first_state(family)).state)
+    }
+
+    /// A frame, with these lengths of both memories; the state handed back.
+    fn lend(&mut self, memory_len: usize, flash_len: usize, frame: Frame) -> HolderState {
+        let (memory, flash) = (&mut self.memory[..memory_len], &mut self.flash[..flash_len]);
+        let answer = call("hg_bus_serve", Model.serve(self.directory, self.state, memory, flash, frame));
         changed("hg_bus_serve", "memory", memory);
         changed("hg_bus_serve", "flash", flash);
-    };
-    let mut serve = |frame| lend(directory, 50, 50, frame);
-    serve(command);
-    serve(to_22(REQ, &[0x04, 0x25, 0x86])); // six bytes, to table 4 and offset 300
-    serve(to_22(REQ, &[0x04, 0x25, 0x96])); // the same with bit 4 set, and with two of the top bits
-    serve(to_22(REQ, &[0xA4, 0x25, 0x86]));
-    serve(to_22(REQ, &[0x04, 0x25, 0x89])); // nine bytes
-    serve(to_22(XTND, &[0x80, 0x04, 0x25, 0x85]));
-    serve(to_22(XTND, &[0x80, 0x04, 0x25, 0x95]));
-    serve(to_22(XTND, &[0x80, 0xA4, 0x25, 0x85]));
-    serve(Frame { len: 9, ..command });
-    serve(burn);
-    serve(to_22(CMD, b"again")); // the flash keeps what was burnt
-    serve(to_22(REQ, &[0x04, 0x25, 0x86]));
-    serve(to_22(BURN, b"b"));
-    serve(model::holder::frame(Parts { table: 3, ..parts(BURN) }, b"")); // it may be read
-    serve(to_22(XTND, &[0x0E, 0x01]));
-    for frame in [command, burn] {
-        lend(Directory { own: 16, ..directory }, 50, 50, frame);
-        lend(directory, 49, 50, frame);
-        lend(directory, 50, 49, frame);
+        answer.state
+    }
+
+    /// The next call gets the state that this one hands back.
+    fn serve(&mut self, frame: Frame) {
+        self.state = self.lend(50, 50, frame);
+    }
+}
+
+/// A frame of device 3 for a table of device 9.
+fn to_table(table: u8, kind: u8, bytes: &[u8]) -> Frame {
+    model::holder::frame(Parts { offset: 13, kind, from: 3, to: 9, table }, bytes)
+}
+
+fn holder() {
+    let command = to_table(22, CMD, b"store");
+    let mut held = Tables::first(2);
+    held.serve(command);
+    held.serve(to_table(22, REQ, &[0x04, 0x25, 0x86])); // six bytes, to table 4 and offset 300
+    held.serve(to_table(22, REQ, &[0x04, 0x25, 0x96])); // the same with bit 4 set, and with two of the top bits
+    held.serve(to_table(22, REQ, &[0xA4, 0x25, 0x86]));
+    held.serve(to_table(22, REQ, &[0x04, 0x25, 0x89])); // nine bytes
+    held.serve(to_table(22, XTND, &[0x80, 0x04, 0x25, 0x85]));
+    held.serve(to_table(22, XTND, &[0x80, 0x04, 0x25, 0x95]));
+    held.serve(to_table(22, XTND, &[0x80, 0xA4, 0x25, 0x85]));
+    held.serve(Frame { len: 9, ..command });
+    held.serve(to_table(22, BURN, b""));
+    held.serve(to_table(22, CMD, b"again")); // the flash keeps what was burnt
+    held.serve(to_table(22, REQ, &[0x04, 0x25, 0x86]));
+    held.serve(to_table(22, BURN, b"b"));
+    held.serve(to_table(3, BURN, b"")); // it may be read
+    held.serve(to_table(22, XTND, &[0x0E, 0x01]));
+}
+
+/// A table is written and left for another, and used again; none is current at first, and a query changes nothing.
+fn holder_families() {
+    let (asked, query) = ([0x04, 0x25, 0x86], [0x80, 0x04, 0x25, 0x81]);
+    call("hg_bus_first_state", Model.first_state(1));
+    call("hg_bus_first_state", Model.first_state(4));
+    for family in [2, 3] {
+        for again in [to_table(22, REQ, &asked), to_table(22, CMD, b"new"), to_table(22, BURN, b"")] {
+            let mut held = Tables::first(family);
+            held.serve(to_table(22, XTND, &query));
+            held.serve(to_table(22, CMD, b"store"));
+            held.serve(to_table(3, XTND, &query));
+            held.serve(to_table(3, REQ, &asked));
+            held.serve(again);
+        }
+    }
+}
+
+/// A CMD and a BURN with an unsound directory, with unsound states, and with either memory short.
+fn holder_refusals() {
+    let sound = HolderState { family: 2, has_current: 1, current: 3 };
+    let unsound = [(4, 1, 22), (2, 2, 22), (2, 0, 22), (3, 1, 21), (3, 1, 54)];
+    let mut held = Tables::new(sound);
+    for frame in [to_table(22, CMD, b"store"), to_table(22, BURN, b"")] {
+        held.directory.own = 16;
+        held.lend(50, 50, frame);
+        held.directory.own = 9;
+        for (family, has_current, current) in unsound {
+            held.state = HolderState { family, has_current, current };
+            held.lend(50, 50, frame);
+        }
+        held.state = sound;
+        held.lend(49, 50, frame);
+        held.lend(50, 49, frame);
     }
 }
 
@@ -472,6 +537,8 @@ fn main() {
     identifiers();
     requests();
     holder();
+    holder_families();
+    holder_refusals();
     bridge_by_value();
     bridge_in_place();
     bridge_rests();

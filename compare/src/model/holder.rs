@@ -1,7 +1,9 @@
-//! 01 "Table holder"; 02, C-11: burn, and the flash; C-16: the mark beside the answer to a request, whether its reserved bits were clear.
+//! 01 "Table holder"; 02, C-11: burn, and the flash; C-13: the family, the current table and its reload; C-16: the mark beside the answer
+//! to a request, whether its reserved bits were clear.
 
 use super::{identifier, request, Number, BURN, CMD, REQ, RSP, XTND};
-use crate::abi::{Directory, Frame, Parts, Request};
+use crate::abi::{Directory, Frame, HolderState, Parts, Request};
+use std::ops::Range;
 
 /// 02, C-16: the mark is handed back "beside its answer frame to REQ and the protocol query": whether the reserved bits were clear.
 pub type Answer = (Frame, bool);
@@ -11,6 +13,14 @@ pub type Answer = (Frame, bool);
 pub struct Memories {
     pub working: Vec<u8>,
     pub flash: Vec<u8>,
+}
+
+/// What a served frame leaves: the state, both memories, and the answering frame with its mark, if any.
+#[derive(Clone, Debug, PartialEq, Eq)]
+pub struct Left {
+    pub state: HolderState,
+    pub lent: Memories,
+    pub answer: Option<Answer>,
 }
 
 /// Size 0..2,056, total at most 32,768, right 0..2, own number 0..15.
@@ -28,6 +38,50 @@ pub fn total(directory: &Directory) -> usize {
 /// Table k starts at the sum of the sizes before it.
 pub fn start(directory: &Directory, table: u8) -> usize {
     directory.sizes[..table as usize].iter().map(|size| *size as usize).sum()
+}
+
+/// The bytes of a table in either memory.
+pub fn place(directory: &Directory, table: u8) -> Range<usize> {
+    let start = start(directory, table);
+    start..start + directory.sizes[table as usize] as usize
+}
+
+/// 02, C-13: "its family (2, the older, or 3)".
+const OLDER: u8 = 2;
+
+fn known_family(family: u8) -> bool {
+    family == OLDER || family == 3
+}
+
+/// 02, C-13: "remembers the current table: none at first"; "11 for an unknown family".
+pub fn first_state(family: u8) -> Result<HolderState, Number> {
+    if known_family(family) {
+        Ok(HolderState { family, has_current: 0, current: 0 })
+    } else {
+        Err(11)
+    }
+}
+
+/// 02, C-13: "11 for an unknown family or a current table empty or over 31". What is unused is 0.
+pub fn sound_state(directory: &Directory, state: &HolderState) -> bool {
+    let current = match state.has_current {
+        0 => state.current == 0,
+        1 => state.current <= 31 && directory.sizes[state.current as usize] > 0,
+        _ => false,
+    };
+    known_family(state.family) && current
+}
+
+/// 02, C-13: "On the older family a served CMD, REQ or BURN for any table not current first makes its working bytes equal to its flash
+/// bytes, then acts." What such a frame acts on.
+fn reloaded(directory: &Directory, state: &HolderState, lent: &Memories, table: u8) -> Memories {
+    let mut after = lent.clone();
+    let is_current = state.has_current == 1 && state.current == table;
+    if state.family == OLDER && !is_current {
+        let place = place(directory, table);
+        after.working[place.clone()].copy_from_slice(&lent.flash[place]);
+    }
+    after
 }
 
 /// A frame with zeros past its length.
@@ -50,9 +104,8 @@ pub fn addressed(own: u8, frame: &Frame) -> Result<Parts, Number> {
 }
 
 /// Order: 11, 10, 1, 2, 3, 4, 5, 6, 7, 9, 8; XTND of length 0 is 6; "10 also for a flash of the wrong length".
-/// Hands back both memories afterwards, and the answering frame with its mark, if any.
-pub fn serve(directory: &Directory, lent: &Memories, frame: &Frame) -> Result<(Memories, Option<Answer>), Number> {
-    if !sound(directory) {
+pub fn serve(directory: &Directory, state: &HolderState, lent: &Memories, frame: &Frame) -> Result<Left, Number> {
+    if !sound(directory) || !sound_state(directory, state) {
         return Err(11);
     }
     if lent.working.len() != total(directory) || lent.flash.len() != total(directory) {
@@ -60,21 +113,26 @@ pub fn serve(directory: &Directory, lent: &Memories, frame: &Frame) -> Result<(M
     }
     let parts = addressed(directory.own, frame)?;
     let bytes = &frame.bytes[..frame.len as usize];
-    let mut after = lent.clone();
+    if parts.kind == XTND {
+        let answer = Some(protocol_query(directory, parts, bytes)?);
+        return Ok(Left { state: *state, lent: lent.clone(), answer });
+    }
+    let mut lent = reloaded(directory, state, lent, parts.table);
     let answer = match parts.kind {
         CMD => {
-            after.working = command(directory, &lent.working, parts, bytes)?;
+            lent.working = command(directory, &lent.working, parts, bytes)?;
             None
         }
         REQ => Some(answer_request(directory, &lent.working, parts, bytes)?),
         BURN => {
-            after.flash = burn(directory, lent, parts, bytes)?;
+            lent.flash = burn(directory, &lent, parts, bytes)?;
             Some((acknowledgement(directory, parts), false))
         }
-        XTND => Some(protocol_query(directory, parts, bytes)?),
         _ => return Err(5),
     };
-    Ok((after, answer))
+    // "then on either family that of the last served CMD, REQ or BURN"
+    let state = HolderState { family: state.family, has_current: 1, current: parts.table };
+    Ok(Left { state, lent, answer })
 }
 
 /// CMD, length 1..8: stores the bytes at the offset. Needs right 2.
@@ -122,13 +180,12 @@ fn burn(directory: &Directory, lent: &Memories, parts: Parts, bytes: &[u8]) -> R
     if !bytes.is_empty() {
         return Err(6);
     }
-    let size = directory.sizes[parts.table as usize] as usize;
-    if size == 0 || directory.rights[parts.table as usize] != 2 {
+    let place = place(directory, parts.table);
+    if place.is_empty() || directory.rights[parts.table as usize] != 2 {
         return Err(7);
     }
-    let place = start(directory, parts.table);
     let mut flash = lent.flash.to_vec();
-    flash[place..place + size].copy_from_slice(&lent.working[place..place + size]);
+    flash[place.clone()].copy_from_slice(&lent.working[place]);
     Ok(flash)
 }
 
