@@ -1,6 +1,6 @@
 # The commands of the README. Needs the Rattle kit (rt on the PATH); `make examples` needs a C compiler, `make check` also gcc, g++ and cargo.
 PREFIX = /usr/local
-VERSION = 0.8.0
+VERSION = 0.7.0
 
 archive = target/staticlib/libhoneygimlet.a
 includedir = $(DESTDIR)$(PREFIX)/include

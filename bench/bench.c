@@ -31,13 +31,6 @@ LIBRARY_CALL void library_serve(const hg_directory *d, hg_holder_state *s, uint8
     *out = hg_bus_serve(*d, *s, memory, memory_len, flash, flash_len, *f);
     *s = out->state;
 }
-LIBRARY_CALL uint8_t library_resize(hg_directory *d, hg_holder_state *s, uint8_t table, uint16_t size)
-{
-    hg_resized r = hg_bus_resize(*d, *s, table, size);
-    *d = r.directory;
-    *s = r.state;
-    return r.number;
-}
 LIBRARY_CALL void library_turn(hg_bridge *b, const uint8_t *first, size_t first_len, const uint8_t *second, size_t second_len, hg_yielded *out) { *out = hg_bridge_turn_in_place(b, first, first_len, second, second_len); }
 LIBRARY_CALL void library_frame(hg_bridge *b, uint8_t *first, size_t first_len, const uint8_t *second, size_t second_len, const hg_frame *f, hg_yielded *out) { *out = hg_bridge_frame_in_place(b, first, first_len, second, second_len, *f); }
 LIBRARY_CALL void library_read_header(const uint8_t *file, size_t len, hg_mlg_header *out) { *out = hg_mlg_read_header(file, len); }
@@ -62,13 +55,6 @@ static uint64_t answer_digest(uint64_t h, uint8_t number, uint8_t frames, const 
 }
 
 static uint64_t state_digest(uint64_t h, const hg_holder_state *s) { return mixed(mixed(mixed(h, s->family), s->has_current), s->current); }
-
-static uint64_t directory_digest(uint64_t h, const hg_directory *d)
-{
-    for (int i = 0; i < 32; i++)
-        h = mixed(mixed(mixed(h, d->sizes[i]), d->starts[i]), d->rights[i]);
-    return mixed(mixed(mixed(mixed(h, d->total), d->table_blocking), d->write_blocking), d->own);
-}
 
 static uint64_t slot_digest(uint64_t h, const hg_slot *s)
 {
@@ -110,7 +96,6 @@ enum { IDS = 4096, FRAMES = 256, BRIDGES = 256, HEADERS = 16, ROOM = 1 << 20, LA
 
 static uint32_t ids[IDS];
 static hg_directory directory, copy_directory; /* the second has LARGE tables of 2,056 bytes, then SMALL of 64, then one of the rest */
-static hg_directory resized;                   /* by one resize after another */
 static uint8_t memory[32768], memory_start[32768], flash[32768], flash_start[32768];
 static hg_holder_state states[FRAMES];
 
@@ -120,13 +105,6 @@ typedef struct {
     hg_holder_state before[FRAMES];
 } holder_inputs;
 static holder_inputs commands, requests, older_commands, older_requests, small_burns, large_burns, small_reloads, large_reloads;
-
-/* Resizes of one directory, and a holder's state before each. */
-static struct {
-    uint8_t tables[FRAMES];
-    uint16_t sizes[FRAMES];
-    hg_holder_state before[FRAMES];
-} resizes;
 static hg_bridge bridges[BRIDGES];
 static uint8_t first[HG_BUFFER], first_start[HG_BUFFER], second[HG_BUFFER], second_start[HG_BUFFER];
 
@@ -141,17 +119,6 @@ static size_t log_lens[2];
 static const uint16_t log_sizes[2] = {32, 512};
 static uint8_t header_file[65536], list_file[65536], listed[ROOM];
 static size_t header_len, list_len;
-
-/* The starts and the total of the sizes. */
-static void set_starts(hg_directory *d)
-{
-    uint16_t total = 0;
-    for (int i = 0; i < 32; i++) {
-        d->starts[i] = total;
-        total = (uint16_t)(total + d->sizes[i]);
-    }
-    d->total = total;
-}
 
 /* Before each frame the current table is its own, or, with `back` 1, that of the frame before it; before the first comes the last. */
 static void make_states(holder_inputs *in, uint8_t family, int back)
@@ -184,7 +151,6 @@ static void make_bus_inputs(void)
         directory.sizes[i] = 1024;
         directory.rights[i] = 2;
     }
-    set_starts(&directory);
     for (size_t i = 0; i < sizeof memory_start; i++)
         memory_start[i] = (uint8_t)random_number();
     for (int i = 0; i < FRAMES; i++) {
@@ -209,7 +175,6 @@ static void make_burn_inputs(void)
     copy_directory = directory;
     for (int i = 0; i < 32; i++)
         copy_directory.sizes[i] = i < LARGE ? 2056 : i < LARGE + SMALL ? 64 : 32768 - LARGE * 2056 - SMALL * 64;
-    set_starts(&copy_directory);
     for (size_t i = 0; i < sizeof flash_start; i++)
         flash_start[i] = (uint8_t)random_number();
     for (int i = 0; i < FRAMES; i++) {
@@ -230,35 +195,6 @@ static void make_reloads(holder_inputs *in, unsigned first_table, unsigned count
         make_request(&in->frames[i], (hg_parts){(uint16_t)(random_number() % offsets), HG_REQ, 3, 5, (uint8_t)table});
     }
     make_states(in, 2, 1);
-}
-
-/*
- * Any table gets any size below 1,700, so that the total is seldom too large; one in eight becomes empty, and one in 16 is refused for its number or
- * its size. Before each the current table is that one or another, or none where it is empty.
- */
-static void make_resizes(void)
-{
-    hg_directory d = directory;
-    unsigned accepted = 0;
-    for (int i = 0; i < FRAMES; i++) {
-        uint8_t table = (uint8_t)(random_number() % 32);
-        uint16_t size = (uint16_t)(i % 8 == 7 ? 0 : random_number() % 1700);
-        uint8_t current = random_number() % 2 ? table : (uint8_t)(random_number() % 32);
-        if (i % 32 == 5)
-            table = 32;
-        if (i % 32 == 21)
-            size = 2057;
-        resizes.tables[i] = table;
-        resizes.sizes[i] = size;
-        resizes.before[i] = d.sizes[current] ? (hg_holder_state){3, 1, current} : (hg_holder_state){3, 0, 0};
-        hg_resized r = hg_bus_resize(d, resizes.before[i], table, size);
-        accepted += r.number == 0;
-        d = r.directory;
-    }
-    if (accepted < FRAMES * 7 / 8) {
-        printf("only %u of %d resizes are accepted\n", accepted, FRAMES);
-        exit(1);
-    }
 }
 
 /* Opens transfers in free slots: reads and writes by turns, or checked writes, which all send the same bytes, so that the second buffer fits each. */
@@ -420,11 +356,6 @@ static void restore_small_burn(void) { restore_holder(&small_burns); }
 static void restore_large_burn(void) { restore_holder(&large_burns); }
 static void restore_small_reload(void) { restore_holder(&small_reloads); }
 static void restore_large_reload(void) { restore_holder(&large_reloads); }
-static void restore_resize(void)
-{
-    resized = directory;
-    memcpy(states, resizes.before, sizeof states);
-}
 static void restore_bridges(const hg_bridge *start)
 {
     memcpy(bridges, start, sizeof bridges);
@@ -475,16 +406,6 @@ static uint64_t buffers_digest(uint64_t h) { return mixed_bytes(mixed_bytes(h, f
     BODY large_burn_body_##V(bool check) { return serve_frames_##V(&copy_directory, large_burns.frames, check); } \
     BODY small_reload_body_##V(bool check) { return serve_frames_##V(&copy_directory, small_reloads.frames, check); } \
     BODY large_reload_body_##V(bool check) { return serve_frames_##V(&copy_directory, large_reloads.frames, check); } \
-    BODY resize_body_##V(bool check) \
-    { \
-        uint64_t a = 0; \
-        for (int i = 0; i < FRAMES; i++) { \
-            a += V##_resize(&resized, &states[i], resizes.tables[i], resizes.sizes[i]); \
-            if (check) \
-                a = state_digest(directory_digest(a, &resized), &states[i]); \
-        } \
-        return a; \
-    } \
     BODY turn_body_##V(bool check) \
     { \
         uint64_t a = 0; \
@@ -564,7 +485,6 @@ DEFINE_TEST_BATCHES(small_burn)
 DEFINE_TEST_BATCHES(large_burn)
 DEFINE_TEST_BATCHES(small_reload)
 DEFINE_TEST_BATCHES(large_reload)
-DEFINE_TEST_BATCHES(resize)
 DEFINE_TEST_BATCHES(turn)
 DEFINE_TEST_BATCHES(frame)
 DEFINE_TEST_BATCHES(check_turn)
@@ -594,7 +514,6 @@ static test tests[] = {
     {"large_burn", "serve a BURN, 2,056 bytes", restore_large_burn, FRAMES, 2000, RUNS(large_burn), CHECKS(large_burn)},
     {"small_reload", "serve a REQ, 64 bytes reloaded", restore_small_reload, FRAMES, 8000, RUNS(small_reload), CHECKS(small_reload)},
     {"large_reload", "serve a REQ, 2,056 bytes reloaded", restore_large_reload, FRAMES, 2000, RUNS(large_reload), CHECKS(large_reload)},
-    {"resize", "resize a table", restore_resize, FRAMES, 8000, RUNS(resize), CHECKS(resize)},
     {"turn", "turn in place", restore_turn, BRIDGES, 8000, RUNS(turn), CHECKS(turn)},
     {"frame", "frame in place", restore_frame, BRIDGES, 8000, RUNS(frame), CHECKS(frame)},
     {"check_turn", "turn, checked writes", restore_check_turn, BRIDGES, 8000, RUNS(check_turn), CHECKS(check_turn)},
@@ -688,7 +607,6 @@ int main(int argc, char **argv)
     make_burn_inputs();
     make_reloads(&small_reloads, LARGE, SMALL, 64 - 7);
     make_reloads(&large_reloads, 0, LARGE, 2048);
-    make_resizes();
     for (int i = 0; i < TESTS; i++)
         if (tests[i].operations == 0)
             tests[i].operations = blocks_in(strcmp(tests[i].key, "log512") == 0);

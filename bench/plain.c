@@ -53,20 +53,6 @@ static void no_frame(hg_served *out, uint8_t number)
 
 /* ---- Table holder ---- */
 
-/* Each table ends where the next one starts, the last at the total. With no size over 2,056, 16 bits hold every start; the last end may need more. */
-static bool sound_directory(const hg_directory *d)
-{
-    uint16_t bad = d->own > 15 || d->total > 32768, off = d->starts[0];
-    uint8_t wrong = 0;
-    for (int i = 0; i < 32; i++)
-        wrong |= d->rights[i] > 2;
-    for (int i = 0; i < 32; i++)
-        bad |= d->sizes[i] > 2056;
-    for (int i = 0; i < 31; i++)
-        off |= (uint16_t)(d->starts[i] + d->sizes[i] - d->starts[i + 1]);
-    return !(bad | off | wrong) && d->total == d->starts[31] + d->sizes[31];
-}
-
 static bool sound_state(const hg_directory *d, const hg_holder_state *s)
 {
     if (s->family != 2 && s->family != 3)
@@ -79,35 +65,29 @@ static bool sound_state(const hg_directory *d, const hg_holder_state *s)
 /* 11 and 10, or 0. */
 static uint8_t memory_number(const hg_directory *d, const hg_holder_state *s, size_t memory_len, size_t flash_len)
 {
-    if (!sound_directory(d) || !sound_state(d, s))
+    unsigned bad = d->own > 15, total = 0;
+    for (int i = 0; i < 32; i++) {
+        bad |= d->sizes[i] > 2056;
+        bad |= d->rights[i] > 2;
+        total += d->sizes[i];
+    }
+    if (bad || total > 32768 || !sound_state(d, s))
         return 11;
-    return memory_len == d->total && flash_len == d->total ? 0 : 10;
+    return memory_len == total && flash_len == total ? 0 : 10;
 }
 
-/* A table's new size in place; the starts after it and the total move by as much, modulo 65,536 on the way. */
-uint8_t PLAIN(resize)(hg_directory *d, hg_holder_state *s, uint8_t table, uint16_t size)
+static size_t start_of(const hg_directory *d, size_t table)
 {
-    if (!sound_directory(d) || !sound_state(d, s) || table > 31 || size > 2056)
-        return 11;
-    unsigned total = (unsigned)d->total - d->sizes[table] + size;
-    if (total > 32768)
-        return 11;
-    uint16_t change = (uint16_t)(size - d->sizes[table]);
-    d->sizes[table] = size;
-    for (int i = table + 1; i < 32; i++)
-        d->starts[i] = (uint16_t)(d->starts[i] + change);
-    d->total = (uint16_t)total;
-    if (size == 0 && s->has_current && s->current == table) {
-        s->has_current = 0;
-        s->current = 0;
-    }
-    return 0;
+    size_t at = 0;
+    for (size_t i = 0; i < table; i++)
+        at += d->sizes[i];
+    return at;
 }
 
 /* Makes a table current, which family 2 first reloads unless it was; hands back its start. */
 static size_t make_current(const hg_directory *d, hg_holder_state *s, uint8_t *memory, const uint8_t *flash, unsigned table)
 {
-    size_t start = d->starts[table];
+    size_t start = start_of(d, table);
     if (s->family == 2 && !(s->has_current && s->current == table))
         memcpy(memory + start, flash + start, d->sizes[table]);
     s->has_current = 1;

@@ -74,10 +74,9 @@ typedef struct {
 
 /* Table 3 of twenty bytes may be read, table 22 of thirty may be written; all others are empty. */
 static tables fresh_tables(void) {
-    tables held = {.directory = {.total = 50, .table_blocking = 0x1234, .write_blocking = 0x5678, .own = 9}, .state = {0}};
+    tables held = {.directory = {.table_blocking = 0x1234, .write_blocking = 0x5678, .own = 9}, .state = {0}};
     held.directory.sizes[3] = 20, held.directory.rights[3] = 1;
     held.directory.sizes[22] = 30, held.directory.rights[22] = 2;
-    for (int k = 4; k < 32; k++) held.directory.starts[k] = k <= 22 ? 20 : 50;
     fill(held.memory, 50, 1);
     fill(held.flash, 50, 60);
     return held;
@@ -130,15 +129,7 @@ static void holder_families(void) {
     }
 }
 
-/* Directories with an own number, a start and a total that are wrong. */
-static void unsound_directories(hg_directory *three) {
-    for (int i = 0; i < 3; i++) three[i] = fresh_tables().directory;
-    three[0].own = 16;
-    three[1].starts[21] = 21;
-    three[2].total = 51;
-}
-
-/* A CMD and a BURN with unsound directories, with unsound states, and with either memory short. */
+/* A CMD and a BURN with an unsound directory, with unsound states, and with either memory short. */
 static void holder_refusals(void) {
     const hg_holder_state unsound[] = {
         {.family = 4, .has_current = 1, .current = 22}, {.family = 2, .has_current = 2, .current = 22},
@@ -146,69 +137,17 @@ static void holder_refusals(void) {
         {.family = 3, .has_current = 1, .current = 54},
     };
     tables held = fresh_tables();
-    hg_directory others[3];
+    hg_directory other = held.directory;
     hg_frame frames[2];
-    unsound_directories(others);
+    other.own = 16;
     held.state = (hg_holder_state){.family = 2, .has_current = 1, .current = 3};
     frames[0] = to_table(22, HG_CMD, "store", 5), frames[1] = to_table(22, HG_BURN, "", 0);
     for (int i = 0; i < 2; i++) {
-        for (int k = 0; k < 3; k++) CALL(hg_bus_serve, .directory = others[k], .state = held.state, WHOLE, .frame = frames[i]);
+        CALL(hg_bus_serve, .directory = other, .state = held.state, WHOLE, .frame = frames[i]);
         for (int k = 0; k < 5; k++) CALL(hg_bus_serve, .directory = held.directory, .state = unsound[k], WHOLE, .frame = frames[i]);
         CALL(hg_bus_serve, .directory = held.directory, .state = held.state, HELD(49, 50), .frame = frames[i]);
         CALL(hg_bus_serve, .directory = held.directory, .state = held.state, HELD(50, 49), .frame = frames[i]);
     }
-}
-
-/* A table of these gets a size; the next call gets the directory and the state that this one hands back. */
-static void resize(tables *held, uint8_t table, uint16_t size) {
-    hg_resized resized = CALL(hg_bus_resize, .directory = held->directory, .state = held->state, .table = table, .size = size);
-    held->directory = resized.directory, held->state = resized.state;
-}
-
-/* A directory is made table after table; table 22 is current, and cut, emptied and filled again. */
-static void resizes(void) {
-    tables held = {.directory = {.table_blocking = 0x1234, .write_blocking = 0x5678, .own = 9}, .state = {.family = 3}};
-    memset(held.directory.rights, 2, 32);
-    resize(&held, 22, 30);
-    resize(&held, 3, 20);
-    resize(&held, 31, 2056);
-    held.state = (hg_holder_state){.family = 2, .has_current = 1, .current = 22};
-    resize(&held, 22, 7);
-    resize(&held, 22, 7);
-    resize(&held, 3, 0);
-    resize(&held, 22, 0);
-    resize(&held, 22, 5);
-}
-
-/* Tables over 31, a size over 2,056 and a total over 32,768, beside those that are lawful; unsound directories and an unsound state. */
-static void resize_refusals(void) {
-    tables held = fresh_tables(), full = fresh_tables();
-    hg_directory others[3];
-    held.state = full.state = (hg_holder_state){.family = 2, .has_current = 1, .current = 22};
-    resize(&held, 32, 5);
-    resize(&held, 54, 0);
-    resize(&held, 22, 2057);
-    for (int k = 0; k < 32; k++) full.directory.sizes[k] = 1024, full.directory.starts[k] = (uint16_t)(1024 * k);
-    full.directory.total = 32768;
-    resize(&full, 5, 1025);
-    resize(&full, 5, 1023);
-    unsound_directories(others);
-    for (int k = 0; k < 3; k++) CALL(hg_bus_resize, .directory = others[k], .state = held.state, .table = 22, .size = 31);
-    held.state.current = 21;
-    resize(&held, 21, 31);
-}
-
-/* Table 3 is cut to twelve bytes, and table 22 moved to where it starts then; it is read, written and burnt there. */
-static void moved_table(void) {
-    tables held = fresh_tables();
-    held.state = (hg_holder_state){.family = 2, .has_current = 1, .current = 22};
-    resize(&held, 3, 12);
-    SERVE(to_table(22, HG_REQ, "\x04\x25\x86", 3));
-    memmove(held.memory + 12, held.memory + 20, 30);
-    memmove(held.flash + 12, held.flash + 20, 30);
-    CALL(hg_bus_serve, .directory = held.directory, .state = held.state, HELD(42, 42), .frame = to_table(22, HG_REQ, "\x04\x25\x86", 3));
-    CALL(hg_bus_serve, .directory = held.directory, .state = held.state, HELD(42, 42), .frame = to_table(22, HG_CMD, "store", 5));
-    CALL(hg_bus_serve, .directory = held.directory, .state = held.state, HELD(42, 42), .frame = to_table(22, HG_BURN, "", 0));
 }
 
 /* A reply of device 5 to device 9, for a place of its buffer. */
@@ -441,9 +380,6 @@ int main(void) {
     holder();
     holder_families();
     holder_refusals();
-    resizes();
-    resize_refusals();
-    moved_table();
     bridge_by_value();
     bridge_in_place();
     bridge_rests();

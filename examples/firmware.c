@@ -14,10 +14,8 @@
  * Then the dash tunes: it writes today's map into table 3 and burns it; a BURN of table 7, which is read only, is refused; then it writes
  * another map and does not burn that. The device is switched off and loses its working memory; at power-up its host loads that from flash. The
  * dash reads today's map, not yesterday's, and table 7 is as at the start.
- * Up to here the device is of family 3. Then it is a Megasquirt-2 (family 2), which keeps a single table in working memory. The dash writes a map into
+ * Up to here the device is of family 3. Last, it is a Megasquirt-2 (family 2), which keeps a single table in working memory. The dash writes a map into
  * table 3, does not burn it and reads table 7: table 3 then has the map burnt before. It writes another map, burns that and reads table 7: it is kept.
- * Last, the device's host resizes tables. Table 3 grows, so table 7 moves in working memory and in flash, and the dash reads it at its new place. A size
- * that no table may have is refused, and all is as before. Table 3 becomes empty: it is no longer current, and a BURN of it is refused.
  *
  *     gcc -std=c11 -Iinclude examples/firmware.c target/staticlib/libhoneygimlet.a -o target/firmware
  */
@@ -30,7 +28,7 @@
 #include <string.h>
 
 enum { DASH = 0, BOARD = 2, DEVICE = 5, OTHER = 9 };
-enum { READ_TABLE = 7, READ_SIZE = 512, READ_OFFSET = 64, READ_COUNT = 128 };
+enum { READ_TABLE = 7, READ_OFFSET = 64, READ_COUNT = 128 };
 enum { WRITE_TABLE = 3, WRITE_OFFSET = 6, WRITE_COUNT = 20 };
 enum { MAP_COUNT = 12 }; /* bytes of a fuel map, at WRITE_OFFSET of table 3 */
 
@@ -70,46 +68,16 @@ static bool bus_take(unsigned turn, bus_event *event)
 
 /* ---- The device: a table holder, and its host ---- */
 
-static hg_directory directory; /* all 0 at first, which is sound: all tables are empty */
+static hg_directory directory; /* all tables empty at first */
 static hg_holder_state state; /* the family, and the current table */
-static uint8_t memory[1024], flash[1024]; /* working memory, and flash of the same layout: the directory's total of each is used */
+static uint8_t memory[512 + 32], flash[512 + 32]; /* working memory, and flash of the same layout */
+static uint8_t *const write_table = memory, *const write_flash = flash;         /* table 3: 32 bytes, read and write */
+static uint8_t *const read_table = memory + 32, *const read_flash = flash + 32; /* table 7: 512 bytes, read only */
 
 static bool unplugged;  /* nothing reaches the device */
 static unsigned missed; /* which CMD from now on the device misses, counted from 1; 0: none */
 static unsigned slow;   /* how many turns late its next reply is */
 static unsigned answered[16], clear[16]; /* each sender's requests that it answered, and those of them whose reserved bits were clear */
-
-/* Where a table starts in working memory, in flash or in a copy of either. */
-static uint8_t *table_in(uint8_t *bytes, uint8_t table)
-{
-    return bytes + directory.starts[table];
-}
-
-/* Moves the bytes behind a table to where its new size lets them start; bytes that the table gains are 0. */
-static void move_later(uint8_t *bytes, uint8_t table, uint16_t size)
-{
-    uint8_t *start = table_in(bytes, table), *later = start + directory.sizes[table];
-    memmove(start + size, later, directory.total - directory.starts[table] - directory.sizes[table]);
-    if (size > directory.sizes[table])
-        memset(later, 0, size - directory.sizes[table]);
-}
-
-/* Sets a table's size and lays out both memories for it (a real host its flash chip too), or changes nothing; hands back the number. */
-static uint8_t resize(uint8_t table, uint16_t size)
-{
-    hg_resized resized = hg_bus_resize(directory, state, table, size);
-    if (resized.directory.total > sizeof memory) {
-        puts("the tables do not fit into the host's memory");
-        exit(1);
-    }
-    if (resized.number == 0) {
-        move_later(memory, table, size);
-        move_later(flash, table, size);
-    }
-    directory = resized.directory; /* after a refusal too: then both are as they were */
-    state = resized.state;
-    return resized.number;
-}
 
 /* At power-up the host loads working memory from flash, and no table is current. */
 static void power_up(uint8_t family)
@@ -120,7 +88,7 @@ static void power_up(uint8_t family)
         exit(1);
     }
     state = fresh.state;
-    memcpy(memory, flash, directory.total);
+    memcpy(memory, flash, sizeof memory);
     unplugged = false;
 }
 
@@ -131,27 +99,17 @@ static void switch_off(void)
     unplugged = true;
 }
 
-/* A table, still empty, gets its size and its right. */
-static void add_table(uint8_t table, uint16_t size, uint8_t right)
-{
-    uint8_t number = resize(table, size);
-    if (number != 0) {
-        printf("the size of table %u is refused with number %u\n", table, number);
-        exit(1);
-    }
-    directory.rights[table] = right;
-}
-
-/* Table 3 may be read and written, table 7 only read. Flash has yesterday's map. */
+/* Flash has yesterday's map. */
 static void device_start(void)
 {
-    power_up(3); /* a resize takes the state too */
     directory.own = DEVICE;
-    add_table(WRITE_TABLE, 32, 2);
-    add_table(READ_TABLE, READ_SIZE, 1);
-    memcpy(table_in(flash, WRITE_TABLE) + WRITE_OFFSET, "fuel map old", MAP_COUNT);
-    for (size_t i = 0; i < READ_SIZE; i++)
-        table_in(flash, READ_TABLE)[i] = (uint8_t)(i * 7 + 3);
+    directory.sizes[WRITE_TABLE] = 32;
+    directory.rights[WRITE_TABLE] = 2;
+    directory.sizes[READ_TABLE] = 512;
+    directory.rights[READ_TABLE] = 1;
+    memcpy(write_flash + WRITE_OFFSET, "fuel map old", MAP_COUNT);
+    for (size_t i = 0; i < 512; i++)
+        read_flash[i] = (uint8_t)(i * 7 + 3);
     power_up(3);
 }
 
@@ -166,7 +124,7 @@ static void device_frame(unsigned turn, hg_frame frame)
         printf("turn %3u  device  misses 0x%08" PRIX32 "\n", turn, frame.id);
         return;
     }
-    hg_holder_answer answer = hg_bus_serve(directory, state, memory, directory.total, flash, directory.total, frame);
+    hg_holder_answer answer = hg_bus_serve(directory, state, memory, sizeof memory, flash, sizeof flash, frame);
     hg_served served = answer.served;
     state = answer.state; /* after a refusal too: then it is as it was */
     if (parts.kind == HG_BURN) /* answered 0, a real host now writes the table to its flash chip, before the acknowledgement goes out */
@@ -363,8 +321,8 @@ static bool read_and_write(void)
         }
     }
 
-    bool same = read_done(read, table_in(memory, READ_TABLE) + READ_OFFSET, READ_COUNT, "the table's");
-    bool stored = memcmp(table_in(memory, WRITE_TABLE) + WRITE_OFFSET, text, sizeof text) == 0;
+    bool same = read_done(read, read_table + READ_OFFSET, READ_COUNT, "the table's");
+    bool stored = memcmp(write_table + WRITE_OFFSET, text, sizeof text) == 0;
     printf("          device  has %s\n", stored ? "the bytes written" : "NOT the bytes written");
     return same && stored && closed(read) && closed(write);
 }
@@ -390,7 +348,7 @@ static bool check(const char *text, uint8_t expected)
     /* It ends within 76 turns for each started eight bytes. */
     while ((number = hg_bridge_status(bridge, ticket)) == HG_NOT_FINISHED)
         loop_turn();
-    bool stored = memcmp(table_in(memory, WRITE_TABLE) + WRITE_OFFSET, bytes, sizeof bytes) == 0;
+    bool stored = memcmp(write_table + WRITE_OFFSET, bytes, sizeof bytes) == 0;
     printf("turn %3u  dash    the checked write %s: number %u\n", turn, ending(number), number);
     printf("          device  has %s\n", stored ? "the bytes" : "other bytes");
     return number == expected && stored == (number == HG_DONE) && closed(ticket);
@@ -428,7 +386,7 @@ static uint32_t open_rested(uint16_t offset)
 
 static bool read_eight(uint32_t ticket, uint16_t offset)
 {
-    return read_shows(ticket, table_in(memory, READ_TABLE) + offset, 8, "the table's");
+    return read_shows(ticket, read_table + offset, 8, "the table's");
 }
 
 /* A read is closed before its answer, which comes 20 turns late; false where anybody gets its bytes. */
@@ -457,7 +415,7 @@ static bool board_read(uint16_t offset, uint8_t bits)
     board_asks(turn, offset, bits);
     loop_turn();
     loop_turn();
-    bool same = board_got.len == 2 && memcmp(board_got.bytes, table_in(memory, READ_TABLE) + offset, 2) == 0;
+    bool same = board_got.len == 2 && memcmp(board_got.bytes, read_table + offset, 2) == 0;
     printf("turn %3u  board   takes  0x%08" PRIX32 ": %u bytes, %s\n", turn, board_got.id, board_got.len, same ? "the table's" : "NOT the table's");
     return same;
 }
@@ -496,7 +454,7 @@ static bool burn(uint8_t table, bool expected)
 /* Whether flash, or working memory after power-up or a reload, is as it should be: table 3 as it was burnt, table 7 as at the start. */
 static bool has_burnt(const char *where, const uint8_t *bytes, const uint8_t *wanted)
 {
-    bool same = memcmp(bytes, wanted, directory.total) == 0;
+    bool same = memcmp(bytes, wanted, sizeof flash) == 0;
     printf("          device  has in %s %s\n", where, same ? "the map burnt, and table 7 as at the start" : "NOT what it should");
     return same;
 }
@@ -525,10 +483,10 @@ static bool tune(void)
 {
     uint8_t wanted[sizeof flash];
     memcpy(wanted, flash, sizeof wanted);
-    table_in(memory, READ_TABLE)[0]++; /* the device changes table 7 in working memory, and nobody burns that */
+    read_table[0]++; /* the device changes table 7 in working memory, and nobody burns that */
     if (!check("fuel map new", HG_DONE))
         return false;
-    memcpy(table_in(wanted, WRITE_TABLE), table_in(memory, WRITE_TABLE), directory.sizes[WRITE_TABLE]);
+    memcpy(wanted, write_table, 32);
     if (!burn(WRITE_TABLE, true) || !has_burnt("flash", flash, wanted) || !burn(READ_TABLE, false) || !has_burnt("flash", flash, wanted))
         return false;
     return check("fuel map odd", HG_DONE) && off_and_on(wanted);
@@ -539,7 +497,7 @@ static bool touch_another(const char *map, bool burns, const char *in_flash)
 {
     uint8_t wanted[sizeof flash];
     memcpy(wanted, flash, sizeof wanted);
-    memcpy(table_in(wanted, WRITE_TABLE) + WRITE_OFFSET, in_flash, MAP_COUNT);
+    memcpy(wanted + WRITE_OFFSET, in_flash, MAP_COUNT);
     rested_reset();
     if (!check(map, HG_DONE) || (burns && !burn(WRITE_TABLE, true)) || !read_eight(open_rested(0), 0) || !read_map(in_flash))
         return false;
@@ -553,33 +511,6 @@ static bool forget(void)
     puts("          device  is a Megasquirt-2 from now on");
     power_up(2);
     return touch_another("fuel map odd", false, "fuel map new") && touch_another("fuel map top", true, "fuel map top");
-}
-
-/* The host sets a table's size; false where the number is not the one expected, or table 7 is not whole, at its start, in both memories. */
-static bool resizes(uint8_t table, uint16_t size, uint8_t expected)
-{
-    uint8_t before[READ_SIZE];
-    memcpy(before, table_in(memory, READ_TABLE), sizeof before);
-    uint8_t number = resize(table, size);
-    bool whole = memcmp(table_in(memory, READ_TABLE), before, sizeof before) == 0 && memcmp(table_in(flash, READ_TABLE), before, sizeof before) == 0;
-    printf("          device  %s table %u to %u bytes, number %u: total %u, table 7 is %swhole at %u, ", number == 0 ? "sets" : "does not set", table, size,
-           number, directory.total, whole ? "" : "NOT ", directory.starts[READ_TABLE]);
-    if (state.has_current)
-        printf("table %u is current\n", state.current);
-    else
-        puts("no table is current");
-    return number == expected && whole;
-}
-
-/* The map's table grows, another size is refused, and the map's table becomes empty; false where the dash reads something else than before. */
-static bool change_sizes(void)
-{
-    rested_reset();
-    if (!resizes(WRITE_TABLE, 64, HG_DONE) || !read_eight(open_rested(504), 504) || !read_map("fuel map top"))
-        return false;
-    if (!resizes(READ_TABLE, 2057, HG_UNSOUND) || !read_map("fuel map top") || !state.has_current)
-        return false;
-    return resizes(WRITE_TABLE, 0, HG_DONE) && !state.has_current && burn(WRITE_TABLE, false) && read_eight(open_rested(504), 504);
 }
 
 int main(void)
@@ -598,5 +529,5 @@ int main(void)
     if (!check("fuel map six", HG_DIFFERENT))
         return 1;
     rested_reset();
-    return late_answer() && reserved_bit() && tune() && forget() && change_sizes() ? 0 : 1;
+    return late_answer() && reserved_bit() && tune() && forget() ? 0 : 1;
 }

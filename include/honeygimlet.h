@@ -4,11 +4,10 @@
  *
  * Every call judges its arguments: any number in any argument is allowed, and a refusal carries one of the numbers below,
  * changes nothing that it was lent and yields no frame; every other number in its answer is 0, save a block's kind and place, and the
- * bridge, the directory or the holder's state that a call by value hands back as it was.
+ * bridge or the holder's state that a call by value hands back as it was.
  * What a caller must see to, since no call can: a pointer is not null (not even with length 0), points to as many bytes as
  * the length beside it says, fewer than 2^63, and memory that a call may write overlaps no other memory lent to that call.
- * What is handed in by value is initialised: `hg_bridge b = {0};` before the first reset, `hg_directory d = {0};` before the first resize,
- * `hg_frame f = {0};` before its bytes are set.
+ * What is handed in by value is initialised: `hg_bridge b = {0};` before the first reset, `hg_frame f = {0};` before its bytes are set.
  *
  * The library has no variables, allocates nothing and keeps nothing between calls: its calls are re-entrant, and threads that lend
  * them different memory do not meet. No call's time grows with a product of two lengths. What it grows with, and the bytes of stack
@@ -57,7 +56,7 @@ enum {
     HG_RANGE = 8,            /* range past the table's end; offset, or offset and count, too large */
     HG_COUNT = 9,            /* count not allowed */
     HG_MEMORY_LENGTH = 10,   /* lent memory of wrong length: working memory, flash or buffer */
-    HG_UNSOUND = 11,         /* directory, state or own number unsound; table, size or new total of a resize too large */
+    HG_UNSOUND = 11,         /* directory, state or own number unsound */
     HG_NO_SLOT = 12,         /* no free slot */
     HG_NO_TICKET = 13,       /* tickets used up */
     HG_UNKNOWN_TICKET = 14,  /* ticket unknown */
@@ -154,30 +153,24 @@ hg_request_bytes hg_bus_request_bytes(hg_request request);
 /* ---- Table holder ---- */
 
 /*
- * 32 tables lie back to back in working memory, and in the same way in flash: table k starts at the sum of the sizes before it. The directory keeps
- * each start and the total, the sum of all sizes; working memory and flash are each as long as the total.
- * Sound, else 11 from every call that takes it: sizes, total, rights and own number are in the ranges below, and every start, an empty table's too,
- * and the total are the sums, which are not taken modulo 65,536.
- * The directory that is all 0 is sound: all tables are empty, the own number is 0. A host starts from it and gives table after table its size by
- * hg_bus_resize, which alone writes sizes, starts and total; rights, blocking factors and own number the host sets itself, and a resize leaves them.
+ * 32 tables lie back to back in working memory, and in the same way in flash: table k starts at the sum of the sizes before it. The sum of all
+ * is at most 32,768; working memory and flash are each as long as it.
  */
 typedef struct {
     uint16_t sizes[32];     /* 0..2056 */
-    uint16_t starts[32];    /* of each table, the sum of the sizes before it */
     uint8_t rights[32];     /* 0 none, 1 read, 2 read and write */
-    uint16_t total;         /* the sum of all sizes, at most 32,768 */
     uint16_t table_blocking;
     uint16_t write_blocking;
     uint8_t own;            /* own number, 0..15 */
 } hg_directory;
-HG_SIZE(hg_directory, 168);
+HG_SIZE(hg_directory, 102);
 
 /*
  * A holder's state: its family, and its current table, which is that of the last CMD, REQ or BURN answered 0, on either family; at first none is.
  * It goes by value. Set it from hg_bus_first_state, and hand on what each call hands back, `state = answer.state`, also after a refusal,
  * which hands back the state that it was given. Sound, else 11: family is 2 or 3, and either has_current and current are 0, or has_current is 1 and
- * current is a table whose size is not 0. So a state that was never set, all 0, makes every frame and every resize be refused. Where hg_bus_resize
- * sets the current table to size 0, the state that it hands back has no current table.
+ * current is a table whose size is not 0. So a state that was never set, all 0, makes every frame be refused; and so does one whose current table the
+ * host gave size 0: it sets has_current and current to 0 then.
  */
 typedef struct {
     uint8_t family;      /* 2, the older, or 3 */
@@ -208,33 +201,12 @@ typedef struct {
 } hg_holder_answer;
 HG_SIZE(hg_holder_answer, 24);
 
-/* A number, and directory and state after a resize, to be handed to the next call; in a refusal both are as given. */
-typedef struct {
-    uint8_t number;
-    hg_directory directory;
-    hg_holder_state state;
-} hg_resized;
-HG_SIZE(hg_resized, 174);
-
 /* A holder's state at power-up: of that family, and no table is current. Number: 11 (family other than 2 or 3). */
 hg_first_state hg_bus_first_state(uint8_t family);
 
 /*
- * Sets one table's size. The later starts and the total follow; the other sizes, rights, blocking factors and own number stay. If the table is
- * current and the size 0, no table is current any more (has_current and current are 0); otherwise the state stays as it was. A table that
- * keeps its size leaves all as it was.
- * It is lent no memory and moves no bytes: the host does that, in working memory, in flash and on its chip, before the next hg_bus_serve. Each memory is
- * then as long as the new total, with the bytes of the later tables at their new starts; what stands in the bytes that a table gained is the host's choice.
- * If a length is not the new total, hg_bus_serve answers 10. If both are, but the bytes were not moved, no call can see it: frames for later tables
- * read, write and burn what lies at the new starts, other tables' bytes among it. That can happen to a host that lends `directory.total` bytes of
- * longer arrays, and after two resizes that together leave the total as it was.
- * Number: 11 (directory or state unsound, table over 31, size over 2,056, new total over 32,768); directory and state are then handed back as given.
- */
-hg_resized hg_bus_resize(hg_directory directory, hg_holder_state state, uint8_t table, uint16_t size);
-
-/*
  * What a holder of tables does with a frame. It is lent working memory (`memory`) and flash, ordinary memory in which the host keeps what its
- * flash chip holds: both lengths are the directory's total, and the two must not overlap. A holder that nobody burns is lent a flash all the same;
+ * flash chip holds: both lengths are the sum of the sizes, and the two must not overlap. A holder that nobody burns is lent a flash all the same;
  * on family 2 it holds the tables from the start, for they are reloaded from it.
  * CMD (length 1..8, right 2) stores its bytes at the offset of the table, in working memory alone, and has no answer; REQ (length 3, count
  * 1..8, right 1 or 2) answers with an RSP of the table's bytes in working memory; BURN (length 0, right 2; the offset is not looked at) makes

@@ -69,11 +69,7 @@ pub struct RequestBytes {
 #[derive(Clone, Copy, Debug, Default, PartialEq, Eq)]
 pub struct Directory {
     pub sizes: [u16; 32],
-    /// Of each table, the sum of the sizes before it.
-    pub starts: [u16; 32],
     pub rights: [u8; 32],
-    /// The sum of all sizes.
-    pub total: u16,
     pub table_blocking: u16,
     pub write_blocking: u16,
     pub own: u8,
@@ -109,14 +105,6 @@ pub struct Served {
 #[derive(Clone, Copy, Debug, Default, PartialEq, Eq)]
 pub struct HolderAnswer {
     pub served: Served,
-    pub state: HolderState,
-}
-
-#[repr(C)]
-#[derive(Clone, Copy, Debug, Default, PartialEq, Eq)]
-pub struct Resized {
-    pub number: u8,
-    pub directory: Directory,
     pub state: HolderState,
 }
 
@@ -302,12 +290,11 @@ const _: () = {
     assert!(size_of::<Request>() == 4);
     assert!(size_of::<RequestRead>() == 6);
     assert!(size_of::<RequestBytes>() == 4);
-    assert!(size_of::<Directory>() == 168);
+    assert!(size_of::<Directory>() == 102);
     assert!(size_of::<HolderState>() == 3);
     assert!(size_of::<FirstState>() == 4);
     assert!(size_of::<Served>() == 20);
     assert!(size_of::<HolderAnswer>() == 24);
-    assert!(size_of::<Resized>() == 174);
     assert!(size_of::<Yielded>() == 20);
     assert!(size_of::<Slot>() == 16);
     assert!(size_of::<Bridge>() == 76);

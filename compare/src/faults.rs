@@ -9,8 +9,6 @@ use crate::rng::Rng;
 use crate::side::{Buffers, BuffersMut, Model, Side};
 use std::ops::Range;
 
-mod resizes;
-
 /// The faults, and the list of all of them.
 macro_rules! faults {
     ($($name:ident),* $(,)?) => {
@@ -243,130 +241,6 @@ faults! {
     FirstStateAlwaysOfFamily3,
     RefusedFirstStateHasFamily,
     RefusedFirstStateIs5,
-    // starts and total: which are sound
-    SumsUnjudged,
-    SumsUnjudgedByServe,
-    SumsUnjudgedByQuery,
-    SumsUnjudgedByResize,
-    StartsUnjudged,
-    FirstStartUnjudged,
-    MiddleStartsUnjudged,
-    LastStartUnjudged,
-    StartsOfEmptyTablesUnjudged,
-    UsedStartAloneJudged,
-    SmallerStartsTaken,
-    LargerStartsTaken,
-    StartsJudgedModulo256,
-    StartsJudgedByTheSizesBetween,
-    NoneKeptTaken,
-    TotalUnjudged,
-    SmallerTotalTaken,
-    LargerTotalTaken,
-    TotalJudgedModulo256,
-    SumsModulo65536,
-    Total32768Unsound,
-    WrongTotalIs10,
-    SumsAfter10,
-    SumsAfter1,
-    SumsAfterAllElse,
-    // which resizes are refused
-    ResultAloneJudged,
-    OtherSizesUnjudged,
-    RightsUnjudgedByResize,
-    OwnUnjudgedByResize,
-    StateUnjudgedByResize,
-    FamilyUnjudgedByResize,
-    EmptyCurrentResized,
-    CurrentFilledByResize,
-    CurrentOver31Resized,
-    HasCurrent2Resized,
-    UnusedCurrentResized,
-    Table32Resized,
-    TablesResizedModulo32,
-    SizeOf2057Taken,
-    SizesOver2056Taken,
-    SizesOver32767Taken,
-    SizesTakenModulo256,
-    ResizedTotalOf32769Taken,
-    ResizedTotalUnjudged,
-    SizeOf2056Refused,
-    EmptyingRefused,
-    CurrentNotEmptied,
-    CurrentNotResized,
-    NoneCurrentNotResized,
-    ResizedTotalOf32768Refused,
-    OldSizeCountedToo,
-    Table0NotResized,
-    Table31NotResized,
-    EmptyTableNotResized,
-    TableWithoutRightNotResized,
-    SameSizeRefused,
-    RefusedTableIs7,
-    RefusedSizeIs8,
-    RefusedTotalIs10,
-    // what a resize changes
-    LaterStartsKept,
-    NextStartAloneMoved,
-    NextStartKept,
-    LastStartKept,
-    StartsOfEmptyTablesKept,
-    OwnStartMoved,
-    FirstStartMoved,
-    AllStartsMoved,
-    StartsMovedTheOtherWay,
-    StartsMovedByTheSize,
-    SumsGrowAlone,
-    SumsShrinkAlone,
-    TotalKept,
-    TotalMovedTheOtherWay,
-    TotalMovedByTheSize,
-    TotalGrowsAlone,
-    TotalWithoutTheLastTable,
-    SizeKept,
-    SizeAdded,
-    SizeOfOneByte,
-    NextSizeSet,
-    EmptiedTableClosesUp,
-    RightLost,
-    RightLostByEmptying,
-    ResizedMayBeWritten,
-    RightsLost,
-    TableBlockingLost,
-    WriteBlockingLost,
-    BlockingExchanged,
-    OwnLost,
-    // which table is current after a resize
-    EmptiedCurrentKept,
-    EmptiedKeptOnFamily2,
-    EmptiedKeptOnFamily3,
-    EmptiedTable0Kept,
-    EmptiedTable31Kept,
-    EmptiedUnmarkedAlone,
-    EmptiedStaysMarked,
-    NextTableIsCurrentThen,
-    AnyEmptiedLeavesNone,
-    AnyResizeLeavesNone,
-    ResizedCurrentLeavesNone,
-    ShrunkCurrentLeavesNone,
-    GrownCurrentLeavesNone,
-    SameSizeLeavesNone,
-    MovedCurrentLeavesNone,
-    ResizedIsCurrent,
-    FilledIsCurrent,
-    EmptiedLosesFamily,
-    EmptiedBecomesFamily2,
-    EmptiedBecomesFamily3,
-    ResizedLosesFamily,
-    // what a refused resize hands back
-    RefusedDirectoryCleared,
-    RefusedTablesCleared,
-    RefusedStateCleared,
-    RefusedDirectoryResized,
-    RefusedSizeSet,
-    RefusedTotalSet,
-    RefusedSumsMended,
-    RefusedEmptyingLeavesNone,
-    RefusedLeavesNone,
     // bridge
     BufferBeforeState,
     OpensWithTicket0AtEnd,
@@ -576,7 +450,7 @@ impl Faulty {
 
     /// The model's answer, with the length of the flash judged as this side does.
     fn judged(&self, call: &mut Holding, directory: Directory, state: HolderState, frame: Frame) -> Served {
-        let total = holder::sum(&directory);
+        let total = holder::total(&directory);
         let (Parts { kind, to, .. }, Memories { working, flash }) = (call.parts, &mut call.left);
         let taken = match self.0 {
             FlashUnjudged => working.len() == total,
@@ -675,12 +549,6 @@ impl Holding {
         let parts = identifier::unpack(frame.id).unwrap_or(Parts { kind: 9, ..Parts::default() });
         let place = holder::place(&directory, parts.table);
         Holding { directory, state, frame, parts, place, before: lent.clone(), left: lent }
-    }
-
-    /// From here on this directory stands for the one given.
-    fn take(&mut self, directory: Directory) {
-        self.place = holder::place(&directory, self.parts.table);
-        self.directory = directory;
     }
 
     fn right(&self) -> u8 {
@@ -1264,25 +1132,19 @@ impl Side for Faulty {
     fn serve(
         &self, directory: Directory, state: HolderState, memory: &mut [u8], flash: &mut [u8], frame: Frame,
     ) -> HolderAnswer {
-        let total = holder::sum(&directory);
+        let total = holder::total(&directory);
         let mut call =
             Holding::new(directory, state, frame, Memories { working: memory.to_vec(), flash: flash.to_vec() });
-        call.take(resizes::taken_by_serve(self.0, &call));
         let refused = |number| Served { number, ..Served::default() };
         let served = match self.0 {
             MemoryLengthBefore11 if memory.len() != total => refused(10),
             FlashLengthBefore11 if flash.len() != total => refused(10),
             TotalOf32769 if total == 32_769 => refused(1),
-            WrongTotalIs10 if resizes::total_alone_wrong(&directory) => refused(10),
             _ => self.serve_frame(&mut call),
         };
         memory.copy_from_slice(&call.left.working);
         flash.copy_from_slice(&call.left.flash);
         HolderAnswer { served, state: left_state(self.0, &call, served.number) }
-    }
-
-    fn resize(&self, directory: Directory, state: HolderState, table: u8, size: u16) -> Resized {
-        resizes::resize(self.0, directory, state, table, size)
     }
 
     fn open_read(&self, b: Bridge, mut lent: Buffers, device: u8, table: u8, offset: u16, count: usize) -> Opened {

@@ -16,7 +16,6 @@ extern "C" {
     fn hg_bus_request_bytes(request: Request) -> RequestBytes;
     fn hg_bus_first_state(family: u8) -> FirstState;
     fn hg_bus_serve(directory: Directory, state: HolderState, memory: *mut u8, memory_len: usize, flash: *mut u8, flash_len: usize, frame: Frame) -> HolderAnswer;
-    fn hg_bus_resize(directory: Directory, state: HolderState, table: u8, size: u16) -> Resized;
 
     fn hg_bridge_open_read(b: Bridge, first: *const u8, first_len: usize, second: *const u8, second_len: usize, device: u8, table: u8, offset: u16, count: usize) -> Opened;
     fn hg_bridge_open_write(b: Bridge, first: *mut u8, first_len: usize, second: *const u8, second_len: usize, device: u8, table: u8, offset: u16, bytes: *const u8, count: usize) -> Opened;
@@ -90,10 +89,6 @@ impl Side for Library {
     ) -> HolderAnswer {
         let (one, one_len, other, other_len) = (memory.as_mut_ptr(), memory.len(), flash.as_mut_ptr(), flash.len());
         unsafe { hg_bus_serve(directory, state, one, one_len, other, other_len, frame) }
-    }
-
-    fn resize(&self, directory: Directory, state: HolderState, table: u8, size: u16) -> Resized {
-        unsafe { hg_bus_resize(directory, state, table, size) }
     }
 
     fn open_read(&self, b: Bridge, lent: Buffers, device: u8, table: u8, offset: u16, count: usize) -> Opened {

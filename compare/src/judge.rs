@@ -17,7 +17,7 @@ pub trait Answer: PartialEq + Debug {
 macro_rules! answers {
     ($($name:ty),*) => { $(impl Answer for $name { fn number(&self) -> u8 { self.number } })* };
 }
-answers!(Packed, Unpacked, RequestBytes, FirstState, Resized, Yielded, Opened, Changed, Span);
+answers!(Packed, Unpacked, RequestBytes, FirstState, Yielded, Opened, Changed, Span);
 answers!(MlgHeader, MlgBlock, Written, Raw, Shown, FrdHeader, FrdBlock);
 
 /// Reading a request never refuses.

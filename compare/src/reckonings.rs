@@ -2,12 +2,9 @@
 
 use crate::abi::*;
 use crate::model::bridge::fresh;
-use crate::model::holder::with_sums;
 use crate::model::{CMD, REQ, RSP, XTND};
 use crate::side::{Buffers, BuffersMut, Side};
 use std::fmt::Debug;
-
-mod resizes;
 
 pub struct Reckoning {
     pub name: String,
@@ -38,7 +35,6 @@ pub fn all(side: &dyn Side) -> Vec<Reckoning> {
     tables_not_current(side, &mut list);
     none_is_not_table_0(side, &mut list);
     nothing_reloaded(side, &mut list);
-    resizes::add_all(side, &mut list);
     bridge_read(side, &mut list);
     silent_device(side, &mut list);
     checked_write(side, &mut list);
@@ -114,7 +110,7 @@ fn table_7() -> (Directory, [u8; 16]) {
     (directory.sizes[7], directory.rights[7]) = (16, 1);
     let mut memory = [0; 16];
     memory[6..8].copy_from_slice(&[0x0B, 0xB8]);
-    (with_sums(directory), memory)
+    (directory, memory)
 }
 
 /// 02, C-16: "Packing still writes zeros, so packing after reading returns the same bytes only for clear ones."
@@ -179,7 +175,6 @@ fn wire_examples(side: &dyn Side, list: &mut List) {
     let mut directory = Directory::default();
     (directory.sizes[7], directory.rights[7]) = (8, 1);
     (directory.sizes[15], directory.rights[15]) = (20, 1);
-    let directory = with_sums(directory);
     let mut memory = [0, 0, 0, 0, 0, 0, 0x14, 0xFE].to_vec();
     memory.extend(b"MS3 Format 0435.14 \0");
     let examples: [(&str, u32, [u8; 3], u32, &[u8]); 4] = [
@@ -200,7 +195,6 @@ fn ranges(side: &dyn Side, list: &mut List) {
         let mut directory = Directory::default();
         directory.sizes[1] = size;
         directory.rights[1] = 2;
-        let directory = with_sums(directory);
         let id = side.pack(Parts { offset, kind: CMD, from: 3, to: 0, table: 1 }).id;
         let mut memory = vec![0; size as usize];
         let answer = served(side, directory, &mut memory, frame(id, &[1, 2, 3, 4, 5, 6, 7, 8]));
@@ -224,7 +218,7 @@ fn tuned() -> (Directory, Vec<u8>, Vec<u8>) {
     for (table, size, right) in [(6, 4, 2), (7, 8, 2), (8, 4, 1), (9, 4, 0), (20, 2, 2)] {
         (directory.sizes[table], directory.rights[table]) = (size, right);
     }
-    (with_sums(directory), (1..=22).collect(), vec![0xFF; 22])
+    (directory, (1..=22).collect(), vec![0xFF; 22])
 }
 
 /// 02, C-11: burns from device 5. By 01's rows, type 4 is 0x20000, from 5 0x2800, table 7 0x38, so 0x22838; the reply's type 7 is
@@ -377,22 +371,17 @@ fn first_states(side: &dyn Side, list: &mut List) {
     }
 }
 
-/// States that are unsound beside `tuned` tables.
-fn unsound() -> Vec<HolderState> {
+/// 02, C-13: "11 for an unknown family or a current table empty or over 31", judged before 10; the state comes back as it was.
+fn unsound_states(side: &dyn Side, list: &mut List) {
     let state = |family, has_current, current| HolderState { family, has_current, current };
-    let states = [
+    let unsound = [
         [state(0, 0, 0), state(1, 0, 0), state(4, 0, 0), state(255, 0, 0), state(0, 1, 7), state(4, 1, 7)],
         [state(2, 2, 7), state(3, 2, 0), state(2, 255, 7), state(2, 0, 7), state(3, 0, 31), state(2, 0, 32)],
         [state(2, 1, 32), state(3, 1, 39), state(2, 1, 255), state(2, 1, 0), state(3, 1, 10), state(2, 1, 31)],
     ];
-    states.concat()
-}
-
-/// 02, C-13: "11 for an unknown family or a current table empty or over 31", judged before 10; the state comes back as it was.
-fn unsound_states(side: &dyn Side, list: &mut List) {
     let (command, request, burn) = (frame(0x2838, &[1]), frame(0xA838, &[6, 0, 2]), frame(0x22838, &[]));
     let (query, too_large) = (frame(0x3A838, &[0x80, 6, 0, 1]), frame(0x2000_2838, &[1]));
-    for state in unsound() {
+    for state in unsound.concat() {
         for (frame, len) in [(command, 22), (request, 22), (burn, 22), (query, 22), (too_large, 22), (command, 21)] {
             let (directory, mut memory, mut flash) = tuned();
             let answer = side.serve(directory, state, &mut memory[..len], &mut flash, frame);
@@ -401,7 +390,7 @@ fn unsound_states(side: &dyn Side, list: &mut List) {
             list.add(&format!("{frame:?} with {state:?}"), (answer, memory, flash), wanted);
         }
     }
-    let no_right = of_current(2, 9);
+    let no_right = state(2, 1, 9);
     let (directory, mut memory, mut flash) = tuned();
     let answer = side.serve(directory, no_right, &mut memory, &mut flash, query);
     let wanted = HolderAnswer { served: answered(&[2]), state: no_right };
@@ -475,7 +464,6 @@ fn tables_not_current(side: &dyn Side, list: &mut List) {
 fn none_is_not_table_0(side: &dyn Side, list: &mut List) {
     let mut directory = Directory::default();
     (directory.sizes[0], directory.rights[0]) = (2, 1);
-    let directory = with_sums(directory);
     for (state, wanted) in [(of_none(2), [3, 4]), (of_current(2, 0), [1, 2]), (of_none(3), [1, 2])] {
         let (mut memory, mut flash) = ([1, 2], [3, 4]);
         let answer = side.serve(directory, state, &mut memory, &mut flash, frame(0xA800, &[0x06, 0x00, 0x02]));

@@ -28,7 +28,6 @@ pub trait Side {
     fn serve(
         &self, directory: Directory, state: HolderState, memory: &mut [u8], flash: &mut [u8], frame: Frame,
     ) -> HolderAnswer;
-    fn resize(&self, directory: Directory, state: HolderState, table: u8, size: u16) -> Resized;
 
     // a call that changes one of the two buffers gets both to write, so that a side that changes the other can be tried
     fn open_read(&self, b: Bridge, lent: Buffers, device: u8, table: u8, offset: u16, count: usize) -> Opened;
@@ -169,14 +168,6 @@ impl Side for Model {
                 HolderAnswer { served: served(Ok(left.answer)), state: left.state }
             }
             Err(number) => HolderAnswer { served: served(Err(number)), state },
-        }
-    }
-
-    /// A refusal hands back the directory and the state that it was given.
-    fn resize(&self, directory: Directory, state: HolderState, table: u8, size: u16) -> Resized {
-        match holder::resize(&directory, &state, table, size) {
-            Ok((directory, state)) => Resized { number: 0, directory, state },
-            Err(number) => Resized { number, directory, state },
         }
     }
 

@@ -3,16 +3,13 @@
 
 use crate::abi::*;
 use crate::judge::Judge;
-use crate::kinds::directory::random_directory;
-use crate::kinds::holder::{random_frame, run, sound_state};
+use crate::kinds::holder::{random_directory, random_frame, run, sound_state};
 use crate::model::bridge::{self, fresh, Buffers};
 use crate::model::holder::{Left, Memories};
 use crate::model::{be32, frd, holder, identifier, listing, mlg, request, value, zero_ended, Number};
 use crate::model::{BURN, CMD, REQ, XTND};
 use crate::rng::Rng;
 use crate::side::{Model, Side};
-
-mod resizes;
 
 #[test]
 fn identifiers_pack_and_unpack() {
@@ -85,7 +82,7 @@ fn reserved_bits_change_the_mark_alone() {
 
 /// Both memories of a directory's total length, of different content.
 fn random_memories(rng: &mut Rng, directory: &Directory) -> Memories {
-    let total = holder::sum(directory);
+    let total = holder::total(directory);
     Memories { working: rng.bytes(total), flash: rng.bytes(total) }
 }
 
@@ -217,7 +214,6 @@ fn families_differ_by_the_reload() {
 fn soundness_of_states() {
     let mut directory = Directory { own: 9, ..Directory::default() };
     (directory.sizes[0], directory.sizes[5], directory.sizes[31]) = (1, 2056, 3);
-    let directory = holder::with_sums(directory);
     let lent = Memories { working: vec![1; 2060], flash: vec![2; 2060] };
     let frame = holder::frame(Parts { to: 8, ..Parts::default() }, &[1]);
     let mut sound = Vec::new();
@@ -231,7 +227,7 @@ fn soundness_of_states() {
     }
     let of_family = |family| [[family, 0, 0], [family, 1, 0], [family, 1, 5], [family, 1, 31]];
     assert_eq!(sound, [of_family(2), of_family(3)].concat());
-    let all_empty = Directory::default();
+    let all_empty = Directory { sizes: [0; 32], ..directory };
     assert!([2, 3].iter().all(|family| holder::sound_state(&all_empty, &holder::first_state(*family).unwrap())));
 }
 
@@ -240,7 +236,6 @@ fn soundness_of_states() {
 fn states_that_stay() {
     let mut directory = Directory { own: 9, sizes: [8; 32], rights: [1; 32], ..Directory::default() };
     directory.sizes[31] = 0;
-    let directory = holder::with_sums(directory);
     let to_20 = |kind, bytes: &[u8]| holder::frame(Parts { offset: 1, kind, from: 12, to: 9, table: 20 }, bytes);
     let frames = [(to_20(CMD, &[1]), 7), (to_20(REQ, &[6, 0, 8]), 8), (to_20(XTND, &[0x80, 6, 0, 1]), 0)];
     let stays = |(family, has_current, current), len, frame, number| {
@@ -262,8 +257,7 @@ fn states_that_stay() {
     }
 }
 
-/// The inputs of the comparison: more frames are served than refused, and among them are CMD, REQ and BURN that reload a table; more resizes are
-/// done than refused, and some empty the current table.
+/// The inputs of the comparison: more frames are served than refused, and among them are CMD, REQ and BURN that reload a table.
 #[test]
 fn most_holder_frames_are_served() {
     let mut judge = Judge::new(&Model);
@@ -277,8 +271,6 @@ fn most_holder_frames_are_served() {
     let reloaded: Vec<_> =
         served.iter().filter(|((name, _), count)| name.ends_with("reloaded") && **count > 100).collect();
     assert_eq!(reloaded.len(), 3, "{served:?}");
-    let resizes = |name, number| judge.tally[&(name, number)];
-    assert!(resizes("resize", 0) > resizes("resize", 11) && resizes("resize, current table emptied", 0) > 100);
 }
 
 /// 02, C-11: "offset not looked at", of every table and from every sender, where the table is current.
@@ -287,7 +279,6 @@ fn a_burns_offset_is_not_looked_at() {
     let mut rng = Rng::new(1, 107, 0);
     let mut directory = Directory { own: 9, rights: [2; 32], ..Directory::default() };
     directory.sizes = [(); 32].map(|_| rng.within(1, 5) as u16);
-    let directory = holder::with_sums(directory);
     let lent = random_memories(&mut rng, &directory);
     for (family, table) in [2, 3].into_iter().flat_map(|family| (0..32).map(move |table| (family, table))) {
         let state = HolderState { family, has_current: 1, current: table };
@@ -303,24 +294,19 @@ fn a_burns_offset_is_not_looked_at() {
 }
 
 /// A burn's numbers in order: at first all that may be wrong is, and each is put right in its turn. 02, C-11: "10 also for a flash of
-/// the wrong length"; C-14: "11 also for a wrong start or total".
+/// the wrong length".
 #[test]
 fn refusals_of_a_burn() {
     let parts = Parts { offset: 2047, kind: 5, from: 12, to: 8, table: 20 };
     let mut frame = Frame { id: (1 << 29) + 3 + identifier::pack(parts).unwrap(), len: 9, bytes: [1; 8] };
     let mut directory = Directory { own: 16, ..Directory::default() };
-    directory.sizes[3] = 4;
-    directory.starts[4..31].fill(4); // the last start and the total are wrong
+    (directory.sizes[3], directory.sizes[20]) = (4, 0);
     let mut lent = Memories { working: vec![1; 3], flash: vec![2; 11] };
     let state = holder::first_state(2).unwrap();
     let number =
         |directory: &Directory, lent: &Memories, frame: &Frame| holder::serve(directory, &state, lent, frame).err();
     assert_eq!(number(&directory, &lent, &frame), Some(11));
     directory.own = 9;
-    assert_eq!(number(&directory, &lent, &frame), Some(11));
-    directory.starts[31] = 4;
-    assert_eq!(number(&directory, &lent, &frame), Some(11));
-    directory.total = 4;
     assert_eq!(number(&directory, &lent, &frame), Some(10));
     lent.working.push(1);
     assert_eq!(number(&directory, &lent, &frame), Some(10));
@@ -341,7 +327,6 @@ fn refusals_of_a_burn() {
     directory.rights[20] = 2; // the table is empty still
     assert_eq!(number(&directory, &lent, &frame), Some(7));
     (directory.sizes[3], directory.sizes[20]) = (0, 4);
-    directory = holder::with_sums(directory);
     assert_eq!(number(&directory, &lent, &frame), None);
     for right in [0, 1] {
         directory.rights[20] = right;
@@ -354,7 +339,6 @@ fn refusals_of_a_burn() {
 fn lengths_of_both_memories() {
     let mut directory = Directory { own: 9, rights: [2; 32], ..Directory::default() };
     (directory.sizes[3], directory.sizes[20]) = (4, 3);
-    let directory = holder::with_sums(directory);
     let state = HolderState { family: 2, has_current: 1, current: 3 };
     let to_20 = |kind, bytes: &[u8]| holder::frame(Parts { offset: 1, kind, from: 12, to: 9, table: 20 }, bytes);
     let frames = [to_20(CMD, &[1]), to_20(REQ, &[6, 0, 1]), to_20(BURN, &[]), to_20(XTND, &[0x80, 6, 0, 1])];
@@ -370,7 +354,7 @@ fn lengths_of_both_memories() {
 /// A burn's acknowledgement that arrives: no holder serves it (5, and at length 0 any XTND is 6), and no bridge takes it.
 #[test]
 fn acknowledgements_that_arrive() {
-    let directory = holder::with_sums(Directory { own: 9, sizes: [8; 32], rights: [2; 32], ..Directory::default() });
+    let directory = Directory { own: 9, sizes: [8; 32], rights: [2; 32], ..Directory::default() };
     let lent = Memories { working: vec![1; 256], flash: vec![2; 256] };
     let burn = holder::frame(Parts { offset: 5, kind: BURN, from: 3, to: 9, table: 20 }, &[]);
     let state = holder::first_state(2).unwrap();
@@ -615,7 +599,7 @@ fn turns_with_holder(dash: &mut Dash, device: &mut Device, missed: Option<usize>
 #[test]
 fn bridge_and_holder_together() {
     let mut rng = Rng::new(1, 102, 0);
-    let directory = holder::with_sums(Directory { own: 5, sizes: [200; 32], rights: [2; 32], ..Directory::default() });
+    let directory = Directory { own: 5, sizes: [200; 32], rights: [2; 32], ..Directory::default() };
     for _ in 0..1000 {
         let lent = random_memories(&mut rng, &directory);
         let (table, count) = (rng.below(32), rng.within(1, 128));
@@ -668,7 +652,6 @@ fn a_reload_between_two_answers() {
     ];
     let mut directory = Directory { own: 5, rights: [2; 32], ..Directory::default() };
     (directory.sizes[7], directory.sizes[8]) = (16, 1);
-    let directory = holder::with_sums(directory);
     let other = holder::frame(Parts { offset: 0, kind: REQ, from: 9, to: 5, table: 8 }, &[6, 0, 1]);
     for (family, used, shown) in cases {
         let lent = Memories { working: vec![1; 17], flash: vec![2; 17] };
@@ -801,7 +784,6 @@ fn late_replies_bring_no_old_bytes() {
     let mut rng = Rng::new(1, 104, 0);
     let mut directory = Directory { own: 5, ..Directory::default() };
     (directory.sizes[7], directory.rights[7]) = (2000, 1);
-    let directory = holder::with_sums(directory);
     let lent = random_memories(&mut rng, &directory);
     let table = lent.flash.clone(); // the first answer is from the reloaded table, and so are all others
     let mut device = Device { directory, state: holder::first_state(2).unwrap(), lent };

@@ -74,12 +74,11 @@ structs! {
     "hg_request" Request { table, count, offset }
     "hg_request_read" RequestRead { request, clear }
     "hg_request_bytes" RequestBytes { number, bytes }
-    "hg_directory" Directory { sizes, starts, rights, total, table_blocking, write_blocking, own }
+    "hg_directory" Directory { sizes, rights, table_blocking, write_blocking, own }
     "hg_holder_state" HolderState { family, has_current, current }
     "hg_first_state" FirstState { number, state }
     "hg_served" Served { number, frames, clear, frame }
     "hg_holder_answer" HolderAnswer { served, state }
-    "hg_resized" Resized { number, directory, state }
     "hg_slot" Slot { ticket, offset, phase, kind, device, table, count, progress, sends, left }
     "hg_bridge" Bridge { slots, issued, own, last, rests }
     "hg_opened" Opened { bridge, ticket, number }
@@ -172,11 +171,10 @@ struct Tables {
 impl Tables {
     /// Table 3 of twenty bytes may be read, table 22 of thirty may be written; all others are empty.
     fn new(state: HolderState) -> Tables {
-        let mut directory = Directory { total: 50, ..no_tables() };
+        let mut directory =
+            Directory { table_blocking: 0x1234, write_blocking: 0x5678, own: 9, ..Directory::default() };
         (directory.sizes[3], directory.rights[3]) = (20, 1);
         (directory.sizes[22], directory.rights[22]) = (30, 2);
-        directory.starts[4..=22].fill(20);
-        directory.starts[23..].fill(50);
         Tables { directory, state, memory: pattern(1), flash: pattern(60) }
     }
 
@@ -198,17 +196,6 @@ impl Tables {
     fn serve(&mut self, frame: Frame) {
         self.state = self.lend(50, 50, frame);
     }
-
-    /// A table gets a size; the next call gets the directory and the state that this one hands back.
-    fn resize(&mut self, table: u8, size: u16) {
-        let resized = call("hg_bus_resize", Model.resize(self.directory, self.state, table, size));
-        (self.directory, self.state) = (resized.directory, resized.state);
-    }
-}
-
-/// A directory whose tables are all empty.
-fn no_tables() -> Directory {
-    Directory { table_blocking: 0x1234, write_blocking: 0x5678, own: 9, ..Directory::default() }
 }
 
 /// A frame of device 3 for a table of device 9.
@@ -253,25 +240,15 @@ fn holder_families() {
     }
 }
 
-/// Directories with an own number, a start and a total that are wrong.
-fn unsound_directories(directory: Directory) -> [Directory; 3] {
-    let mut wrong_start = directory;
-    wrong_start.starts[21] = 21;
-    [Directory { own: 16, ..directory }, wrong_start, Directory { total: 51, ..directory }]
-}
-
-/// A CMD and a BURN with unsound directories, with unsound states, and with either memory short.
+/// A CMD and a BURN with an unsound directory, with unsound states, and with either memory short.
 fn holder_refusals() {
     let sound = HolderState { family: 2, has_current: 1, current: 3 };
     let unsound = [(4, 1, 22), (2, 2, 22), (2, 0, 22), (3, 1, 21), (3, 1, 54)];
     let mut held = Tables::new(sound);
     for frame in [to_table(22, CMD, b"store"), to_table(22, BURN, b"")] {
-        let directory = held.directory;
-        for other in unsound_directories(directory) {
-            held.directory = other;
-            held.lend(50, 50, frame);
-        }
-        held.directory = directory;
+        held.directory.own = 16;
+        held.lend(50, 50, frame);
+        held.directory.own = 9;
         for (family, has_current, current) in unsound {
             held.state = HolderState { family, has_current, current };
             held.lend(50, 50, frame);
@@ -280,49 +257,6 @@ fn holder_refusals() {
         held.lend(49, 50, frame);
         held.lend(50, 49, frame);
     }
-}
-
-/// A directory is made table after table; table 22 is current, and cut, emptied and filled again.
-fn resizes() {
-    let mut held = Tables::new(HolderState { family: 3, ..HolderState::default() });
-    held.directory = Directory { rights: [2; 32], ..no_tables() };
-    held.resize(22, 30);
-    held.resize(3, 20);
-    held.resize(31, 2056);
-    held.state = HolderState { family: 2, has_current: 1, current: 22 };
-    for (table, size) in [(22, 7), (22, 7), (3, 0), (22, 0), (22, 5)] {
-        held.resize(table, size);
-    }
-}
-
-/// Tables over 31, a size over 2,056 and a total over 32,768, beside those that are lawful; unsound directories and an unsound state.
-fn resize_refusals() {
-    let state = HolderState { family: 2, has_current: 1, current: 22 };
-    let (mut held, mut full) = (Tables::new(state), Tables::new(state));
-    held.resize(32, 5);
-    held.resize(54, 0);
-    held.resize(22, 2057);
-    let starts = std::array::from_fn(|table| 1024 * table as u16);
-    full.directory = Directory { sizes: [1024; 32], starts, total: 32_768, ..full.directory };
-    full.resize(5, 1025);
-    full.resize(5, 1023);
-    for other in unsound_directories(held.directory) {
-        call("hg_bus_resize", Model.resize(other, state, 22, 31));
-    }
-    held.state.current = 21;
-    held.resize(21, 31);
-}
-
-/// Table 3 is cut to twelve bytes, and table 22 moved to where it starts then; it is read, written and burnt there.
-fn moved_table() {
-    let mut held = Tables::new(HolderState { family: 2, has_current: 1, current: 22 });
-    held.resize(3, 12);
-    held.serve(to_table(22, REQ, &[0x04, 0x25, 0x86])); // both memories are as long as before
-    held.memory.copy_within(20.., 12);
-    held.flash.copy_within(20.., 12);
-    held.lend(42, 42, to_table(22, REQ, &[0x04, 0x25, 0x86]));
-    held.lend(42, 42, to_table(22, CMD, b"store"));
-    held.lend(42, 42, to_table(22, BURN, b""));
 }
 
 /// A reply of device 5 to device 9, for a place of its buffer.
@@ -605,9 +539,6 @@ fn main() {
     holder();
     holder_families();
     holder_refusals();
-    resizes();
-    resize_refusals();
-    moved_table();
     bridge_by_value();
     bridge_in_place();
     bridge_rests();

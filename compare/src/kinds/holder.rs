@@ -1,9 +1,7 @@
 //! Holder calls: directories sound and unsound, memory and flash right and wrong, of one content and of different, states of both
 //! families that calls leave, new ones and unsound ones, frames that are served or nearly served, half of the requests and queries with
-//! reserved bits set, and tables resized between them. The state handed back and both memories are compared after every frame, the directory
-//! and the state after every resize.
+//! reserved bits set. The state handed back and both memories are compared after every call.
 
-use super::directory::{new_size, random_directory, resized_table};
 use super::request::with_reserved_bits;
 use super::Outcome;
 use crate::abi::{Directory, Frame, HolderAnswer, HolderState, Parts, Request};
@@ -43,114 +41,35 @@ impl Meant {
     }
 }
 
-/// A first state; then a directory, and a few frames one after the other, each call with the state that the last one left, or another; between
-/// them, at times, tables are resized, and at the end of some lists many.
+/// A first state; then a directory, and a few frames one after the other, each call with the state that the last one left, or another.
 pub fn run(rng: &mut Rng, judge: &mut Judge) -> Outcome {
     first_state(rng, judge)?;
-    let mut held = Held::new(rng);
-    let most = if holder::sound(&held.directory) { 8 } else { 1 }; // it stays unsound
-    for meant in random_list(rng, &held.directory).into_iter().take(most) {
-        if rng.one_in(6) {
-            let count = rng.within(1, 3);
-            held.resizes(rng, judge, count)?;
-        }
-        held.serve(rng, judge, meant)?;
-    }
-    if rng.one_in(4) {
-        let count = rng.within(1, 24);
-        held.resizes(rng, judge, count)?;
-        held.serve(rng, judge, Meant::Any)?;
-    }
-    Ok(())
-}
-
-/// A holder on both sides: the directory and the state that the last call left, both memories of either side, and the tables burnt so far.
-struct Held {
-    directory: Directory,
-    state: Option<HolderState>,
-    model: Both,
-    library: Both,
-    burnt: Vec<u8>,
-}
-
-impl Held {
-    fn new(rng: &mut Rng) -> Held {
-        let directory = random_directory(rng);
-        let total = rng.pick(&[holder::sum(&directory), directory.total as usize]); // the two differ where it is unsound
-        let both = random_memories(rng, total);
-        Held { directory, state: None, model: both.clone(), library: both, burnt: Vec::new() }
-    }
-
-    /// A frame; the state handed back and both memories are compared.
-    fn serve(&mut self, rng: &mut Rng, judge: &mut Judge, meant: Meant) -> Outcome {
-        let directory = self.directory;
+    let directory = random_directory(rng);
+    let start = random_memories(rng, holder::total(&directory));
+    let (mut model, mut library) = (start.clone(), start.clone());
+    let (mut held, mut calls, mut burnt) = (None, Vec::new(), Vec::new());
+    for meant in random_list(rng, &directory) {
         let frame = meant.frame(rng, &directory);
         let parts = identifier::unpack(frame.id);
-        let (kind, table) = (parts.map(|parts| parts.kind), parts.map_or(0, |parts| parts.table));
-        let state = given_state(rng, &directory, self.state, table);
-        let before = self.model.clone();
-        let input = || format!("{directory:?}\n{state:?}\n{before:?}\n{frame:?}");
-        let answer = self.model.serve(&Model, directory, state, frame);
-        let by_library = self.library.serve(judge.library, directory, state, frame);
-        let reloaded = state.family == 2 && state != answer.state;
-        let name = call_name(kind, answer.served.clear, self.burnt.contains(&table), reloaded);
-        let HolderAnswer { served, state: left } = judge.answer(name, answer, by_library, &input)?;
-        judge.same("memory after serve", &self.model.memory, &self.library.memory, &input)?;
-        judge.same("flash after serve", &self.model.flash, &self.library.flash, &input)?;
+        let (kind, table) = (parts.map(|parts| parts.kind), parts.map(|parts| parts.table));
+        let state = given_state(rng, &directory, held, table.unwrap_or(0));
+        calls.push((state, frame));
+        let input = || format!("{directory:?}\nfirst {start:?}\nstates and frames, the last one differs: {calls:?}");
+        let answers = model.serve(&Model, directory, state, frame);
+        let by_library = library.serve(judge.library, directory, state, frame);
+        let reloaded = state.family == 2 && state != answers.state;
+        let name = call_name(kind, answers.served.clear, burnt.contains(&table), reloaded);
+        let HolderAnswer { served, state: left } = judge.answer(name, answers, by_library, &input)?;
+        judge.same("memory after serve", &model.memory, &library.memory, &input)?;
+        judge.same("flash after serve", &model.flash, &library.flash, &input)?;
         if served.number != 11 {
-            self.state = Some(left);
+            held = Some(left);
         }
         if kind == Ok(BURN) && served.number == 0 {
-            self.burnt.push(table);
-        }
-        Ok(())
-    }
-
-    fn resizes(&mut self, rng: &mut Rng, judge: &mut Judge, count: usize) -> Outcome {
-        (0..count).try_for_each(|_| self.resize(rng, judge))
-    }
-
-    /// A table is resized; then both memories are mostly laid out anew, as the host does before the next frame.
-    fn resize(&mut self, rng: &mut Rng, judge: &mut Judge) -> Outcome {
-        let directory = self.directory;
-        let any = rng.below(32) as u8;
-        let state = given_state(rng, &directory, self.state, any);
-        let table = resized_table(rng, &directory, &state);
-        let size = new_size(rng, &directory, table);
-        let input = || format!("{directory:?}\n{state:?}\ntable {table} size {size}");
-        let answer = Model.resize(directory, state, table, size);
-        let name = if state != answer.state { "resize, current table emptied" } else { "resize" };
-        let by_library = judge.library.resize(directory, state, table, size);
-        let resized = judge.answer(name, answer, by_library, &input)?;
-        if resized.number == 0 {
-            (self.directory, self.state) = (resized.directory, Some(resized.state));
-            if !rng.one_in(20) {
-                self.lay_out(rng, &directory);
-            }
-        }
-        Ok(())
-    }
-
-    /// Memory and flash of the new total, with each table's bytes at its new start; new bytes where there are none.
-    fn lay_out(&mut self, rng: &mut Rng, old: &Directory) {
-        let Both { memory, flash } = &self.model;
-        let [memory, flash] = [memory, flash].map(|lent| moved(rng, lent.get(), old, &self.directory));
-        let both = Both { memory: Lent::new(&memory), flash: Lent::new(&flash) };
-        (self.model, self.library) = (both.clone(), both);
-    }
-}
-
-/// A memory of the new directory, with what each table had in the old one, as far as it goes.
-fn moved(rng: &mut Rng, memory: &[u8], old: &Directory, new: &Directory) -> Vec<u8> {
-    let mut after = rng.bytes(new.total as usize);
-    for table in 0..32 {
-        let (from, to) = (holder::place(old, table), holder::place(new, table));
-        let len = from.len().min(to.len());
-        if let Some(bytes) = memory.get(from.start..from.start + len) {
-            after[to.start..to.start + len].copy_from_slice(bytes);
+            burnt.push(table);
         }
     }
-    after
+    Ok(())
 }
 
 /// The first state of a family, known or not.
@@ -217,7 +136,7 @@ fn left_table(rng: &mut Rng, one: usize, other: usize) -> Vec<Meant> {
 }
 
 /// The state given to a call with a frame for a table: mostly the one that the last call left, if any; at times a new one or an unsound one.
-pub fn given_state(rng: &mut Rng, directory: &Directory, left: Option<HolderState>, table: u8) -> HolderState {
+fn given_state(rng: &mut Rng, directory: &Directory, left: Option<HolderState>, table: u8) -> HolderState {
     match (rng.below(30), left) {
         (0 | 1, _) => unsound_state(rng, directory, table),
         (3.., Some(state)) => state,
@@ -296,6 +215,39 @@ fn tuned_table(rng: &mut Rng, directory: &Directory) -> usize {
     } else {
         rng.pick(&tables)
     }
+}
+
+pub fn random_directory(rng: &mut Rng) -> Directory {
+    let mut directory = Directory {
+        table_blocking: rng.u16(),
+        write_blocking: rng.u16(),
+        own: rng.below(16) as u8,
+        ..Directory::default()
+    };
+    let large = rng.one_in(20);
+    for table in 0..32 {
+        directory.sizes[table] = match rng.below(8) {
+            0 | 1 => 0,
+            _ if large => rng.below(1200) as u16,
+            _ => rng.below(40) as u16,
+        };
+        directory.rights[table] = rng.pick(&[0, 1, 1, 2, 2, 2, 2, 2]);
+    }
+    match rng.below(40) {
+        0 => directory.sizes[rng.below(32)] = 2056,
+        1 => directory.sizes[rng.below(32)] = rng.pick(&[2057, 2058, 4112, 65_535]),
+        2 => directory.rights[rng.below(32)] = rng.pick(&[3, 4, 255]),
+        3 => directory.own = rng.pick(&[16, 17, 255]),
+        4 => {
+            // a total of exactly 32,768, or one more
+            directory.sizes = [1024; 32];
+            directory.sizes[rng.below(32)] += rng.pick(&[0, 1]);
+        }
+        5 => directory.sizes = [rng.pick(&[1023, 1025, 2056]); 32],
+        6 => directory.sizes = [0; 32],
+        _ => {}
+    }
+    directory
 }
 
 /// A frame that would be served, with nothing to a few things changed.

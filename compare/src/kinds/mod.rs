@@ -4,7 +4,6 @@ use crate::judge::{Difference, Judge};
 use crate::rng::Rng;
 
 pub mod bridge;
-pub mod directory;
 pub mod frd;
 pub mod holder;
 pub mod identifier;

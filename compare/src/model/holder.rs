@@ -1,5 +1,5 @@
-//! 01 "Table holder"; 02, C-11: burn, and the flash; C-13: the family, the current table and its reload; C-14: the starts and the total
-//! that are kept, and resizing; C-16: the mark beside the answer to a request, whether its reserved bits were clear.
+//! 01 "Table holder"; 02, C-11: burn, and the flash; C-13: the family, the current table and its reload; C-16: the mark beside the answer
+//! to a request, whether its reserved bits were clear.
 
 use super::{identifier, request, Number, BURN, CMD, REQ, RSP, XTND};
 use crate::abi::{Directory, Frame, HolderState, Parts, Request};
@@ -23,40 +23,26 @@ pub struct Left {
     pub answer: Option<Answer>,
 }
 
-/// Size 0..2,056, total at most 32,768, right 0..2, own number 0..15. 02, C-14: "Stored starts and total must equal the sums".
+/// Size 0..2,056, total at most 32,768, right 0..2, own number 0..15.
 pub fn sound(directory: &Directory) -> bool {
-    let (starts, total) = sums(directory);
     directory.sizes.iter().all(|size| *size <= 2056)
-        && directory.starts.map(usize::from) == starts
-        && directory.total as usize == total
-        && total <= 32_768
+        && total(directory) <= 32_768
         && directory.rights.iter().all(|right| *right <= 2)
         && directory.own <= 15
 }
 
-/// "table k starts at the sum of the sizes before it": these sums, and the sum of all sizes.
-fn sums(directory: &Directory) -> ([usize; 32], usize) {
-    let (mut starts, mut sum) = ([0; 32], 0);
-    for table in 0..32 {
-        starts[table] = sum;
-        sum += directory.sizes[table] as usize;
-    }
-    (starts, sum)
+pub fn total(directory: &Directory) -> usize {
+    directory.sizes.iter().map(|size| *size as usize).sum()
 }
 
-pub fn sum(directory: &Directory) -> usize {
-    sums(directory).1
-}
-
-/// The directory with starts and total that are the sums of its sizes; in 16 bits, so that no total of 65,536 or more is right.
-pub fn with_sums(directory: Directory) -> Directory {
-    let (starts, total) = sums(&directory);
-    Directory { starts: starts.map(|start| start as u16), total: total as u16, ..directory }
+/// Table k starts at the sum of the sizes before it.
+pub fn start(directory: &Directory, table: u8) -> usize {
+    directory.sizes[..table as usize].iter().map(|size| *size as usize).sum()
 }
 
 /// The bytes of a table in either memory.
 pub fn place(directory: &Directory, table: u8) -> Range<usize> {
-    let start = directory.starts[table as usize] as usize;
+    let start = start(directory, table);
     start..start + directory.sizes[table as usize] as usize
 }
 
@@ -86,34 +72,12 @@ pub fn sound_state(directory: &Directory, state: &HolderState) -> bool {
     known_family(state.family) && current
 }
 
-/// 02, C-14: "a call that sets one table's size"; "Resizing alters the directory only (a current table set to size 0 becomes none)"; "11 also
-/// for a wrong start or total, for a size that breaks the limits, and for a table number over 31".
-pub fn resize(
-    directory: &Directory, state: &HolderState, table: u8, size: u16,
-) -> Result<(Directory, HolderState), Number> {
-    if !sound_state(directory, state) || !sound(directory) || table > 31 {
-        return Err(11);
-    }
-    let mut sizes = directory.sizes;
-    sizes[table as usize] = size;
-    let resized = with_sums(Directory { sizes, ..*directory });
-    if !sound(&resized) {
-        return Err(11);
-    }
-    let none = HolderState { has_current: 0, current: 0, ..*state };
-    let emptied = size == 0 && is_current(state, table);
-    Ok((resized, if emptied { none } else { *state }))
-}
-
-fn is_current(state: &HolderState, table: u8) -> bool {
-    state.has_current == 1 && state.current == table
-}
-
 /// 02, C-13: "On the older family a served CMD, REQ or BURN for any table not current first makes its working bytes equal to its flash
 /// bytes, then acts." What such a frame acts on.
 fn reloaded(directory: &Directory, state: &HolderState, lent: &Memories, table: u8) -> Memories {
     let mut after = lent.clone();
-    if state.family == OLDER && !is_current(state, table) {
+    let is_current = state.has_current == 1 && state.current == table;
+    if state.family == OLDER && !is_current {
         let place = place(directory, table);
         after.working[place.clone()].copy_from_slice(&lent.flash[place]);
     }
@@ -141,11 +105,10 @@ pub fn addressed(own: u8, frame: &Frame) -> Result<Parts, Number> {
 
 /// Order: 11, 10, 1, 2, 3, 4, 5, 6, 7, 9, 8; XTND of length 0 is 6; "10 also for a flash of the wrong length".
 pub fn serve(directory: &Directory, state: &HolderState, lent: &Memories, frame: &Frame) -> Result<Left, Number> {
-    if !sound_state(directory, state) || !sound(directory) {
+    if !sound(directory) || !sound_state(directory, state) {
         return Err(11);
     }
-    let total = directory.total as usize;
-    if lent.working.len() != total || lent.flash.len() != total {
+    if lent.working.len() != total(directory) || lent.flash.len() != total(directory) {
         return Err(10);
     }
     let parts = addressed(directory.own, frame)?;
@@ -177,16 +140,16 @@ fn command(directory: &Directory, memory: &[u8], parts: Parts, bytes: &[u8]) -> 
     if bytes.is_empty() {
         return Err(6);
     }
-    let Range { start, end } = place(directory, parts.table);
-    if start == end || directory.rights[parts.table as usize] != 2 {
+    let size = directory.sizes[parts.table as usize] as usize;
+    if size == 0 || directory.rights[parts.table as usize] != 2 {
         return Err(7);
     }
-    let first = start + parts.offset as usize;
-    if first + bytes.len() > end {
+    if parts.offset as usize + bytes.len() > size {
         return Err(8);
     }
+    let place = start(directory, parts.table) + parts.offset as usize;
     let mut after = memory.to_vec();
-    after[first..first + bytes.len()].copy_from_slice(bytes);
+    after[place..place + bytes.len()].copy_from_slice(bytes);
     Ok(after)
 }
 
@@ -197,19 +160,18 @@ fn answer_request(directory: &Directory, memory: &[u8], parts: Parts, bytes: &[u
         return Err(6);
     }
     let (asked, clear) = request::read(bytes[0], bytes[1], bytes[2]);
-    let Range { start, end } = place(directory, parts.table);
-    if start == end || directory.rights[parts.table as usize] == 0 {
+    let size = directory.sizes[parts.table as usize] as usize;
+    if size == 0 || directory.rights[parts.table as usize] == 0 {
         return Err(7);
     }
     if asked.count < 1 || asked.count > 8 {
         return Err(9);
     }
-    let first = start + parts.offset as usize;
-    let last = first + asked.count as usize;
-    if last > end {
+    if parts.offset as usize + asked.count as usize > size {
         return Err(8);
     }
-    Ok((reply(directory, parts, asked, &memory[first..last]), clear))
+    let place = start(directory, parts.table) + parts.offset as usize;
+    Ok((reply(directory, parts, asked, &memory[place..place + asked.count as usize]), clear))
 }
 
 /// 02, C-11: "MSG_BURN (type 4, length 0, right 2, offset not looked at)" "makes the flash bytes of that table equal to the table's

@@ -1,6 +1,6 @@
 -- Example runs beside demand 3: its premises hold of runs, and it says what they show; and without the premise on writes, a reload among them, on
 -- the device's own replies, on late replies or on resets it would be false. Reads first, then checked writes.
-use Rattle.std.specs.Prelude.{ℕ, zero, suc, ◌+◌, ◌*◌, ◌-◌, ◌≤◌, ◌≡◌, ◌≢◌, List, [], ◌∷◌, ◌++◌, true, cond, replicate, ltb}
+use Rattle.std.specs.Prelude.{ℕ, zero, suc, ◌*◌, ◌-◌, ◌≤◌, ◌≡◌, ◌≢◌, List, [], ◌∷◌, ◌++◌, true, cond, replicate, ltb}
 use Rattle.std.proofs.Math.Option.{some}
 use Rattle.bus_rules.specs.Ident.{id_of}
 use Rattle.bus_rules.specs.Frames.{cmd, req, rsp, burn, frame_with}
@@ -21,8 +21,6 @@ use Rattle.bridge_rules.specs.Demand3.{showing, run_of}
 unfoldable pub directory_with : (size : ℕ) → Directory
 directory_with size = record {
   sizes = replicate 7 0 ++ 16 ∷ size ∷ replicate 23 0;
-  starts = replicate 8 0 ++ 16 ∷ replicate 23 (16 + size);
-  total = 16 + size;
   rights = replicate 32 2;
   table_blocking = 256;
   write_blocking = 256;

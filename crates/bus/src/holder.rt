@@ -1,13 +1,13 @@
 // The table holder.
-ghost use Rattle.std.specs.Prelude.{◌≡◌, ℕ, ◌+◌, ◌<◌, ◌≤◌, true, ◌↔◌, length, take, drop};
+ghost use Rattle.std.specs.Prelude.{◌≡◌, ℕ, ◌+◌, ◌*◌, ◌≤◌, ◌<◌, length, take, drop};
 ghost use Rattle.wire.specs.Order.{◌or_else◌};
 ghost use Rattle.bus_rules.specs.Ident.{parts_of};
 ghost use Rattle.bus_rules.specs.Frames.{build_of, head_number};
-ghost use Rattle.bus_rules.specs.Device.{Device, device, start_of, size_of, right_of, copy_table, directory_number, memory_number};
-ghost use Rattle.bus_rules.specs.Device.{currently, is_current, known_family, sound_current, state_number, first_state_of, with_current};
+ghost use Rattle.bus_rules.specs.Device.{Device, device, start_of, size_of, right_of, total_of, copy_table, sound_tables, directory_number, memory_number};
+ghost use Rattle.bus_rules.specs.Device.{currently, known_family, sound_current, state_number, first_state_of, with_current};
 ghost use Rattle.bus_rules.specs.Holder.{command_number, request_number, burn_number, query_number, kind_number, serve_number, read_at, request_at, size_at, right_at};
 ghost use Rattle.bus_rules.specs.Holder.{table_of, no_answer, answer_with, reply_to, acknowledgement, protocol, act_of, act_after, serve_of, device_after};
-ghost use Rattle.bus_rules.specs.Demand2.{Sums, SoundTable, FirstOf, Demand2};
+ghost use Rattle.bus_rules.specs.Demand2.{FirstOf, Demand2};
 ghost use Rattle.bus_rules.specs.Examples.{Examples};
 
 use crate::frames::{build, copy_content};
@@ -19,70 +19,87 @@ use crate::{
     RequestRead, Served, XTND,
 };
 
-// A table: its start, its size and its right.
+// A table: its start (the sum of the sizes before it), its size and its right.
 #[derive(Drop)]
 struct Table {
-    start: u16,
+    start: u32,
     size: u16,
     right: u8,
 }
 
-// Table k of a directory. Its arrays are copied one by one: an index into one copies what it lies in.
+// Table k of a directory.
 fn table_at(d: Directory, k: usize) -> Table
     requires { k < 32 }
-    ensures { (result.start ≡ start_of d k) × (result.size ≡ size_of d k) × (result.right ≡ right_of d k) }
+    ensures { (result.start ≡ start_of d k) × (result.size ≡ size_of d k) × (result.right ≡ right_of d k) × (result.start ≤ 65535 * k) }
 {
-    let starts = d.starts;
-    let sizes = d.sizes;
-    let rights = d.rights;
+    let mut start: u32 = 0;
+    let mut i = 0;
+    while i < k {
+        start += d.sizes[i] as u32;
+        i += 1;
+    }
     Table {
-        start: starts[k],
-        size: sizes[k],
-        right: rights[k],
+        start,
+        size: d.sizes[k],
+        right: d.rights[k],
     }
 }
 
-// Whether all tables are sound, each starts where the one before it ends, and the total is where the last one ends. One loop without a branch: every frame
-// pays for it. The end of 31 such tables fits 16 bits.
-fn sound_tables(d: Directory) -> bool
-    ensures { (result ≡ true) ↔ (((k : ℕ) → k < 32 → SoundTable d k) × Sums d) }
+// Whether all tables are sound, and the sum of their sizes.
+#[derive(Drop)]
+struct Tables {
+    sound: bool,
+    total: u32,
+}
+
+// One pass without a branch: every frame pays for it.
+fn tables_of(d: Directory) -> Tables
+    ensures { (result.sound ≡ sound_tables d 32) × (result.total ≡ total_of d) }
 {
     let mut sound = true;
-    let mut end: u16 = 0;
+    let mut total: u32 = 0;
     let mut i = 0;
     while i < 32 {
-        sound = sound & (d.sizes[i] <= 2056) & (d.rights[i] <= 2) & (d.starts[i] == end);
-        end = std::num::wrapping_add_u16(d.starts[i], d.sizes[i]);
+        sound = sound & (d.sizes[i] <= 2056) & (d.rights[i] <= 2);
+        total += d.sizes[i] as u32;
         i += 1;
     }
-    sound & (d.total as u32 == d.starts[31] as u32 + d.sizes[31] as u32)
+    Tables { sound, total }
+}
+
+fn tables_number(d: Directory, t: Tables) -> u8
+    requires { (t.sound ≡ sound_tables d 32) × (t.total ≡ total_of d) }
+    ensures { result ≡ directory_number d }
+{
+    if 15 < d.own {
+        return 11;
+    }
+    if !t.sound {
+        return 11;
+    }
+    if 32768 < t.total {
+        return 11;
+    }
+    0
 }
 
 // 11 for an unsound directory, else 0.
 pub fn directory_number(d: Directory) -> u8
     ensures { result ≡ directory_number d }
 {
-    if 15 < d.own {
-        return 11;
-    }
-    if !sound_tables(d) {
-        return 11;
-    }
-    if 32768 < d.total {
-        return 11;
-    }
-    0
+    tables_number(d, tables_of(d))
 }
 
 // 11 for an unsound directory, 10 for memory or flash of another length than its total, else 0.
 pub fn memory_number(d: Directory, memory: usize, flash: usize) -> u8
     ensures { result ≡ memory_number d memory flash }
 {
-    let unsound = directory_number(d);
+    let t = tables_of(d);
+    let unsound = tables_number(d, t);
     if unsound != 0 {
         return unsound;
     }
-    let total = d.total as usize;
+    let total = t.total as usize;
     if (memory != total) | (flash != total) {
         return 10;
     }
@@ -133,28 +150,16 @@ fn sound_current(d: Directory, s: HolderState) -> bool
     if 31 < s.current {
         return false;
     }
-    let sizes = d.sizes;
-    sizes[s.current as usize] != 0
-}
-
-// 11 for an unsound state, else 0.
-pub(crate) fn state_number(d: Directory, s: HolderState) -> u8
-    ensures { result ≡ state_number d s }
-{
-    let sound = known_family(s.family) & sound_current(d, s);
-    if !sound {
-        return 11;
-    }
-    0
+    d.sizes[s.current as usize] != 0
 }
 
 // 11 for an unsound state or directory, 10 for memory or flash of another length than the total, else 0.
 fn device_number(d: Directory, s: HolderState, memory: usize, flash: usize) -> u8
     ensures { result ≡ (state_number d s or_else memory_number d memory flash) }
 {
-    let unsound = state_number(d, s);
-    if unsound != 0 {
-        return unsound;
+    let sound = known_family(s.family) & sound_current(d, s);
+    if !sound {
+        return 11;
     }
     memory_number(d, memory, flash)
 }
@@ -369,13 +374,6 @@ fn acknowledge(own: u8, p: Parts) -> Served
     answer(0, parts, &bytes)
 }
 
-// Whether table k is current.
-pub(crate) fn is_current(s: HolderState, k: u8) -> bool
-    ensures { result ≡ is_current s k }
-{
-    (s.has_current == 1) & (s.current == k)
-}
-
 // Makes table k current, as a CMD, REQ or BURN that is not refused does: on the older family, where it was not, its bytes in memory become those in
 // flash.
 fn make_current(s: HolderState, t: Table, k: u8, flash: &[u8], memory: &mut [u8]) -> HolderState
@@ -383,7 +381,8 @@ fn make_current(s: HolderState, t: Table, k: u8, flash: &[u8], memory: &mut [u8]
     ensures { (result ≡ currently s.family k) × ((d : Directory) → t.start ≡ start_of d k → t.size ≡ size_of d k
         → memory.new ≡ (with_current (device d s memory.old flash.now) k).memory) }
 {
-    if (s.family == 2) & !is_current(s, k) {
+    let is_current = (s.has_current == 1) & (s.current == k);
+    if (s.family == 2) & !is_current {
         copy_table(t, flash, memory);
     }
     HolderState {

@@ -3,10 +3,9 @@ pub mod frames;
 pub mod holder;
 pub mod ident;
 pub mod requests;
-pub mod resizing;
 mod rows;
 
 pub use bus_rules::{
     BURN, CMD, Directory, FirstState, Frame, HolderAnswer, HolderState, Packed, Parts, REQ, RSP,
-    Request, RequestBytes, RequestRead, Resized, Served, Unpacked, XTND,
+    Request, RequestBytes, RequestRead, Served, Unpacked, XTND,
 };

@@ -267,9 +267,7 @@ module _ (e : Device) (f : Frame) (a : Accepted e f) where
   -- a range of the addressed table lies within the memory
   in_memory : (k : ℕ) → id_offset f.id + k ≤ size_at e f → place_of e f + k ≤ length e.memory
   unfolding place_of
-  in_memory k h =
-      let small = table_small f.id in
-      omega (arith, table_within e.directory a.directory.sums (table_of f) (omega arith), a.memory)
+  in_memory k h = omega (arith, table_within e.directory (table_of f) (omega (arith, table_small f.id)), a.memory)
 
   pub command_fits : id_kind f.id ≡ cmd
       → (id_offset f.id + f.len ≤ size_at e f) × (place_of e f + f.len ≤ length e.memory)

@@ -5,13 +5,12 @@ use Rattle.bus_rules.specs.Ident.{id_spare, id_table, id_to, id_from, id_kind, i
 use Rattle.bus_rules.specs.Ident.{unpack_number, unpack_of}
 use Rattle.bus_rules.specs.Frames.{content, padded, frame_with, build_of, no_frame, head_number, receive_number, read_head_of}
 use Rattle.bus_rules.specs.Request.{request_of, clear_of, read_request_of, request, request_bytes_number, wrote_request, request_bytes_of}
-use Rattle.bus_rules.specs.Device.{size_of, right_of, start_of, total_of, sum_of, sound_tables, sound_directory, directory_number, length_number}
+use Rattle.bus_rules.specs.Device.{size_of, right_of, start_of, total_of, sound_tables, sound_directory, directory_number, length_number}
 use Rattle.bus_rules.specs.Device.{memory_number, range_of, copy_table, none_current, currently, is_current, known_family, sound_current, state_number}
 use Rattle.bus_rules.specs.Device.{first_state_of, reloads, with_current}
 use Rattle.bus_rules.specs.Holder.{command_number, request_number, burn_number, query_number, byte_of, read_at, request_at, by_kind, kind_number, device_number}
 use Rattle.bus_rules.specs.Holder.{no_answer, answer_with, reply_to, acknowledgement, place_of, protocol, act_of, storing, burning, act_after}
 use Rattle.bus_rules.specs.Holder.{serve_number, served_by, after_by, serve_of, device_after}
-use Rattle.bus_rules.specs.Resize.{starts_of, with_sizes, with_size, state_beside, resize_number, resized_by, resize_of}
 
 unfoldable pub orders : Unit {0}
 unfolding ◌if◌else◌ ◌or_else◌ answer result
@@ -30,7 +29,7 @@ unfolding request_of clear_of read_request_of request request_bytes_number wrote
 requests = tt
 
 unfoldable pub devices : Unit {0}
-unfolding size_of right_of start_of total_of sum_of sound_tables sound_directory directory_number length_number memory_number range_of copy_table
+unfolding size_of right_of start_of total_of sound_tables sound_directory directory_number length_number memory_number range_of copy_table
 devices = tt
 
 unfoldable pub states : Unit {0}
@@ -45,10 +44,6 @@ unfoldable pub answers : Unit {0}
 unfolding no_answer answer_with reply_to acknowledgement place_of protocol act_of storing burning act_after served_by after_by serve_of device_after
 answers = tt
 
-unfoldable pub resizes : Unit {0}
-unfolding starts_of with_sizes with_size state_beside resize_number resized_by resize_of
-resizes = tt
-
 unfoldable pub bus : Unit {0}
-unfolding orders identifiers frames requests devices states numbers answers resizes
+unfolding orders identifiers frames requests devices states numbers answers
 bus = tt

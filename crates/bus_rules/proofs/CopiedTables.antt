@@ -16,22 +16,22 @@ use Rattle.bus_rules.specs.Ident.{id_kind}
 use Rattle.bus_rules.specs.Frames.{Frame, burn}
 use Rattle.bus_rules.specs.Device.{Directory, Device, start_of, size_of, total_of, copy_table, with_current}
 use Rattle.bus_rules.specs.Holder.{table_of, serve_number, acting, burning, device_after}
-use Rattle.bus_rules.specs.Demand2.{Sums, TableCopied, BurnOf, LentFrame, lent_with, after_all, NoBurn}
+use Rattle.bus_rules.specs.Demand2.{TableCopied, BurnOf, LentFrame, lent_with, after_all, NoBurn}
 use Rattle.bus_rules.proofs.Directories.{table_within, table_apart}
 use Rattle.bus_rules.proofs.FrameLaws.{part_length}
 use Rattle.bus_rules.proofs.IdentLaws.{table_small}
 use Rattle.bus_rules.proofs.Cases.{accepted, accepted_acting, act_burn, served_case, refused_case, same_flash_lem, same_directory, number_is}
 
-module _ (d : Directory) (s : Sums d) (k : ℕ) (from to : List ℕ) (l : k < 32) (whole : length from ≡ total_of d) (fits : length to ≡ total_of d) where
+module _ (d : Directory) (k : ℕ) (from to : List ℕ) (l : k < 32) (whole : length from ≡ total_of d) (fits : length to ≡ total_of d) where
   table : List ℕ
   table = take (size_of d k) (drop (start_of d k) from)
 
   table_length : length table ≡ size_of d k
   unfolding table
-  table_length = part_length from (start_of d k) (size_of d k) (omega (arith, table_within d s k l))
+  table_length = part_length from (start_of d k) (size_of d k) (omega (arith, table_within d k l))
 
   within : start_of d k + length table ≤ length to
-  within = omega (arith, table_length, table_within d s k l)
+  within = omega (arith, table_length, table_within d k l)
 
   -- the bytes before the table and after it
   outside : (j : ℕ) → (j < start_of d k) ⊎ (start_of d k + size_of d k ≤ j) → get_or (copy_table d k from to) j 0 ≡ get_or to j 0
@@ -41,12 +41,12 @@ module _ (d : Directory) (s : Sums d) (k : ℕ) (from to : List ℕ) (l : k < 32
   pub table_copied : TableCopied d k from to (copy_table d k from to)
   unfolding copy_table table
   table_copied = record {
-    within = (omega (arith, table_within d s k l), omega (arith, table_within d s k l));
+    within = (omega (arith, table_within d k l), omega (arith, table_within d k l));
     same_length_lem = length-sets to (start_of d k) table;
     equal = λ i h. sets_in to (start_of d k) table within i (omega (arith, table_length))
         ∙ get_or-take (size_of d k) (drop (start_of d k) from) i 0 h ∙ get_or-drop (start_of d k) from i 0;
     others = outside;
-    other_tables = λ t i b h n. outside (start_of d t + i) (rw add-zero at (table_apart d s t k i 0 (size_of d k) b l h (omega arith) n));
+    other_tables = λ t i b h n. outside (start_of d t + i) (rw add-zero at (table_apart d t k i 0 (size_of d k) h (omega arith) n));
   }
 
 -- a table copied to another memory, and back from there: nothing changes
@@ -70,9 +70,8 @@ pub burn_copied : (e : Device) (f : Frame) → serve_number e f ≡ 0 → id_kin
 unfolding burning with_current
 burn_copied e f z k =
     let a = accepted_acting e f (accepted e f z) in
-    let small = table_small f.id in
     rw ((served_case e f z).1 ∙ (act_burn e f k).1)
-    (table_copied e.directory a.directory.sums (table_of f) (acting e f).memory e.flash (omega arith) a.memory a.flash)
+    (table_copied e.directory (table_of f) (acting e f).memory e.flash (omega (arith, table_small f.id)) a.memory a.flash)
 
 -- any frame that is not a served BURN of the table leaves its flash bytes
 module _ (e : Device) (f : Frame) (k i : ℕ) (b : k < 32) (l : i < size_of e.directory k) where

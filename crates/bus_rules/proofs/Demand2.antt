@@ -17,7 +17,7 @@ use Rattle.bus_rules.specs.Demand2.{CommandServed, Replied, RequestServed, Ackno
 use Rattle.bus_rules.proofs.IdentLaws.{unpack_id, from_small, table_small}
 use Rattle.bus_rules.proofs.FrameLaws.{IsFrame, padded_length, padded_in, padded_after, content_length, content_at, head_short, part_length}
 use Rattle.bus_rules.proofs.Cases.{Accepted, accepted, accepted_acting, command_fits, request_fits, query_fits}
-use Rattle.bus_rules.proofs.Cases.{act_command, act_request, act_burn, act_query, served_case, refused_case, same_flash_lem, same_directory, number_is}
+use Rattle.bus_rules.proofs.Cases.{act_command, act_request, act_burn, act_query, served_case, refused_case, same_flash_lem, number_is}
 use Rattle.bus_rules.proofs.ServeNumber.{serve_numbers}
 use Rattle.bus_rules.proofs.Directories.{table_apart}
 use Rattle.bus_rules.proofs.CopiedTables.{table_copied, kept_by_all}
@@ -84,12 +84,10 @@ request_small f w i l =
 
 -- on the device that it acts on; s is the answer, and after the device after it
 module _ (d : Device) (f : Frame) (w : IsFrame f) (ok : Accepted d f) (s : Served) (after : Device) where
-  apart_place : (k i : ℕ) → k < 32 → i < size_of d.directory k → k ≢ table_of f → id_offset f.id + f.len ≤ size_at d f
+  apart_place : (k i : ℕ) → i < size_of d.directory k → k ≢ table_of f → id_offset f.id + f.len ≤ size_at d f
       → (start_of d.directory k + i < place_of d f) ⊎ (place_of d f + f.len ≤ start_of d.directory k + i)
   unfolding place_of
-  apart_place k i b h n t =
-      let small = table_small f.id in
-      table_apart d.directory ok.directory.sums k (table_of f) i (id_offset f.id) f.len b (omega arith) h t n
+  apart_place k i h n t = table_apart d.directory k (table_of f) i (id_offset f.id) f.len h t n
 
   command_served : id_kind f.id ≡ cmd → s ≡ no_answer 0 → after ≡ storing d f → CommandServed d f s after
   unfolding byte_of storing
@@ -106,7 +104,7 @@ module _ (d : Device) (f : Frame) (w : IsFrame f) (ok : Accepted d f) (s : Serve
         same_length_lem = rw e (length-sets m (place_of d f) (content f));
         addressed = λ i lt. rw e (sets_in m (place_of d f) (content f) fit i (omega (arith, l)) ∙ content_at f i lt);
         others = λ j o. rw e (sets_outside m (place_of d f) (content f) fit j (rw l o));
-        other_tables = λ k i lt h n. rw e (sets_outside m (place_of d f) (content f) fit _ (rw l (apart_place k i lt h n r.0)));
+        other_tables = λ k i lt h n. rw e (sets_outside m (place_of d f) (content f) fit _ (rw l (apart_place k i h n r.0)));
       }
 
   range_length : (n : ℕ) → place_of d f + n ≤ length d.memory → length (range_of d (table_of f) (id_offset f.id) n) ≡ n
@@ -140,7 +138,7 @@ module _ (d : Device) (f : Frame) (w : IsFrame f) (ok : Accepted d f) (s : Serve
   unfolding burning
   burn_served a e =
       let small = table_small f.id in
-      let copied = table_copied d.directory ok.directory.sums (table_of f) d.memory d.flash (omega arith) ok.memory ok.flash in
+      let copied = table_copied d.directory (table_of f) d.memory d.flash (omega arith) ok.memory ok.flash in
       record {
         reply = rw a (acknowledged d f ok.directory.own);
         same_tables = rw e;
@@ -240,7 +238,6 @@ module _ (d : Device) (f : Frame) (w : IsFrame f) where
         burning = λ z. burning_served (sym (number_is d f) ∙ z);
         query = λ z. query (sym (number_is d f) ∙ z) tb wb;
         current = λ t. current_after d f (sym (number_is d f) ∙ t.0) t.1;
-        sums = λ h. rw (same_directory d f) h.sums;
         sound_state = λ z. sound_after d f (sym (number_is d f) ∙ z);
         reloaded = λ t older n. let z = sym (number_is d f) ∙ t.0 in reloaded d f z t.1 (command z) older n (request z);
         kept = λ t. let z = sym (number_is d f) ∙ t.0 in λ h. kept d f z t.1 (command z) h (request z);

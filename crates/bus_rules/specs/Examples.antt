@@ -1,5 +1,5 @@
 -- What the definitions make of identifiers, of 002's worked examples, and of other frames to a small device. All that is asked and answered is written out.
-use Rattle.std.specs.Prelude.{ℕ, ◌+◌, ◌-◌, ◌≡◌, List, [], ◌∷◌, ◌++◌, map, length, replicate, take, drop}
+use Rattle.std.specs.Prelude.{ℕ, ◌-◌, ◌≡◌, List, [], ◌∷◌, ◌++◌, map, length, replicate}
 use Rattle.bus_rules.specs.Device.{Directory, HolderState, Device, device, first_state_of}
 use Rattle.bus_rules.specs.Frames.{Frame}
 use Rattle.bus_rules.specs.Ident.{Parts, rows, part, part_at, sum_of_rows, pack_of, unpack_of}
@@ -7,30 +7,16 @@ use Rattle.bus_rules.specs.Request.{read_request_of, request_bytes_of}
 use Rattle.bus_rules.specs.declared.Packed.TheVariants as P
 use Rattle.bus_rules.specs.declared.Unpacked.TheVariants as U
 use Rattle.bus_rules.specs.Holder.{Served, serve_of, device_after}
-use Rattle.bus_rules.specs.Resize.{Resized, resize_of}
 
--- table 4 has 2 bytes, table 7 has 8, table 15 so many, table 20 has 2
-abbrev pub sizes : (size : ℕ) → List ℕ
-sizes size = replicate 4 0 ++ 2 ∷ 0 ∷ 0 ∷ 8 ∷ replicate 7 0 ++ size ∷ replicate 4 0 ++ 2 ∷ replicate 11 0
-
--- 02, C-14: and where each starts
-abbrev pub starts : (size : ℕ) → List ℕ
-starts size = replicate 5 0 ++ replicate 3 2 ++ replicate 8 10 ++ replicate 5 (10 + size) ++ replicate 11 (12 + size)
-
--- of a device with these starts and this total: table 7 is to read, tables 15 and 20 to read and write, table 4 has no right
-abbrev pub tables_at : (own size : ℕ) → (starts : List ℕ) → (total : ℕ) → Directory
-tables_at own size starts total = record {
-  sizes = sizes size;
-  starts = starts;
-  total = total;
+-- of a device: table 4 has 2 bytes and no right, table 7 has 8 bytes to read, table 15 so many to read and write, table 20 has 2 to read and write
+abbrev pub tables : (own size : ℕ) → Directory
+tables own size = record {
+  sizes = replicate 4 0 ++ 2 ∷ 0 ∷ 0 ∷ 8 ∷ replicate 7 0 ++ size ∷ replicate 4 0 ++ 2 ∷ replicate 11 0;
   rights = replicate 7 0 ++ 1 ∷ replicate 7 0 ++ 2 ∷ replicate 4 0 ++ 2 ∷ replicate 11 0;
   table_blocking = 0x0102;
   write_blocking = 0x0304;
   own = own;
 }
-
-abbrev pub tables : (own size : ℕ) → Directory
-tables own size = tables_at own size (starts size) (12 + size)
 
 -- 002's device 0: "RPM .. in table 7, offset 6" is 14 FE, and table 15 is the serial signature, whose last four bytes are given
 abbrev pub signature_with : (last : List ℕ) → List ℕ
@@ -72,31 +58,10 @@ changed = 0x31 ∷ 0xB0 ∷ 0xB1 ∷ 0x00 ∷ []
 abbrev pub unburnt : HolderState → Device
 unburnt s = holds s changed signature_burnt
 
--- a directory of own number 0, without blocking factors
-abbrev pub bare : (sizes starts : List ℕ) (total : ℕ) (rights : List ℕ) → Directory
-bare sizes starts total rights =
-    record { sizes = sizes; starts = starts; total = total; rights = rights; table_blocking = 0; write_blocking = 0; own = 0 }
-
--- C-14: without tables
-abbrev pub zeros : Directory
-zeros = bare (replicate 32 0) (replicate 32 0) 0 (replicate 32 0)
-
--- the multiples of 2,056
-abbrev pub multiples : List ℕ
-multiples =
-    0 ∷ 2056 ∷ 4112 ∷ 6168 ∷ 8224 ∷ 10280 ∷ 12336 ∷ 14392 ∷ 16448 ∷ 18504 ∷ 20560 ∷ 22616
-    ∷ 24672 ∷ 26728 ∷ 28784 ∷ 30840 ∷ 32896 ∷ 34952 ∷ 37008 ∷ 39064 ∷ 41120 ∷ 43176
-    ∷ 45232 ∷ 47288 ∷ 49344 ∷ 51400 ∷ 53456 ∷ 55512 ∷ 57568 ∷ 59624 ∷ 61680 ∷ 63736 ∷ []
-
--- the first 15 tables have 2,056 bytes each, table 15 so many
-abbrev pub nearly_full : (size : ℕ) → Directory
-nearly_full size =
-    bare (replicate 15 2056 ++ size ∷ replicate 16 0) (take 16 multiples ++ replicate 16 (30840 + size)) (30840 + size) (replicate 32 0)
-
 -- a device that has table 0 alone: two bytes, to read and write, 3 and 4 in flash
 abbrev pub table_zero : HolderState → (memory : List ℕ) → Device
 table_zero s memory =
-    device (bare (2 ∷ replicate 31 0) (0 ∷ replicate 31 2) 2 (2 ∷ replicate 31 0)) s memory (3 ∷ 4 ∷ [])
+    device (record { sizes = 2 ∷ replicate 31 0; rights = 2 ∷ replicate 31 0; table_blocking = 0; write_blocking = 0; own = 0 }) s memory (3 ∷ 4 ∷ [])
 
 -- an identifier by hand: taken apart, row by row from the low end, and put together; and what unpacking and packing answer
 pub record ByHand (id : ℕ) (parts : List ℕ) (p : Parts) : Type 0 where
@@ -124,18 +89,6 @@ alone n = record { number = n; frames = 0; clear = 0; frame = frame 0 0 [] }
 -- that is all a refusal answers, and the device stays as it was
 abbrev pub Refuses : Device → Frame → ℕ → Type 0
 Refuses e f n = (serve_of e f ≡ alone n) × (device_after e f ≡ e)
-
--- 02, C-14: a table's size is set, and these are directory and state afterwards
-abbrev pub ResizedAs : Directory → HolderState → (table size : ℕ) → Directory → HolderState → Type 0
-ResizedAs d s table size after beside = resize_of d s table size ≡ record { number = 0; directory = after; state = beside }
-
--- it is refused, and both stay as they were
-abbrev pub NotResized : Directory → HolderState → (table size : ℕ) → Type 0
-NotResized d s table size = resize_of d s table size ≡ record { number = 11; directory = d; state = s }
-
--- 11 from every call that takes such a directory, before 10
-abbrev pub Unsound : Directory → Type 0
-Unsound d = Refuses (device d (state 3 0 0) [] []) (frame 0x40B878 3 (0x06 ∷ 0x00 ∷ 0x04 ∷ [])) 11 × NotResized d (state 3 0 0) 15 20
 
 -- identifiers by hand; frames from device 7, some with bytes past their length that say otherwise; then parts that neither an identifier nor
 -- request bytes hold, and request bytes read and packed
@@ -220,38 +173,9 @@ pub record Examples : Type 0 where
   pub first2 : first_state_of 2 ≡ record { number = 0; state = state 2 0 0 }
   pub first3 : first_state_of 3 ≡ record { number = 0; state = state 3 0 0 }
   pub first4 : first_state_of 4 ≡ record { number = 11; state = state 0 0 0 }
-  -- 11 before 10: own number 16, a table of 2,057 bytes
-  pub unsound : Unsound (tables 16 20)
-  pub too_long : Unsound (tables 0 2057)
-  -- C-14: a wrong start of table 0, of table 20, of the empty table 31; a wrong total, one more and one less
-  pub wrong_first : Unsound (tables_at 0 20 (1 ∷ drop 1 (starts 20)) 32)
-  pub wrong_start : Unsound (tables_at 0 20 (take 20 (starts 20) ++ 10 ∷ replicate 11 32) 32)
-  pub wrong_last : Unsound (tables_at 0 20 (take 31 (starts 20) ++ 0 ∷ []) 32)
-  pub total_more : Unsound (tables_at 0 20 (starts 20) 33)
-  pub total_less : Unsound (tables_at 0 20 (starts 20) 31)
-  -- a total over 32,768; 32 tables of 2,056 bytes, whose sum is 256 modulo 2^16
-  pub over_full : Unsound (nearly_full 1929)
-  pub wraps : Unsound (bare (replicate 32 2056) multiples 256 (replicate 32 0))
-  -- a directory from the one without tables, table after table
-  pub built : ResizedAs (resize_of (resize_of (resize_of zeros (state 3 0 0) 20 2).directory (state 3 0 0) 4 2).directory (state 3 0 0) 15 20).directory
-      (state 3 0 0) 7 8 (bare (sizes 20) (starts 20) 32 (replicate 32 0)) (state 3 0 0)
-  -- table 15 grows and shrinks, keeps its size, has the largest
-  pub grown : ResizedAs (tables 9 20) (state 3 1 15) 15 24 (tables 9 24) (state 3 1 15)
-  pub shrunk : ResizedAs (tables 9 20) (state 2 1 15) 15 3 (tables 9 3) (state 2 1 15)
-  pub same_size : ResizedAs (tables 9 20) (state 2 1 15) 15 20 (tables 9 20) (state 2 1 15)
-  pub largest_size : ResizedAs (tables 9 20) (state 3 0 0) 15 2056 (tables 9 2056) (state 3 0 0)
-  -- "a current table set to size 0 becomes none"; another stays current
-  pub emptied : ResizedAs (tables 9 20) (state 2 1 15) 15 0 (tables 9 0) (state 2 0 0)
-  pub other_emptied : ResizedAs (tables 9 20) (state 2 1 7) 15 0 (tables 9 0) (state 2 1 7)
-  -- the last table; a total of 32,768
-  pub last_table : ResizedAs zeros (state 3 0 0) 31 5 (bare (replicate 31 0 ++ 5 ∷ []) (replicate 32 0) 5 (replicate 32 0)) (state 3 0 0)
-  pub full : ResizedAs (nearly_full 0) (state 3 0 0) 15 1928 (nearly_full 1928) (state 3 0 0)
-  -- 11: table 32, a size of 2,057, a total of 32,769, family 4, and a current table that is empty, though it is this one
-  pub resizes32 : NotResized zeros (state 3 0 0) 32 5
-  pub resizes2057 : NotResized (tables 9 20) (state 3 0 0) 15 2057
-  pub resizes_over : NotResized (nearly_full 0) (state 3 0 0) 15 1929
-  pub resizes_family4 : NotResized (tables 9 20) (state 4 0 0) 15 24
-  pub resizes_empty_current : NotResized (tables 9 20) (state 3 1 5) 5 3
+  -- no memory and no flash: 11 before 10, of own number 16 and of a table of 2,057 bytes
+  pub unsound : Refuses (device (tables 16 20) (state 3 0 0) [] []) (frame 0x40B878 3 (0x06 ∷ 0x00 ∷ 0x04 ∷ [])) 11
+  pub too_long : Refuses (device (tables 0 2057) (state 3 0 0) [] []) (frame 0x40B878 3 (0x06 ∷ 0x00 ∷ 0x04 ∷ [])) 11
   pub no_memory : Refuses (device (tables 0 2056) (state 3 0 0) [] []) (frame 0x40B878 3 (0x06 ∷ 0x00 ∷ 0x04 ∷ [])) 10
   -- 10 before 1: memory too short, flash too short, flash too long
   pub short_memory : Refuses (device (tables 0 20) (state 3 0 0) (replicate 31 0) erased) (frame 0x20403881 9 []) 10

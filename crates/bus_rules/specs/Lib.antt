@@ -5,5 +5,4 @@ pub mod Rows
 pub mod Device
 pub mod Holder
 pub mod Demand2
-pub mod Resize
 pub mod Examples

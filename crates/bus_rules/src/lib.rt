@@ -70,15 +70,12 @@ pub struct RequestBytes {
     pub bytes: [u8; 3],
 }
 
-// A holder's directory: 32 sizes, starts and rights (0 none, 1 read, 2 read and write), the total, two blocking factors, and its own number. Each start is
-// the sum of the sizes before it, the total the sum of all.
+// A holder's directory: 32 sizes and rights (0 none, 1 read, 2 read and write), two blocking factors, and its own number.
 #[repr(C)]
 #[derive(Drop)]
 pub struct Directory {
     pub sizes: [u16; 32],
-    pub starts: [u16; 32],
     pub rights: [u8; 32],
-    pub total: u16,
     pub table_blocking: u16,
     pub write_blocking: u16,
     pub own: u8,
@@ -98,15 +95,6 @@ pub struct HolderState {
 #[derive(Drop)]
 pub struct FirstState {
     pub number: u8,
-    pub state: HolderState,
-}
-
-// A number, the directory with one table's size set, and the state beside it: both as given in a refusal.
-#[repr(C)]
-#[derive(Drop)]
-pub struct Resized {
-    pub number: u8,
-    pub directory: Directory,
     pub state: HolderState,
 }
 

@@ -140,66 +140,22 @@ fn state_numbers(s: HolderState) -> Answer {
 pub(crate) fn device(own: u8) -> Directory {
     Directory {
         sizes: [0; 32],
-        starts: [0; 32],
         rights: [0; 32],
-        total: 0,
         table_blocking: 0,
         write_blocking: 0,
         own,
     }
 }
 
-// table TABLE SIZE RIGHT: a size that the limits allow, beside any state.
+// table TABLE SIZE RIGHT
 fn with_table(d: Directory, k: u64, size: u16, right: u8) -> Directory {
-    if 31 < k {
-        return d;
-    }
-    let r = bus::resizing::resize(d, state(3, 0, 0), k as u8, size);
-    let mut d = r.directory;
-    d.rights[k as usize] = right;
-    d
-}
-
-// start TABLE START: as it is kept.
-fn with_start(d: Directory, k: u64, start: u16) -> Directory {
     let k = k as usize;
     let mut d = d;
     if k < 32 {
-        d.starts[k] = start;
+        d.sizes[k] = size;
+        d.rights[k] = right;
     }
     d
-}
-
-// total TOTAL: as it is kept.
-fn with_total(d: Directory, total: u16) -> Directory {
-    let mut d = d;
-    d.total = total;
-    d
-}
-
-// starts: those of tables 0, 7, 15, 16, 20, 21 and 31, and the total.
-fn starts(d: Directory) -> Answer {
-    let s = d.starts;
-    numbers(
-        8,
-        [
-            s[0] as u64,
-            s[7] as u64,
-            s[15] as u64,
-            s[16] as u64,
-            s[20] as u64,
-            s[21] as u64,
-            s[31] as u64,
-            d.total as u64,
-        ],
-    )
-}
-
-// resize TABLE SIZE: the number; directory and state are then those handed back.
-fn resize(w: World, table: u8, size: u16) -> Ran {
-    let r = bus::resizing::resize(w.directory, w.state, table, size);
-    let directory = r.directory;
-    with_holder(w, directory, r.state, number(r.number))
 }
 
 fn with_holder(w: World, directory: Directory, state: HolderState, answer: Answer) -> Ran {
@@ -215,10 +171,6 @@ fn with_holder(w: World, directory: Directory, state: HolderState, answer: Answe
         },
         answer,
     )
-}
-
-fn with_directory(w: World, directory: Directory) -> Ran {
-    with_holder(w, directory, w.state, nothing())
 }
 
 fn with_state(w: World, state: HolderState, answer: Answer) -> Ran {
@@ -245,14 +197,6 @@ const DEVICE: u64 = 0x646576696365;
 
 const TABLE: u64 = 0x7461626c65;
 
-const START: u64 = 0x7374617274;
-
-const STARTS: u64 = 0x737461727473;
-
-const TOTAL: u64 = 0x746f74616c;
-
-const RESIZE: u64 = 0x726573697a65;
-
 fn number_call(a: Words, bytes: &[u8]) -> Answer {
     let n = a.n;
     let b = a.n8;
@@ -274,11 +218,12 @@ fn holder_call(w: World, a: Words, bytes: &[u8]) -> Ran {
     let h = a.n16;
     match n[2] {
         DEVICE => with_holder(w, device(b[3]), state(3, 0, 0), nothing()),
-        TABLE => with_directory(w, with_table(w.directory, n[3], h[4], b[5])),
-        START => with_directory(w, with_start(w.directory, n[3], h[4])),
-        TOTAL => with_directory(w, with_total(w.directory, h[3])),
-        STARTS => kept(w, starts(w.directory)),
-        RESIZE => resize(w, b[3], h[4]),
+        TABLE => with_holder(
+            w,
+            with_table(w.directory, n[3], h[4], b[5]),
+            w.state,
+            nothing(),
+        ),
         FIRST => first(w, b[3]),
         STATE => with_state(w, state(b[3], b[4], b[5]), nothing()),
         CURRENT => kept(w, state_numbers(w.state)),

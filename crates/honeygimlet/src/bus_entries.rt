@@ -4,7 +4,6 @@ ghost use Rattle.bus_rules.specs.Ident.{pack_of, unpack_of};
 ghost use Rattle.bus_rules.specs.Request.{read_request_of, request_bytes_of};
 ghost use Rattle.bus_rules.specs.Device.{device, first_state_of};
 ghost use Rattle.bus_rules.specs.Holder.{serve_of, device_after};
-ghost use Rattle.bus_rules.specs.Resize.{resize_of};
 ghost use Rattle.honeygimlet.specs.Answers.{packed_out, unpacked_out};
 
 use crate::{Packed, Unpacked};
@@ -59,18 +58,6 @@ pub extern "C" fn hg_bus_first_state(family: u8) -> bus::FirstState
     ensures { result ≡ first_state_of family }
 {
     bus::holder::first_state(family)
-}
-
-#[unsafe(no_mangle)]
-pub extern "C" fn hg_bus_resize(
-    directory: bus::Directory,
-    state: bus::HolderState,
-    table: u8,
-    size: u16,
-) -> bus::Resized
-    ensures { result ≡ resize_of directory state table size }
-{
-    bus::resizing::resize(directory, state, table, size)
 }
 
 #[unsafe(no_mangle)]

@@ -65,17 +65,17 @@ module _ (v time : ℕ) (fields names : List ℕ) where
       = omega (arith, fields_end_lem (b ∷ bs) h) in
       rw e (drop-append_seam names (ended (b ∷ bs)))
 
-  same_size_lem : (n : ℕ) → not (eqb n n) ≡ false
-  same_size_lem n = not_no _ (eq-eqb n n refl)
+  same_size : (n : ℕ) → not (eqb n n) ≡ false
+  same_size n = not_no _ (eq-eqb n n refl)
 
   last_none : (info : List ℕ) → 0 < header_len v → length fields % field_len v ≡ 0
       → 0 ≡ last_number (header_for v time fields names info) fields (area_of names info)
   unfolding last_number header_for
-  last_none [] p h = if_no 23 _ _ 0 (same_size_lem (sizes v (length fields / field_len v) fields)) (if_yes 0 _ _ (eq-eqb 0 0 refl))
+  last_none [] p h = if_no 23 _ _ 0 (same_size (sizes v (length fields / field_len v) fields)) (if_yes 0 _ _ (eq-eqb 0 0 refl))
   last_none (b ∷ bs) p h =
       let at = header_len v + length fields + length names - fields_end (header_for v time fields names (b ∷ bs)) in
       let k : eqb (zeros (drop at (area_of names (b ∷ bs)))) 0 ≡ false = rw (start b bs h) (ne_eqb _ _ (some_zero b bs)) in
-      if_no 23 _ _ 0 (same_size_lem (sizes v (length fields / field_len v) fields))
+      if_no 23 _ _ 0 (same_size (sizes v (length fields / field_len v) fields))
       (if_no 0 _ _ 0 (ne_eqb _ _ (λ (z : header_len v + length fields + length names ≡ 0). omega arith))
       (if_no 28 _ _ 0 k refl))
 

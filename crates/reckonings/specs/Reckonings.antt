@@ -69,8 +69,6 @@ pub data Answer : Type 0 where
 unfoldable pub directory : ℕ → Directory
 directory n = record {
   sizes = replicate 7 0 ++ n ∷ replicate 24 0;
-  starts = replicate 8 0 ++ replicate 24 n;
-  total = n;
   rights = replicate 7 0 ++ 1 ∷ replicate 24 0;
   table_blocking = 0;
   write_blocking = 0;

@@ -1,6 +1,12 @@
-use Rattle.std.proofs.Common.{◌≡◌, ℕ, ◌+◌, ◌≤◌, List, length, take, drop, sym, ap, ◌∙◌, ap₂, ⊎_elim, arith, rules}
+use borrow.Author.Rules.{rules}
 use Rattle.bus.proofs.holder.act.Statement.{statement}
 use Rattle.bus.proofs.holder.act.Tie as tie
+use Prim.Native.Nat.{ℕ, ◌+◌, ◌≤◌}
+use native.Mathlib.Omega.{arith}
+use mathlib.Core.Logic.{⊎_elim}
+use mathlib.Core.List.{List}
+use mathlib.Core.Path.{◌≡◌, sym, ◌∙◌, ap, ap₂}
+use lib.ListN.{length, take, drop}
 use lib.Seq.{sets}
 use Rattle.bus_rules.specs.declared.RequestRead.{RequestRead}
 use Rattle.bus_rules.specs.Ident.{id_kind}
@@ -57,7 +63,7 @@ within : (s : tie.Start)
     → (s.args.t.start + s.args.t.size ≤ length s.args.memory.now) × (s.args.t.start + s.args.t.size ≤ length s.args.flash.now)
 within s =
     let a = not_refused s in
-    let w = table_within s.args.d a.directory.sums (table_of s.args.f) (omega (arith, table_small s.args.f.id)) in
+    let w = table_within s.args.d (table_of s.args.f) (omega (arith, table_small s.args.f.id)) in
     (omega (arith, s.requires.1, s.requires.2, w, a.memory), omega (arith, s.requires.1, s.requires.2, w, a.flash))
 
 same_total : (s : tie.Start) → length (acted-on s).memory ≡ length s.args.memory.now

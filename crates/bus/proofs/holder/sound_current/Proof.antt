@@ -1,8 +1,10 @@
-use Rattle.std.proofs.Common.{◌≡◌, arith, rules, ne_eqb, le-leb}
+use borrow.Author.Rules.{rules}
 use Rattle.bus.proofs.holder.sound_current.Statement.{statement}
 use Rattle.bus.proofs.holder.sound_current.Tie as tie
+use native.Mathlib.Omega.{arith}
 use mathlib.Core.Bool.{or-false}
-use borrow.Author.Tests.{lt-leb}
+use borrow.Author.Tests.{ne_eqb, le-leb, lt-leb}
+use mathlib.Core.Path.{◌≡◌}
 use Rattle.bus_rules.specs.Device.{size_of, sound_current}
 
 returns : tie.Need-returns
@@ -28,8 +30,8 @@ cast-result c = search rules
 mul-result : tie.Need-overflow-mul-result
 mul-result c = search rules
 
-array-read-result : tie.Need-array-read-result
-array-read-result c = omega (arith, c.before.before.if3.false)
+element-copy-out-result : tie.Need-element-copy-out-result
+element-copy-out-result c = omega (arith, c.before.if3.false)
 
 returns-4 : tie.Need-returns-4
 unfolding sound_current size_of
@@ -39,4 +41,4 @@ returns-4 c =
     rw (one, le-leb s.current 31 (omega (arith, c.before.before.if3.false)))
 
 pub sound-current-spec : {M : Type 1} → statement M
-sound-current-spec = tie.close (tie.spec returns returns-2 returns-3 cast-result mul-result array-read-result returns-4)
+sound-current-spec = tie.close (tie.spec returns returns-2 returns-3 cast-result mul-result element-copy-out-result returns-4)
