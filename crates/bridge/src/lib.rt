@@ -1,4 +1,6 @@
 // A bridge of four slots: transfers to and from the tables of devices on the bus.
+#![tactic(auto)]
+
 mod answers;
 pub mod ending;
 pub mod in_place;

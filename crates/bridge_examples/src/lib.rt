@@ -1,1 +1,2 @@
 // Example runs of the bridge, stated in specs/Examples.antt and proved by computing them.
+#![tactic(auto)]

@@ -1,4 +1,5 @@
 // The bridge's state and answers. What its calls do to them is defined in specs/; demand 3 is specs/Run.antt to specs/Demand3.antt.
+#![tactic(auto)]
 
 // A slot's phases.
 pub const FREE: u8 = 0;

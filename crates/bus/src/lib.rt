@@ -1,4 +1,6 @@
 // The CAN bus of a Megasquirt: identifiers, frames, request bytes, and the table holder.
+#![tactic(auto)]
+
 pub mod frames;
 pub mod holder;
 pub mod ident;

@@ -9,7 +9,7 @@ use lib.Dec.{lit<, ltb, eqb}
 use mathlib.Core.Bool.{not}
 use borrow.Author.Tests.{ltb-false, leb-false, eqb-true, not-false}
 use Rattle.wire.specs.Order.{◌if◌else◌, ◌or_else◌}
-use Rattle.wire.specs.Answer.{answer, result}
+use Rattle.wire.specs.Answer.{answer, result_of}
 use Rattle.wire.proofs.Answers.{answered, means}
 use Rattle.wire.proofs.Orders.{order, if_zero, if_or_else, zero_or_else}
 use Rattle.bus_rules.specs.Ident.{Parts, rows, part, part_at, by_row, sum_of_rows, id_of, id_in, in_rows}
@@ -156,11 +156,11 @@ unpacked_is = answered U.Is U.Refused (λ n y e. let z : ◌≡◌ {A = ℕ} 0 1
 
 -- each case means its number and its value
 pub packed_means : (r : Packed) (n x : ℕ) → r ≡ answer P.Is P.Refused n x
-    → (r ≡ answer P.Is P.Refused n x) × (packed_answer r ≡ result 0 n x)
+    → (r ≡ answer P.Is P.Refused n x) × (packed_answer r ≡ result_of 0 n x)
 packed_means = means P.Is P.Refused 0 packed_answer (λ x. refl) (λ n. refl)
 
 pub unpacked_means : (r : Unpacked) (n : ℕ) (x : Parts) → r ≡ answer U.Is U.Refused n x
-    → (r ≡ answer U.Is U.Refused n x) × (unpacked_answer r ≡ result no_parts n x)
+    → (r ≡ answer U.Is U.Refused n x) × (unpacked_answer r ≡ result_of no_parts n x)
 unpacked_means = means U.Is U.Refused no_parts unpacked_answer (λ x. refl) (λ n. refl)
 
 -- unpacking the identifier of lawful parts gives them back

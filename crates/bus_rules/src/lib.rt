@@ -1,4 +1,5 @@
 // What the bus is made of. Its rules are defined in specs/.
+#![tactic(auto)]
 
 // The types of frames.
 pub const CMD: u8 = 0;

@@ -1,5 +1,7 @@
 // Runs the worked cases of every layer. Each line of standard input is a case, `LABEL: LAYER CALL NUMBERS | BYTES`: the program makes the
 // call and prints the line and what the call answers. A line without a colon is a heading.
+#![tactic(auto)]
+
 mod answers;
 mod bridges;
 mod buses;

@@ -1,13 +1,13 @@
 // Reading a header.
 ghost use Rattle.std.specs.Prelude.{◌≡◌, take, drop};
-ghost use Rattle.wire.specs.Answer.{result};
+ghost use Rattle.wire.specs.Answer.{result_of};
 ghost use Rattle.frd_rules.specs.Header.{numbers_of, signature_in, read_header_number, read_header_of, no_header, head_answer, read_signature_of};
 
 use crate::{Head, Header, Span};
 
 // The header's numbers, as they stand in the file.
 fn numbers(file: &[u8]) -> Header
-    ensures* { λ r. ⌜ r ≡ numbers_of file.now ⌝ }
+    ensures { result ≡ numbers_of file.now }
 {
     let version = wire::be16(file, 6);
     let time = wire::be32(file, 8);
@@ -23,7 +23,7 @@ fn numbers(file: &[u8]) -> Header
 
 // The number that refuses a header, or 0.
 fn read_header_number(file: &[u8]) -> u8
-    ensures* { λ r. ⌜ r ≡ read_header_number file.now ⌝ }
+    ensures { result ≡ read_header_number file.now }
 {
     if file.len() < 81 {
         return 20;
@@ -43,8 +43,8 @@ fn read_header_number(file: &[u8]) -> u8
 
 // The header of a file.
 pub fn read_header(file: &[u8]) -> Head
-    ensures* { λ r. ⌜ (r ≡ read_header_of file.now)
-        × (head_answer r ≡ result no_header (read_header_number file.now) (numbers_of file.now)) ⌝ }
+    ensures { (result ≡ read_header_of file.now)
+        × (head_answer result ≡ result_of no_header (read_header_number file.now) (numbers_of file.now)) }
 {
     let number = read_header_number(file);
     if number != 0 {
@@ -55,8 +55,8 @@ pub fn read_header(file: &[u8]) -> Head
 
 // Where the signature of a file stands.
 pub fn read_signature(file: &[u8]) -> Span
-    ensures* r_value { λ r. ⌜ r ≡ read_signature_of file.now ⌝ }
-    ensures* part { λ r. ⌜ (r.number ≡ 0 → take r.len (drop r.start file.now) ≡ signature_in file.now) ⌝ }
+    ensures value { result ≡ read_signature_of file.now }
+    ensures part { (result.number ≡ 0 → take result.len (drop result.start file.now) ≡ signature_in file.now) }
 {
     let number = read_header_number(file);
     if number != 0 {

@@ -1,4 +1,6 @@
 // FRD 1: reader and writer of a log's header and of its two kinds of blocks.
+#![tactic(auto)]
+
 mod block_counting;
 mod block_reading;
 mod header_reading;

@@ -6,7 +6,7 @@ use native.Mathlib.Omega.{arith}
 use borrow.Author.Tests.{eqb-true, ltb-false, not-false}
 use lib.ListN.{length}
 use Rattle.wire.specs.BigEndian.{be_of, be_at}
-use Rattle.wire.specs.Answer.{result}
+use Rattle.wire.specs.Answer.{result_of}
 use Rattle.wire.specs.Log.{span_with, Holds}
 use Rattle.wire.specs.declared.Span.{Span}
 use Rattle.wire.proofs.Answers.{means, answered}
@@ -19,7 +19,7 @@ use Rattle.frd_rules.specs.declared.Head.TheVariants.{Is, Refused}
 
 -- what a header's answer says
 pub head_means : (f : List ℕ) (r : Head) → r ≡ read_header_of f
-    → (r ≡ read_header_of f) × (head_answer r ≡ result no_header (read_header_number f) (numbers_of f))
+    → (r ≡ read_header_of f) × (head_answer r ≡ result_of no_header (read_header_number f) (numbers_of f))
 unfolding read_header_of head_answer
 head_means f r = means Is Refused no_header head_answer (λ h. refl) (λ n. refl) r _ _
 

@@ -1,4 +1,5 @@
 // The types of FRD 1. Its rules are defined in specs/.
+#![tactic(auto)]
 
 // A header's numbers: version, time, data begin and output length.
 #[derive(Drop)]

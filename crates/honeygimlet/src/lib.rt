@@ -1,5 +1,7 @@
 // The C library: each entry is one call of the crates below it, and promises that its answer, and what it leaves in lent memory, are the
 // definition's of that call. What else the call's promise says is not said again. An answer enum goes out as a struct.
+#![tactic(auto)]
+
 pub mod bridge_entries;
 pub mod bridge_in_place;
 pub mod bus_entries;

@@ -1,4 +1,6 @@
 // The listing of an MLG as text.
+#![tactic(auto)]
+
 mod lines;
 mod text;
 mod whole;

@@ -1,5 +1,7 @@
 // Lists the files that its arguments name, each under its name and length. Of a long listing it writes the first and the last 200 bytes,
 // the length and a sum.
+#![tactic(auto)]
+
 ghost use Rattle.std.specs.Prelude.{◌<◌};
 
 use libc::STDOUT_FILENO;

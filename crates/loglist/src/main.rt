@@ -1,4 +1,6 @@
 // Lists the MLG on standard input. It takes no arguments.
+#![tactic(auto)]
+
 ghost use Rattle.std.specs.Prelude.{◌≡◌, ◌≤◌, length, take};
 ghost use Rattle.listing_rules.specs.Listing.{list_of, LongInput};
 ghost use Rattle.listing_rules.specs.Examples.{Examples};

@@ -1,4 +1,6 @@
 // MLG files: reading and writing headers and blocks.
+#![tactic(auto)]
+
 mod block_counting;
 mod block_reading;
 mod block_writing;
@@ -16,7 +18,7 @@ ghost use Rattle.mlg_rules.specs.Parts.{fields_span_of, field_span_of, names_spa
 ghost use Rattle.mlg_rules.specs.Numbers.{HeaderNumber, BlockNumber};
 ghost use Rattle.mlg_rules.specs.Examples.{Examples};
 ghost use Rattle.mlg_rules.specs.RoundTrip.{DataBack, MarkBack, BlockAlone, LogPlaced, BlockSame, FieldsPlaced, HeaderBack, LogBack, LogSame};
-ghost use Rattle.wire.specs.Answer.{result};
+ghost use Rattle.wire.specs.Answer.{result_of};
 ghost use Rattle.wire.specs.Writer.{wrote, leaves};
 ghost use Rattle.mlg_rules.specs.Writing.{header_bytes, write_header_number, data_bytes, mark_bytes, write_data_number, write_mark_number};
 
@@ -32,9 +34,9 @@ pub use wire::{Span, Tally};
 
 // What a file's header says, or the number that refuses it.
 pub fn read_header(file: &[u8]) -> Head
-    ensures* { λ r. ⌜ (r ≡ read_header_of file.now)
-        × (head_answer r ≡ result no_header (read_header_number file.now) (numbers_of file.now))
-        × HeaderNumber file.now (head_answer r).0 ⌝ }
+    ensures { (result ≡ read_header_of file.now)
+        × (head_answer result ≡ result_of no_header (read_header_number file.now) (numbers_of file.now))
+        × HeaderNumber file.now (head_answer result).0 }
 {
     let number = read_header_number(file);
     if number != 0 {
@@ -45,10 +47,10 @@ pub fn read_header(file: &[u8]) -> Head
 
 // The block at a place of a log whose records have the given length, after the given number of earlier blocks.
 pub fn read_block(file: &[u8], size: u16, earlier: u64, at: usize) -> Block
-    ensures* fact { λ r. ⌜ (r ≡ read_block_of size earlier file.now at)
-        × (block_answer size r ≡ block_result size earlier file.now at)
-        × BlockNumber size file.now at (block_answer size r).number ⌝ }
-    ensures* alone { λ _. ⌜ BlockAlone ⌝ }
+    ensures fact { (result ≡ read_block_of size earlier file.now at)
+        × (block_answer size result ≡ block_result size earlier file.now at)
+        × BlockNumber size file.now at (block_answer size result).number }
+    ensures alone { BlockAlone }
 {
     if file.len() < at {
         return Block::Refused {
@@ -61,7 +63,7 @@ pub fn read_block(file: &[u8], size: u16, earlier: u64, at: usize) -> Block
 
 // How many bytes of the log a block takes; none for the end and for a refusal.
 pub fn length_of(b: Block, size: u16) -> usize
-    ensures* { λ r. ⌜ r ≡ length_of size b ⌝ }
+    ensures { result ≡ length_of size b }
 {
     let Block::Data { .. } = b else {
         return mark_length(b, size);
@@ -71,8 +73,8 @@ pub fn length_of(b: Block, size: u16) -> usize
 
 // How many blocks a file has, and how they ended; a refused header gives no blocks, its number, and place 0.
 pub fn count_blocks(file: &[u8]) -> Tally
-    ensures* r_value { λ r. ⌜ r ≡ count_blocks_of file.now ⌝ }
-    ensures* placed { λ _. ⌜ LogPlaced ⌝ }
+    ensures value { result ≡ count_blocks_of file.now }
+    ensures placed { LogPlaced }
 {
     let head = read_header(file);
     let Head::Is(h) = head else {
@@ -87,8 +89,8 @@ pub fn count_blocks(file: &[u8]) -> Tally
 
 // Where all the fields stand, back to back: the 89 bytes of field i at start + 89 * i. The header is judged once.
 pub fn fields_span(file: &[u8]) -> Span
-    ensures* fact { λ r. ⌜ (r ≡ fields_span_of file.now) × (r.start + r.len ≤ length file.now) ⌝ }
-    ensures* each { λ _. ⌜ FieldsPlaced ⌝ }
+    ensures fact { (result ≡ fields_span_of file.now) × (result.start + result.len ≤ length file.now) }
+    ensures each { FieldsPlaced }
 {
     let number = read_header_number(file);
     if number != 0 {
@@ -101,7 +103,7 @@ pub fn fields_span(file: &[u8]) -> Span
 
 // Where field i stands. The header is judged at every call.
 pub fn field_span(file: &[u8], index: u16) -> Span
-    ensures* { λ r. ⌜ (r ≡ field_span_of file.now index) × (r.start + r.len ≤ length file.now) ⌝ }
+    ensures { (result ≡ field_span_of file.now index) × (result.start + result.len ≤ length file.now) }
 {
     let number = read_header_number(file);
     if number != 0 {
@@ -118,7 +120,7 @@ pub fn field_span(file: &[u8], index: u16) -> Span
 // Where the names area stands: from the fields' end to info start, or to data begin where there is no info. In a file that is not in the
 // writer's layout, names may also stand after it.
 pub fn names_span(file: &[u8]) -> Span
-    ensures* { λ r. ⌜ (r ≡ names_span_of file.now) × (r.start + r.len ≤ length file.now) ⌝ }
+    ensures { (result ≡ names_span_of file.now) × (result.start + result.len ≤ length file.now) }
 {
     let number = read_header_number(file);
     if number != 0 {
@@ -131,7 +133,7 @@ pub fn names_span(file: &[u8]) -> Span
 
 // Where the info text stands, without its zero.
 pub fn info_span(file: &[u8]) -> Span
-    ensures* { λ r. ⌜ (r ≡ info_span_of file.now) × (r.start + r.len ≤ length file.now) ⌝ }
+    ensures { (result ≡ info_span_of file.now) × (result.start + result.len ≤ length file.now) }
 {
     let number = read_header_number(file);
     if number != 0 {
@@ -147,13 +149,13 @@ pub fn info_span(file: &[u8]) -> Span
 
 // Writes a data block of the given record length after the given number of earlier blocks.
 pub fn write_data(out: &mut [u8], size: u16, earlier: u64, time: u16, bytes: &[u8]) -> wire::Written
-    ensures* fact { λ r. ⌜ (r ≡ wrote
+    ensures fact { (result ≡ wrote
         (write_data_number size bytes.now (length out.old))
         (data_bytes (counter_after earlier) time bytes.now))
         × (out.new ≡ leaves
         (write_data_number size bytes.now (length out.old))
-        (data_bytes (counter_after earlier) time bytes.now) out.old) ⌝ }
-    ensures* back { λ _. ⌜ DataBack ⌝ }
+        (data_bytes (counter_after earlier) time bytes.now) out.old) }
+    ensures back { DataBack }
 {
     let number = write_data_number(size, bytes, out.len());
     if number != 0 {
@@ -168,14 +170,14 @@ pub fn write_data(out: &mut [u8], size: u16, earlier: u64, time: u16, bytes: &[u
 
 // Writes a mark after the given number of earlier blocks.
 pub fn write_mark(out: &mut [u8], earlier: u64, time: u16, text: &[u8]) -> wire::Written
-    ensures* fact { λ r. ⌜ (r ≡ wrote
+    ensures fact { (result ≡ wrote
         (write_mark_number text.now (length out.old))
         (mark_bytes (counter_after earlier) time text.now))
         × (out.new ≡ leaves
         (write_mark_number text.now (length out.old))
-        (mark_bytes (counter_after earlier) time text.now) out.old) ⌝ }
-    ensures* back { λ _. ⌜ MarkBack ⌝ }
-    ensures* same { λ _. ⌜ BlockSame ⌝ }
+        (mark_bytes (counter_after earlier) time text.now) out.old) }
+    ensures back { MarkBack }
+    ensures same { BlockSame }
 {
     let number = write_mark_number(text, out.len());
     if number != 0 {
@@ -193,16 +195,16 @@ pub fn write_header(
     names: &[u8],
     info: &[u8],
 ) -> wire::Written
-    ensures* fact { λ r. ⌜ (r ≡ wrote
+    ensures fact { (result ≡ wrote
         (write_header_number 2 time fields.now names.now info.now (length out.old))
         (header_bytes 2 time fields.now names.now info.now))
         × (out.new ≡ leaves
         (write_header_number 2 time fields.now names.now info.now (length out.old))
-        (header_bytes 2 time fields.now names.now info.now) out.old) ⌝ }
-    ensures* back { λ _. ⌜ HeaderBack ⌝ }
-    ensures* log { λ _. ⌜ LogBack ⌝ }
-    ensures* same { λ _. ⌜ LogSame ⌝ }
-    ensures* examples { λ _. ⌜ Examples ⌝ }
+        (header_bytes 2 time fields.now names.now info.now) out.old) }
+    ensures back { HeaderBack }
+    ensures log { LogBack }
+    ensures same { LogSame }
+    ensures examples { Examples }
 {
     let number = write_header_number(2, time, fields, names, info, out.len());
     if number != 0 {

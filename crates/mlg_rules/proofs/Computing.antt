@@ -1,6 +1,6 @@
 -- A proof by computation says `unfolding mlg`, and so opens every definition of MLG, and those of wire that they stand on.
 use Rattle.wire.specs.Order.{◌if◌else◌, ◌or_else◌}
-use Rattle.wire.specs.Answer.{answer, result}
+use Rattle.wire.specs.Answer.{answer, result_of}
 use Rattle.wire.specs.Sign.{twos}
 use Rattle.wire.specs.Log.{counter_after, judged, span_with}
 use Rattle.mlg_rules.specs.Layout.{served, layout_of}
@@ -23,7 +23,7 @@ use Rattle.mlg_rules.specs.Entries.{rewritten}
 use Rattle.mlg_rules.specs.RoundTrip.{log_bytes}
 
 unfoldable pub orders : Unit {0}
-unfolding ◌if◌else◌ ◌or_else◌ answer result
+unfolding ◌if◌else◌ ◌or_else◌ answer result_of
 orders = tt
 
 unfoldable pub values : Unit {0}

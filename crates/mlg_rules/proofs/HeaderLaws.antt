@@ -5,7 +5,7 @@ use mathlib.Core.List.{List}
 use borrow.Author.Tests.{ltb-false, leb-false, ne_eqb}
 use Rattle.mlg_rules.specs.declared.Header.{Header}
 use Rattle.mlg_rules.specs.Header.{places_number, fields_end, numbers_of, read_header_number, read_header_of, no_header, head_answer}
-use Rattle.wire.specs.Answer.{result}
+use Rattle.wire.specs.Answer.{result_of}
 use Rattle.wire.proofs.Answers.{means}
 use Rattle.mlg_rules.specs.declared.Head.{Head}
 use Rattle.mlg_rules.specs.declared.Head.TheVariants.{Is, Refused}
@@ -37,6 +37,6 @@ placed n h e =
     }
 
 -- what a header's answer says
-pub head_means : (f : List ℕ) (r : Head) → r ≡ read_header_of f → (r ≡ read_header_of f) × (head_answer r ≡ result no_header (read_header_number f) (numbers_of f))
+pub head_means : (f : List ℕ) (r : Head) → r ≡ read_header_of f → (r ≡ read_header_of f) × (head_answer r ≡ result_of no_header (read_header_number f) (numbers_of f))
 unfolding read_header_of head_answer
 head_means f r = means Is Refused no_header head_answer (λ h. refl) (λ n. refl) r _ _

@@ -9,7 +9,7 @@ use borrow.Author.Tests.{ltb-true, ltb-false, leb-true, leb-false, eqb-true, eqb
 use lib.Dec.{eqb, leb, ltb}
 use lib.ListN.{length, take, drop, length-drop}
 use lib.Seq.{length-take-le, drop-drop}
-use Rattle.wire.specs.Answer.{result}
+use Rattle.wire.specs.Answer.{result_of}
 use Rattle.wire.specs.Order.{◌if◌else◌, ◌or_else◌}
 use Rattle.wire.specs.First.{First, Unless, Zero}
 use Rattle.wire.specs.Text.{text_len, zeros}
@@ -275,11 +275,11 @@ header_number f =
     h = numbers_of f
 
 -- what a header's answer says, and which number it has
-given_number : (f : List ℕ) (n : ℕ) → HeaderNumber f n → HeaderNumber f (result no_header n (numbers_of f)).0
-unfolding result
+given_number : (f : List ℕ) (n : ℕ) → HeaderNumber f n → HeaderNumber f (result_of no_header n (numbers_of f)).0
+unfolding result_of
 given_number f zero h = h
 given_number f (suc n) h = h
 
 pub head_told : (f : List ℕ) (r : Head) → r ≡ read_header_of f
-    → (r ≡ read_header_of f) × (head_answer r ≡ result no_header (read_header_number f) (numbers_of f)) × HeaderNumber f (head_answer r).0
+    → (r ≡ read_header_of f) × (head_answer r ≡ result_of no_header (read_header_number f) (numbers_of f)) × HeaderNumber f (head_answer r).0
 head_told f r e = let m = head_means f r e in (m.0, m.1, rw m.1 (given_number f (read_header_number f) (header_number f)))

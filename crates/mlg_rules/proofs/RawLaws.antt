@@ -20,7 +20,7 @@ use Rattle.wire.proofs.Orders.{if_zero, else_zero}
 use Rattle.mlg_rules.specs.Types.{size_of, S08, S16, S32, S64}
 use Rattle.mlg_rules.specs.Field.{type_of, field_size}
 use Rattle.mlg_rules.specs.Raw.{value_number, raw_of, raw_value_of, raw_answer, signed_type}
-use Rattle.wire.specs.Answer.{result}
+use Rattle.wire.specs.Answer.{result_of}
 use Rattle.wire.proofs.Answers.{means}
 use Rattle.mlg_rules.specs.declared.RawValue.{RawValue}
 use Rattle.mlg_rules.specs.declared.RawValue.TheVariants as R
@@ -51,7 +51,7 @@ unfolding value_number
 sized v d b e = eqb-true _ _ (not-false _ (if_zero 22 _ _ (else_zero _ _ e).1).0)
 
 pub raw_means : (v : ℕ) (d b : List ℕ) (r : RawValue) → r ≡ raw_value_of v d b
-    → (r ≡ raw_value_of v d b) × (raw_answer r ≡ result (pos 0) (value_number v d b) (raw_of (type_of d) b))
+    → (r ≡ raw_value_of v d b) × (raw_answer r ≡ result_of (pos 0) (value_number v d b) (raw_of (type_of d) b))
 unfolding raw_value_of raw_answer
 raw_means v d b r = means R.Is R.Refused (pos 0) raw_answer (λ z. refl) (λ n. refl) r _ _
 

@@ -13,7 +13,7 @@ use Rattle.wire.specs.BigEndian.{be_of}
 use Rattle.mlg_rules.specs.Types.{F32}
 use Rattle.mlg_rules.specs.Field.{type_of}
 use Rattle.mlg_rules.specs.Raw.{value_number, raw_of}
-use Rattle.wire.specs.Answer.{answer, result}
+use Rattle.wire.specs.Answer.{answer, result_of}
 use Rattle.mlg_rules.specs.Shown.{shows, finite, raw_float, shifted, scaled, scaled_number, apply_of, shown_number, shown_of, shown_value_of}
 use Rattle.mlg_rules.specs.Shown.{scaling_in, parts_number, scaling_number, scaling_of, zero_float, zero_scaling, shown_answer, scaling_answer}
 use Rattle.wire.proofs.Answers.{means}
@@ -62,17 +62,17 @@ module _ (s : Scaling) (x : Float) where
       (if_no 30 _ _ _ (not_no _ (product_finite (shifted s x) s.scale k))
       (if_no 30 _ _ _ (not_no _ k) refl))))
 
-  pub apply_means : (r : ShownValue) → r ≡ apply_of s x → (r ≡ apply_of s x) × (shown_answer r ≡ result zero_float (scaled_number s x) (scaled s x))
+  pub apply_means : (r : ShownValue) → r ≡ apply_of s x → (r ≡ apply_of s x) × (shown_answer r ≡ result_of zero_float (scaled_number s x) (scaled s x))
   unfolding apply_of shown_answer
   apply_means r = means S.Is S.Refused zero_float shown_answer (λ y. refl) (λ n. refl) r _ _
 
 pub shown_means : (v : ℕ) (d b : List ℕ) (r : ShownValue) → r ≡ shown_value_of v d b
-    → (r ≡ shown_value_of v d b) × (shown_answer r ≡ result zero_float (shown_number v d b) (shown_of d b))
+    → (r ≡ shown_value_of v d b) × (shown_answer r ≡ result_of zero_float (shown_number v d b) (shown_of d b))
 unfolding shown_value_of shown_answer
 shown_means v d b r = means S.Is S.Refused zero_float shown_answer (λ y. refl) (λ n. refl) r _ _
 
 pub scaling_means : (v : ℕ) (d : List ℕ) (r : FieldScaling) → r ≡ scaling_of v d
-    → (r ≡ scaling_of v d) × (scaling_answer r ≡ result zero_scaling (scaling_number v d) (scaling_in d))
+    → (r ≡ scaling_of v d) × (scaling_answer r ≡ result_of zero_scaling (scaling_number v d) (scaling_in d))
 unfolding scaling_of scaling_answer
 scaling_means v d r = means F.Is F.Refused zero_scaling scaling_answer (λ s. refl) (λ n. refl) r _ _
 

@@ -1,5 +1,6 @@
 // The types of an MLG file: its layout, header, fields and blocks. Its rules are defined in specs/; what is written is read back:
 // specs/RoundTrip.antt.
+#![tactic(auto)]
 
 // Bytes of a header, of the info start in it, and of a field.
 #[derive(Drop)]

@@ -1,9 +1,11 @@
 // Values of an MLG's fields: the version's layout, types, raw values and shown values.
+#![tactic(auto)]
+
 ghost use Rattle.std.specs.Prelude.{◌≡◌, ◌≤◌, ◌<◌, length, get_or, pos};
 ghost use Rattle.std.specs.Int.Signed.{mag};
 ghost use Rattle.std.specs.Float.{binary32};
 ghost use Rattle.std.specs.Float.Ieee.{of_int, of_bits};
-ghost use Rattle.wire.specs.Answer.{result};
+ghost use Rattle.wire.specs.Answer.{result_of};
 ghost use Rattle.wire.specs.BigEndian.{be_of};
 ghost use Rattle.mlg_rules.specs.Layout.{served, layout_of};
 ghost use Rattle.mlg_rules.specs.Types.{size_of};
@@ -16,14 +18,14 @@ pub use mlg_rules::{FieldScaling, Layout, RawValue, Scaling, ShownValue};
 
 // Whether a version is served.
 pub fn is_served(version: u16) -> bool
-    ensures* { λ r. ⌜ r ≡ served version ⌝ }
+    ensures { result ≡ served version }
 {
     version == 2
 }
 
 // The layout of a version: one for every version so far. Who calls judges the version first.
 pub fn layout_of(version: u16) -> Layout
-    ensures* { λ r. ⌜ r ≡ layout_of version ⌝ }
+    ensures { result ≡ layout_of version }
 {
     Layout {
         header: 24,
@@ -36,7 +38,7 @@ const SIZES: [u8; 13] = [1, 1, 2, 2, 4, 4, 8, 4, 0, 0, 1, 2, 4];
 
 // Bytes of a raw value of a type, 0 for a number that is no type.
 pub fn size_of(kind: u8) -> u8
-    ensures* { λ r. ⌜ r ≡ size_of kind ⌝ }
+    ensures { result ≡ size_of kind }
 {
     let k = kind as usize;
     if k < 13 { SIZES[k] } else { 0 }
@@ -44,14 +46,14 @@ pub fn size_of(kind: u8) -> u8
 
 // The byte at a place, 0 where there is none.
 fn byte_at(s: &[u8], at: usize) -> u8
-    ensures* { λ r. ⌜ r ≡ get_or s.now at 0 ⌝ }
+    ensures { result ≡ get_or s.now at 0 }
 {
     if at < s.len() { s[at] } else { 0 }
 }
 
 // By a field's type and bits: 24 for the type, 24 for a bit field's bits over its width, else 0.
 pub fn type_number(kind: u8, bits: u8) -> u8
-    ensures* { λ r. ⌜ r ≡ type_number kind bits ⌝ }
+    ensures { result ≡ type_number kind bits }
 {
     let size = size_of(kind);
     if size == 0 {
@@ -68,7 +70,7 @@ pub fn type_number(kind: u8, bits: u8) -> u8
 
 // 23 for a field of another length than the version's, then its type's number.
 fn value_field_number(version: u16, field: &[u8]) -> u8
-    ensures* { λ r. ⌜ r ≡ value_field_number version field.now ⌝ }
+    ensures { result ≡ value_field_number version field.now }
 {
     let layout = layout_of(version);
     if field.len() != layout.field {
@@ -79,7 +81,7 @@ fn value_field_number(version: u16, field: &[u8]) -> u8
 
 // The same, then 23 for raw bytes of another length than the type's.
 fn value_number(version: u16, field: &[u8], raw: &[u8]) -> u8
-    ensures* { λ r. ⌜ r ≡ value_number version field.now raw.now ⌝ }
+    ensures { result ≡ value_number version field.now raw.now }
 {
     let number = value_field_number(version, field);
     if number != 0 {
@@ -95,7 +97,7 @@ fn value_number(version: u16, field: &[u8], raw: &[u8]) -> u8
 // The whole number that raw bytes of a type make.
 fn raw_of(kind: u8, raw: &[u8]) -> i64
     requires { length raw.now ≡ size_of kind }
-    ensures* { λ r. ⌜ r ≡ raw_of kind raw.now ⌝ }
+    ensures { result ≡ raw_of kind raw.now }
 {
     if kind == 1 {
         return wire::s08(byte_at(raw, 0));
@@ -114,8 +116,8 @@ fn raw_of(kind: u8, raw: &[u8]) -> i64
 
 // A field's raw value, by the field's bytes and its raw bytes.
 pub fn raw_value(field: &[u8], raw: &[u8]) -> RawValue
-    ensures* { λ r. ⌜ (r ≡ raw_value_of 2 field.now raw.now)
-        × (raw_answer r ≡ result (pos 0) (value_number 2 field.now raw.now) (raw_of (type_of field.now) raw.now)) ⌝ }
+    ensures { (result ≡ raw_value_of 2 field.now raw.now)
+        × (raw_answer result ≡ result_of (pos 0) (value_number 2 field.now raw.now) (raw_of (type_of field.now) raw.now)) }
 {
     let number = value_number(2, field, raw);
     if number != 0 {
@@ -126,21 +128,21 @@ pub fn raw_value(field: &[u8], raw: &[u8]) -> RawValue
 
 // Whether a type has a shown value.
 fn is_shown(kind: u8) -> bool
-    ensures* { λ r. ⌜ r ≡ shows kind ⌝ }
+    ensures { result ≡ shows kind }
 {
     (kind == 0) | ((kind == 1) | ((kind == 2) | ((kind == 3) | (kind == 7))))
 }
 
 // Whether a pattern is that of a finite f32.
 fn finite_bits(bits: u32) -> bool
-    ensures* { λ r. ⌜ r ≡ finite (of_bits binary32 bits) ⌝ }
+    ensures { result ≡ finite (of_bits binary32 bits) }
 {
     bits % 2147483648 / 8388608 != 255
 }
 
 // Whether an f32 is finite: it lies between the infinities.
 fn is_finite(x: f32) -> bool
-    ensures* { λ r. ⌜ r ≡ finite x ⌝ }
+    ensures { result ≡ finite x }
 {
     if x < f32::from_bits(2139095040) {
         f32::from_bits(4286578688) < x
@@ -151,7 +153,7 @@ fn is_finite(x: f32) -> bool
 
 // 30 by the field alone: its type has no shown value, or its transform or scale is not finite.
 fn parts_number(field: &[u8]) -> u8
-    ensures* { λ r. ⌜ r ≡ parts_number field.now ⌝ }
+    ensures { result ≡ parts_number field.now }
 {
     if !is_shown(byte_at(field, 0)) {
         return 30;
@@ -168,7 +170,7 @@ fn parts_number(field: &[u8]) -> u8
 // The scale and the transform in a field's bytes.
 fn scaling_in(field: &[u8]) -> Scaling
     requires { parts_number field.now ≡ 0 }
-    ensures* { λ r. ⌜ r ≡ scaling_in field.now ⌝ }
+    ensures { result ≡ scaling_in field.now }
 {
     Scaling {
         scale: f32::from_bits(wire::be32(field, 46)),
@@ -178,7 +180,7 @@ fn scaling_in(field: &[u8]) -> Scaling
 
 // 23 or 24 for the field, then 30.
 fn scaling_number(version: u16, field: &[u8]) -> u8
-    ensures* { λ r. ⌜ r ≡ scaling_number version field.now ⌝ }
+    ensures { result ≡ scaling_number version field.now }
 {
     let number = value_field_number(version, field);
     if number != 0 {
@@ -189,8 +191,8 @@ fn scaling_number(version: u16, field: &[u8]) -> u8
 
 // A field's scale and transform, by its bytes.
 pub fn scaling_of(field: &[u8]) -> FieldScaling
-    ensures* { λ r. ⌜ (r ≡ scaling_of 2 field.now)
-        × (scaling_answer r ≡ result zero_scaling (scaling_number 2 field.now) (scaling_in field.now)) ⌝ }
+    ensures { (result ≡ scaling_of 2 field.now)
+        × (scaling_answer result ≡ result_of zero_scaling (scaling_number 2 field.now) (scaling_in field.now)) }
 {
     let number = scaling_number(2, field);
     if number != 0 {
@@ -201,7 +203,7 @@ pub fn scaling_of(field: &[u8]) -> FieldScaling
 
 // The shown value of a raw value by a scale and a transform: transform added, then times scale.
 pub fn apply(scaling: Scaling, raw: f32) -> ShownValue
-    ensures* { λ r. ⌜ (r ≡ apply_of scaling raw) × (shown_answer r ≡ result zero_float (scaled_number scaling raw) (scaled scaling raw)) ⌝ }
+    ensures { (result ≡ apply_of scaling raw) × (shown_answer result ≡ result_of zero_float (scaled_number scaling raw) (scaled scaling raw)) }
 {
     let sum = raw + scaling.transform;
     if !is_finite(sum) {
@@ -217,7 +219,7 @@ pub fn apply(scaling: Scaling, raw: f32) -> ShownValue
 // A number of at most 16 bits as an f32, exactly.
 fn as_float(z: i64) -> f32
     requires { mag z < 65536 }
-    ensures* { λ r. ⌜ r ≡ of_int binary32 z ⌝ }
+    ensures { result ≡ of_int binary32 z }
 {
     z as f32
 }
@@ -225,7 +227,7 @@ fn as_float(z: i64) -> f32
 // The shown value of an F32's raw bytes.
 fn shown_float(scaling: Scaling, raw: &[u8]) -> ShownValue
     requires { length raw.now ≤ 4 }
-    ensures* { λ r. ⌜ r ≡ apply_of scaling (of_bits binary32 (be_of raw.now)) ⌝ }
+    ensures { result ≡ apply_of scaling (of_bits binary32 (be_of raw.now)) }
 {
     let bits = wire::be32(raw, 0);
     if !finite_bits(bits) {
@@ -237,7 +239,7 @@ fn shown_float(scaling: Scaling, raw: &[u8]) -> ShownValue
 // The shown value of the raw bytes of a U08, S08, U16 or S16.
 fn shown_whole(scaling: Scaling, kind: u8, raw: &[u8]) -> ShownValue
     requires { (length raw.now ≡ size_of kind) × (kind < 4) }
-    ensures* { λ r. ⌜ r ≡ apply_of scaling (of_int binary32 (raw_of kind raw.now)) ⌝ }
+    ensures { result ≡ apply_of scaling (of_int binary32 (raw_of kind raw.now)) }
 {
     apply(scaling, as_float(raw_of(kind, raw)))
 }
@@ -245,7 +247,7 @@ fn shown_whole(scaling: Scaling, kind: u8, raw: &[u8]) -> ShownValue
 // The shown value of a field and raw bytes that no number refuses before sum and product.
 fn shown_of(field: &[u8], raw: &[u8]) -> ShownValue
     requires { (length raw.now ≡ field_size field.now) × (parts_number field.now ≡ 0) }
-    ensures* { λ r. ⌜ r ≡ apply_of (scaling_in field.now) (raw_float (type_of field.now) raw.now) ⌝ }
+    ensures { result ≡ apply_of (scaling_in field.now) (raw_float (type_of field.now) raw.now) }
 {
     let scaling = scaling_in(field);
     let kind = byte_at(field, 0);
@@ -257,8 +259,8 @@ fn shown_of(field: &[u8], raw: &[u8]) -> ShownValue
 
 // A field's shown value, by the field's bytes and its raw bytes.
 pub fn shown_value(field: &[u8], raw: &[u8]) -> ShownValue
-    ensures* { λ r. ⌜ (r ≡ shown_value_of 2 field.now raw.now)
-        × (shown_answer r ≡ result zero_float (shown_number 2 field.now raw.now) (shown_of field.now raw.now)) ⌝ }
+    ensures { (result ≡ shown_value_of 2 field.now raw.now)
+        × (shown_answer result ≡ result_of zero_float (shown_number 2 field.now raw.now) (shown_of field.now raw.now)) }
 {
     let number = value_number(2, field, raw);
     if number != 0 {

@@ -1,5 +1,7 @@
 // Text put piece by piece into a lent output, and written at the end. A call takes the place of the next piece and hands back the
 // place after it; a piece that does not fit is left out, and the place stays.
+#![tactic(auto)]
+
 ghost use Rattle.std.specs.Prelude.{◌≡◌, false, [], ◌∷◌, ◌<◌, min, max, length};
 ghost use Rattle.io.specs.Digits.{hex_digit_ascii as glyphOf};
 ghost use Rattle.print.specs.Print.{hex_byte, Puts, PutsNumber, put_bytes, next_bytes};

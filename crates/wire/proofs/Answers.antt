@@ -1,12 +1,12 @@
 -- Laws of answers, for every answer enum.
 use Rattle.std.proofs.Common.{◌≡◌, ℕ, zero, suc, refl, ap, ◌∙◌, arith}
-use Rattle.wire.specs.Answer.{answer, result}
+use Rattle.wire.specs.Answer.{answer, result_of}
 
 module _ {A R : Type 0} (is : A → R) (refused : ℕ → R) (none : A) (meaning : R → ℕ × A) where
   -- what an answer says is what the call's result is, where the meaning of each case is its number and its value
   pub means : ((x : A) → meaning (is x) ≡ (0, x)) → ((n : ℕ) → meaning (refused n) ≡ (n, none)) → (r : R) (n : ℕ) (x : A)
-      → r ≡ answer is refused n x → (r ≡ answer is refused n x) × (meaning r ≡ result none n x)
-  unfolding answer result
+      → r ≡ answer is refused n x → (r ≡ answer is refused n x) × (meaning r ≡ result_of none n x)
+  unfolding answer result_of
   means p q r zero x e = (e, ap meaning e ∙ p x)
   means p q r (suc n) x e = (e, ap meaning e ∙ q (suc n))
 

@@ -7,6 +7,6 @@ answer is refused zero x = is x
 answer is refused (suc n) x = refused (suc n)
 
 -- as a number and a value; "every other number in it is 0": `none` stands for the value of a refusal
-unfoldable pub result : {A : Type 0} → A → ℕ → A → ℕ × A
-result none zero x = (0, x)
-result none (suc n) x = (suc n, none)
+unfoldable pub result_of : {A : Type 0} → A → ℕ → A → ℕ × A
+result_of none zero x = (0, x)
+result_of none (suc n) x = (suc n, none)

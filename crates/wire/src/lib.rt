@@ -1,4 +1,6 @@
 // What every layer shares: refusals in an order (specs/), numbers in bytes, signed numbers, sums, texts, counters, copying into lent memory.
+#![tactic(auto)]
+
 ghost use Rattle.std.specs.Prelude.{◌≡◌, ◌+◌, ◌*◌, ◌^◌, ◌<◌, ◌≤◌, length, take};
 ghost use Rattle.wire.specs.BigEndian.{be_of, be_at, be_bytes};
 ghost use Rattle.wire.specs.Sign.{signed_of, twos};
