@@ -27,7 +27,7 @@ fn awaits(x: Slot, k: usize, p: bus::Parts, len: u8) -> bool
 }
 
 // A frame's number, and, where that is 0, the slot that awaits it.
-#[derive(Drop)]
+#[derive(Clone, Copy)]
 struct Judged {
     number: u8,
     slot: usize,

@@ -21,7 +21,7 @@ pub use bridge_rules::{
 pub use wire::Span;
 
 // A number, and a done read's part of the first buffer.
-#[derive(Drop)]
+#[derive(Clone, Copy)]
 pub struct Shown<'a> {
     pub number: u8,
     pub part: &'a [u8],

@@ -25,7 +25,7 @@ pub const CHECK: u8 = 3;
 
 // A slot: free, or held by a transfer. Numbers that it doesn't use are 0.
 #[repr(C)]
-#[derive(Drop)]
+#[derive(Clone, Copy)]
 pub struct Slot {
     pub ticket: u32,
     pub offset: u16,
@@ -41,7 +41,7 @@ pub struct Slot {
 
 // The bridge: its slots, the last ticket given, its own number, the slot last served, and each slot's turns left to rest.
 #[repr(C)]
-#[derive(Drop)]
+#[derive(Clone, Copy)]
 pub struct Bridge {
     pub slots: [Slot; 4],
     pub issued: u32,
@@ -52,7 +52,7 @@ pub struct Bridge {
 
 // What an opening hands back.
 #[repr(C)]
-#[derive(Drop)]
+#[derive(Clone, Copy)]
 pub struct Opened {
     pub bridge: Bridge,
     pub ticket: u32,
@@ -61,7 +61,7 @@ pub struct Opened {
 
 // What a turn or an incoming frame answers: a number, how many frames it yields (0 or 1), and the frame, all 0 where there is none.
 #[repr(C)]
-#[derive(Drop)]
+#[derive(Clone, Copy)]
 pub struct Yielded {
     pub number: u8,
     pub frames: u8,
@@ -70,7 +70,7 @@ pub struct Yielded {
 
 // What a turn or an incoming frame hands back.
 #[repr(C)]
-#[derive(Drop)]
+#[derive(Clone, Copy)]
 pub struct Stepped {
     pub bridge: Bridge,
     pub answer: Yielded,
@@ -78,7 +78,7 @@ pub struct Stepped {
 
 // What a closing or a reset hands back.
 #[repr(C)]
-#[derive(Drop)]
+#[derive(Clone, Copy)]
 pub struct Changed {
     pub bridge: Bridge,
     pub number: u8,

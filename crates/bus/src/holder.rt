@@ -20,7 +20,7 @@ use crate::{
 };
 
 // A table: its start (the sum of the sizes before it), its size and its right.
-#[derive(Drop)]
+#[derive(Clone, Copy)]
 struct Table {
     start: u32,
     size: u16,
@@ -46,7 +46,7 @@ fn table_at(d: Directory, k: usize) -> Table
 }
 
 // Whether all tables are sound, and the sum of their sizes.
-#[derive(Drop)]
+#[derive(Clone, Copy)]
 struct Tables {
     sound: bool,
     total: u32,

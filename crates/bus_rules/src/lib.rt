@@ -14,7 +14,7 @@ pub const XTND: u8 = 7;
 
 // The parts of an identifier; `kind` is its type.
 #[repr(C)]
-#[derive(Drop)]
+#[derive(Clone, Copy)]
 pub struct Parts {
     pub offset: u16,
     pub kind: u8,
@@ -24,14 +24,14 @@ pub struct Parts {
 }
 
 // An identifier, or the number that refuses its parts.
-#[derive(Drop)]
+#[derive(Clone, Copy)]
 pub enum Packed {
     Is(u32),
     Refused(u8),
 }
 
 // The parts of an identifier, or the number that refuses it.
-#[derive(Drop)]
+#[derive(Clone, Copy)]
 pub enum Unpacked {
     Is(Parts),
     Refused(u8),
@@ -39,7 +39,7 @@ pub enum Unpacked {
 
 // A frame: an identifier, a length 0..8 and eight bytes. Bytes past the length are ignored.
 #[repr(C)]
-#[derive(Drop)]
+#[derive(Clone, Copy)]
 pub struct Frame {
     pub id: u32,
     pub len: u8,
@@ -48,7 +48,7 @@ pub struct Frame {
 
 // What request bytes ask for: a count of bytes, to a table and an offset of the sender.
 #[repr(C)]
-#[derive(Drop)]
+#[derive(Clone, Copy)]
 pub struct Request {
     pub table: u8,
     pub count: u8,
@@ -57,7 +57,7 @@ pub struct Request {
 
 // What is read from request bytes: the request, and 1 if their reserved bits are clear, else 0.
 #[repr(C)]
-#[derive(Drop)]
+#[derive(Clone, Copy)]
 pub struct RequestRead {
     pub request: Request,
     pub clear: u8,
@@ -65,7 +65,7 @@ pub struct RequestRead {
 
 // A number, and the three request bytes, all 0 in a refusal.
 #[repr(C)]
-#[derive(Drop)]
+#[derive(Clone, Copy)]
 pub struct RequestBytes {
     pub number: u8,
     pub bytes: [u8; 3],
@@ -73,7 +73,7 @@ pub struct RequestBytes {
 
 // A holder's directory: 32 sizes and rights (0 none, 1 read, 2 read and write), two blocking factors, and its own number.
 #[repr(C)]
-#[derive(Drop)]
+#[derive(Clone, Copy)]
 pub struct Directory {
     pub sizes: [u16; 32],
     pub rights: [u8; 32],
@@ -84,7 +84,7 @@ pub struct Directory {
 
 // A holder's state: its family (2, the older, or 3), and its current table: `has_current` is 1 and `current` that table, or both are 0 where none is.
 #[repr(C)]
-#[derive(Drop)]
+#[derive(Clone, Copy)]
 pub struct HolderState {
     pub family: u8,
     pub has_current: u8,
@@ -93,7 +93,7 @@ pub struct HolderState {
 
 // A number, and the first state of a family, all 0 in a refusal.
 #[repr(C)]
-#[derive(Drop)]
+#[derive(Clone, Copy)]
 pub struct FirstState {
     pub number: u8,
     pub state: HolderState,
@@ -102,7 +102,7 @@ pub struct FirstState {
 // A holder's answer: a number, how many frames it has (0 or 1), the mark `clear` (1 if it answers a REQ or a protocol query whose reserved
 // bits are clear, else 0), and the frame, all 0 where there is none.
 #[repr(C)]
-#[derive(Drop)]
+#[derive(Clone, Copy)]
 pub struct Served {
     pub number: u8,
     pub frames: u8,
@@ -112,7 +112,7 @@ pub struct Served {
 
 // A holder's answer, and its state after it.
 #[repr(C)]
-#[derive(Drop)]
+#[derive(Clone, Copy)]
 pub struct HolderAnswer {
     pub served: Served,
     pub state: HolderState,

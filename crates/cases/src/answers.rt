@@ -3,7 +3,7 @@
 use crate::lines::{NONE, part};
 
 // The first number is 01's; hex may be NONE.
-#[derive(Drop)]
+#[derive(Clone, Copy)]
 pub(crate) struct Answer {
     pub(crate) count: usize,
     pub(crate) numbers: [u64; 8],

@@ -3,7 +3,7 @@ ghost use Rattle.std.specs.Prelude.{◌≤◌, length};
 
 // Word 1 is the layer and word 2 the call, each as the number that its first eight letters make. The numbers stand from 3 on, and those of
 // changes from 12 on, at four widths; where there is none, all bits are set.
-#[derive(Drop)]
+#[derive(Clone, Copy)]
 pub(crate) struct Words {
     pub(crate) n: [u64; 16],
     pub(crate) n8: [u8; 16],

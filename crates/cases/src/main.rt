@@ -19,7 +19,7 @@ use bus::{Directory, HolderState};
 use lines::{Words, find, part, put_bytes, words_of};
 
 // What the calls change beside the memory that they are lent: a device's directory and state, a bridge, its second buffer, how many turns it has had.
-#[derive(Drop)]
+#[derive(Clone, Copy)]
 struct World {
     directory: Directory,
     state: HolderState,
@@ -29,7 +29,7 @@ struct World {
 }
 
 // The world after a call, and what the call answers.
-#[derive(Drop)]
+#[derive(Clone, Copy)]
 struct Ran {
     world: World,
     answer: Answer,

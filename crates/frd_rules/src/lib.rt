@@ -2,7 +2,7 @@
 #![tactic(auto)]
 
 // A header's numbers: version, time, data begin and output length.
-#[derive(Drop)]
+#[derive(Clone, Copy)]
 pub struct Header {
     pub version: u16,
     pub time: u32,
@@ -11,7 +11,7 @@ pub struct Header {
 }
 
 // A header, or the number that refuses it.
-#[derive(Drop)]
+#[derive(Clone, Copy)]
 pub enum Head {
     Is(Header),
     Refused(u8),
@@ -19,7 +19,7 @@ pub enum Head {
 
 // What stands at a place of a log: a data block, whose bytes begin at `start`, a time block, the end, or a refusal. `as_expected` says
 // whether a block's counter is the number of earlier blocks, modulo 256.
-#[derive(Drop)]
+#[derive(Clone, Copy)]
 pub enum Block {
     Data {
         counter: u8,

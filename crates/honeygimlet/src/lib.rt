@@ -14,7 +14,7 @@ ghost use Rattle.honeygimlet.specs.Answers.{flag_of};
 
 // An identifier, and the number that refuses its parts.
 #[repr(C)]
-#[derive(Drop)]
+#[derive(Clone, Copy)]
 pub struct Packed {
     pub id: u32,
     pub number: u8,
@@ -22,7 +22,7 @@ pub struct Packed {
 
 // The parts of an identifier, and the number that refuses it.
 #[repr(C)]
-#[derive(Drop)]
+#[derive(Clone, Copy)]
 pub struct Unpacked {
     pub parts: bus::Parts,
     pub number: u8,
@@ -30,7 +30,7 @@ pub struct Unpacked {
 
 // The numbers of an MLG's header: time, info start, data begin, record length, field count, version.
 #[repr(C)]
-#[derive(Drop)]
+#[derive(Clone, Copy)]
 pub struct MlgHeader {
     pub time: u32,
     pub info: u32,
@@ -55,7 +55,7 @@ pub const REFUSED: u8 = 3;
 // What stands at a place of an MLG: `start` and `len` say where the record or the text lies, `as_expected` is 1 where the counter is the
 // number of earlier blocks, modulo 256, and `place` is that of a refused block.
 #[repr(C)]
-#[derive(Drop)]
+#[derive(Clone, Copy)]
 pub struct MlgBlock {
     pub place: usize,
     pub start: usize,
@@ -69,7 +69,7 @@ pub struct MlgBlock {
 
 // A raw value.
 #[repr(C)]
-#[derive(Drop)]
+#[derive(Clone, Copy)]
 pub struct Raw {
     pub value: i64,
     pub number: u8,
@@ -77,7 +77,7 @@ pub struct Raw {
 
 // A shown value.
 #[repr(C)]
-#[derive(Drop)]
+#[derive(Clone, Copy)]
 pub struct Shown {
     pub value: f32,
     pub number: u8,
@@ -85,7 +85,7 @@ pub struct Shown {
 
 // The numbers of an FRD's header: time and output length.
 #[repr(C)]
-#[derive(Drop)]
+#[derive(Clone, Copy)]
 pub struct FrdHeader {
     pub time: u32,
     pub size: u16,
@@ -94,7 +94,7 @@ pub struct FrdHeader {
 
 // What stands at a place of an FRD, as of an MLG.
 #[repr(C)]
-#[derive(Drop)]
+#[derive(Clone, Copy)]
 pub struct FrdBlock {
     pub place: usize,
     pub start: usize,

@@ -170,7 +170,7 @@ pub(crate) fn field_number(
 }
 
 // A number that refuses fields, and the sum of their sizes.
-#[derive(Drop)]
+#[derive(Clone, Copy)]
 pub(crate) struct Checked {
     pub(crate) number: u8,
     pub(crate) total: usize,

@@ -3,7 +3,7 @@
 #![tactic(auto)]
 
 // Bytes of a header, of the info start in it, and of a field.
-#[derive(Drop)]
+#[derive(Clone, Copy)]
 pub struct Layout {
     pub header: usize,
     pub info: usize,
@@ -11,7 +11,7 @@ pub struct Layout {
 }
 
 // A field's raw value, exact; an F32's is its bits.
-#[derive(Drop)]
+#[derive(Clone, Copy)]
 pub enum RawValue {
     Is(i64),
     Refused(u8),
@@ -19,28 +19,28 @@ pub enum RawValue {
 
 // A field's scale and transform.
 #[repr(C)]
-#[derive(Drop)]
+#[derive(Clone, Copy)]
 pub struct Scaling {
     pub scale: f32,
     pub transform: f32,
 }
 
 // A field's scale and transform, or why it has none to apply.
-#[derive(Drop)]
+#[derive(Clone, Copy)]
 pub enum FieldScaling {
     Is(Scaling),
     Refused(u8),
 }
 
 // A field's shown value.
-#[derive(Drop)]
+#[derive(Clone, Copy)]
 pub enum ShownValue {
     Is(f32),
     Refused(u8),
 }
 
 // The numbers of a header: version, time, info start, data begin, record length, field count.
-#[derive(Drop)]
+#[derive(Clone, Copy)]
 pub struct Header {
     pub version: u16,
     pub time: u32,
@@ -51,7 +51,7 @@ pub struct Header {
 }
 
 // What a file's header says, or the number that refuses it.
-#[derive(Drop)]
+#[derive(Clone, Copy)]
 pub enum Head {
     Is(Header),
     Refused(u8),
@@ -59,7 +59,7 @@ pub enum Head {
 
 // What stands at a place of a log. `start` is the place of the record or text, `as_expected` whether the counter is the number of earlier
 // blocks, modulo 256; `len` is the text's length before its zero; a record has the length that the call was given.
-#[derive(Drop)]
+#[derive(Clone, Copy)]
 pub enum Block {
     Data {
         counter: u8,

@@ -12,7 +12,7 @@ ghost use Rattle.wire.specs.Put.{put_at, put_of};
 
 // What a writer hands back: a number, and how many bytes it wrote (specs/Writer.antt).
 #[repr(C)]
-#[derive(Drop)]
+#[derive(Clone, Copy)]
 pub struct Written {
     pub len: usize,
     pub number: u8,
@@ -20,7 +20,7 @@ pub struct Written {
 
 // A part of a file or a buffer: a number, and where the part starts and how long it is (specs/Log.antt).
 #[repr(C)]
-#[derive(Drop)]
+#[derive(Clone, Copy)]
 pub struct Span {
     pub number: u8,
     pub start: usize,
@@ -29,7 +29,7 @@ pub struct Span {
 
 // How many blocks a log has, and how they ended: 0 at the file's end, else the number that refuses what stands at `place`.
 #[repr(C)]
-#[derive(Drop)]
+#[derive(Clone, Copy)]
 pub struct Tally {
     pub blocks: u64,
     pub ending: u8,
