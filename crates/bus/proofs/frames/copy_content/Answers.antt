@@ -1,0 +1,42 @@
+use Rattle.std.proofs.Common.{◌≡◌, ◌+◌, ◌-◌, ◌<◌, ◌≤◌, length, take, refl, ap, ◌∙◌, ⊎_elim, arith, take_all, rules}
+use lib.Seq.{sets, length-sets}
+use Rattle.bus_rules.specs.Frames.{content}
+use Rattle.bus_rules.proofs.FrameLaws.{content_min, content_at, sets_next, sets_done}
+use Rattle.bus.proofs.frames.copy_content.Goals as goal
+use Rattle.bus.proofs.frames.copy_content.Goals.{Then-i-n}
+
+pub loop-i-init : goal.loop-i-init
+loop-i-init c = (omega arith, refl, refl)
+
+-- a turn that copies is at a byte that counts
+counted : (c : Then-i-n) → c.loop-i.i < length (content c.args.f)
+counted c = omega (arith, content_min c.args.f (search rules))
+
+pub overflow_add-out : goal.overflow_add-out
+overflow_add-out c = omega (arith, counted c.before)
+
+pub bounds-out-at : goal.bounds-out-at
+bounds-out-at c = omega (arith, counted c.before)
+
+pub loop-i-preserved : goal.loop-i-preserved
+loop-i-preserved c =
+    let a = c.args in
+    let i = c.loop-i.i in
+    let bs = content a.f in
+    let inv = c.loop-i.invariant in
+    let l = content_min a.f (search rules) in
+    let e : c.if-i-n.out ≡ sets a.out.now a.at (take (i + 1) bs) =
+    ⊎_elim
+    (λ w. w.2 ∙ rw (inv.2, ← content_at a.f i w.0.taken) (sets_next a.out.now a.at bs i (omega (arith, w.0.taken))))
+    (λ w. w.1 ∙ inv.2 ∙ sets_done a.out.now a.at bs i (omega (arith, w.0.left)))
+    c.if-i-n.branch in
+    (omega arith, ap length e ∙ length-sets a.out.now a.at (take (i + 1) bs), e)
+
+pub shape_of-out : goal.shape_of-out
+shape_of-out c = c.loop-i.invariant.1
+
+pub returns : goal.returns
+returns c =
+    let a = c.args in
+    let e = take_all c.loop-i.i (content a.f) (omega (arith, content_min a.f (search rules))) in
+    c.loop-i.invariant.2 ∙ ap (sets a.out.now a.at) e

@@ -1,0 +1,11 @@
+use Rattle.std.proofs.Common.{◌≡◌, ◌+◌, ◌-◌, ◌<◌, ◌≤◌, length, take, refl, ap, ◌∙◌, ⊎_elim, arith, take_all, rules}
+use lib.Seq.{sets, length-sets}
+use Rattle.bus_rules.specs.Frames.{content}
+use Rattle.bus_rules.proofs.FrameLaws.{content_min, content_at, sets_next, sets_done}
+use Rattle.bus.proofs.frames.copy_content.Given as goal
+
+abbrev pub invariant-loop-i : goal.invariant-loop-i
+invariant-loop-i l = (l.i ≤ 8) × (length l.out ≡ length l.initial.out) × (l.out ≡ sets l.initial.out l.at (take l.i (content l.f)))
+
+abbrev pub decreases-loop-i : goal.decreases-loop-i
+decreases-loop-i l = 8 - l.i

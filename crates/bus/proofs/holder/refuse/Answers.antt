@@ -1,0 +1,5 @@
+use Rattle.std.proofs.Common.{refl, rules}
+use Rattle.bus.proofs.holder.refuse.Goals as goal
+
+pub returns : goal.returns
+returns c = (c.no_answer-served.ensures, refl)

@@ -1,0 +1,15 @@
+use borrow.Author.Rules.{rules}
+use mathlib.Core.Path.{sym, ◌∙◌}
+use Rattle.frd_rules.specs.Header.{read_header_of}
+use Rattle.wire.proofs.Answers.{refuses, stands}
+use Rattle.frd_rules.specs.declared.Head.TheVariants.{Is, Refused}
+use Rattle.frd_rules.proofs.HeaderLaws.{head_means}
+use Rattle.frd.proofs.header_reading.read_header.Goals as goal
+
+pub returns-then-number-ne0 : goal.returns-then-number-ne0
+unfolding read_header_of
+returns-then-number-ne0 c = head_means _ _ (refuses Is Refused _ _ _ c.read_header_number-number.ensures c.if-number-ne0.true)
+
+pub returns : goal.returns
+unfolding read_header_of
+returns c = head_means _ _ (stands Is Refused _ _ _ (sym c.read_header_number-number.ensures ∙ c.if-number-ne0.false) c.numbers.ensures)

@@ -1,0 +1,27 @@
+use borrow.Author.Rules.{rules}
+use Rattle.wire.proofs.Orders.{order}
+use Rattle.frd_rules.specs.Header.{read_header_number}
+use Rattle.frd.proofs.header_reading.read_header_number.Goals as goal
+
+pub returns-then-file-lt81 : goal.returns-then-file-lt81
+unfolding read_header_number
+returns-then-file-lt81 c = search order depth 12
+
+pub returns-then-be48-ne77319142113280 : goal.returns-then-be48-ne77319142113280
+unfolding read_header_number
+returns-then-be48-ne77319142113280 c = rw (← c.be48.ensures) (search order depth 12)
+
+pub returns-then-h-ne1 : goal.returns-then-h-ne1
+unfolding read_header_number
+returns-then-h-ne1 c =
+    rw (← c.be48.ensures, ← c.numbers-h.ensures) (search order depth 12)
+
+pub returns-then-h-ne81 : goal.returns-then-h-ne81
+unfolding read_header_number
+returns-then-h-ne81 c =
+    rw (← c.be48.ensures, ← c.numbers-h.ensures) (search order depth 12)
+
+pub returns : goal.returns
+unfolding read_header_number
+returns c =
+    rw (← c.be48.ensures, ← c.numbers-h.ensures) (search order depth 12)
