@@ -1,4 +1,3 @@
-use borrow.Author.Rules.{rules}
 use mathlib.Core.Path.{sym, ◌∙◌}
 use Rattle.frd_rules.proofs.TallyLaws.{count_is, count_none}
 use Rattle.frd_rules.proofs.LogPlaced.{log_placed}

@@ -1,11 +1,10 @@
-use Prim.Native.Nat.{◌+◌, ◌-◌, ◌≤◌}
-use mathlib.Core.Path.{◌≡◌, sym, ◌∙◌}
+use Prim.Native.Nat.{◌+◌, ◌≤◌}
+use mathlib.Core.Path.{sym, ◌∙◌}
 use native.Mathlib.Omega.{arith}
 use lib.ListN.{length}
 use Rattle.frd_rules.specs.Block.{length_of}
-use Rattle.frd_rules.specs.Log.{log_of, tally_of}
 use Rattle.frd_rules.proofs.LogLaws.{IsBlock, block_fits}
-use Rattle.frd_rules.proofs.TallyLaws.{length_block, no_length, tally_from, tally_start, tally_more, tally_ends}
+use Rattle.frd_rules.proofs.TallyLaws.{length_block, no_length, tally_start, tally_more, tally_ends}
 use Rattle.frd.proofs.block_counting.count_from.Goals as goal
 use Rattle.frd.proofs.block_counting.count_from.Goals.{Else-len-eq0}
 
@@ -28,7 +27,7 @@ returns-then-len-eq0 c =
     let read = c.read_block-b in
     let ends = no_length _ read.result (sym len.ensures ∙ c.if-len-eq0.true) in
     rw c.stop_number.ensures
-    (tally_ends _ _ _ _ _ (sym read.ensures.0.0) ends ∙ c.loop-b.invariant.1)
+    (tally_ends _ _ _ _ _ (sym read.ensures.value.0) ends ∙ c.loop-b.invariant.1)
 
 pub overflow_add-at : goal.overflow_add-at
 overflow_add-at c = omega (arith, c.length_of-len.ensures, (inside c).1)
@@ -45,5 +44,5 @@ loop-b-preserved c =
     let inv = c.loop-b.invariant in
     rw c.length_of-len.ensures (
       omega (arith, (inside c).0),
-      sym (tally_more _ _ _ _ _ (sym read.ensures.0.0) (goes c)) ∙ inv.1,
+      sym (tally_more _ _ _ _ _ (sym read.ensures.value.0) (goes c)) ∙ inv.1,
     )

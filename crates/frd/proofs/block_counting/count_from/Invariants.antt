@@ -1,11 +1,8 @@
-use Prim.Native.Nat.{◌+◌, ◌-◌, ◌≤◌}
-use mathlib.Core.Path.{◌≡◌, sym, ◌∙◌}
-use native.Mathlib.Omega.{arith}
+use Prim.Native.Nat.{◌-◌, ◌≤◌}
+use mathlib.Core.Path.{◌≡◌}
 use lib.ListN.{length}
-use Rattle.frd_rules.specs.Block.{length_of}
 use Rattle.frd_rules.specs.Log.{log_of, tally_of}
-use Rattle.frd_rules.proofs.LogLaws.{IsBlock, block_fits}
-use Rattle.frd_rules.proofs.TallyLaws.{length_block, no_length, tally_from, tally_start, tally_more, tally_ends}
+use Rattle.frd_rules.proofs.TallyLaws.{tally_from}
 use Rattle.frd.proofs.block_counting.count_from.Given as goal
 
 abbrev pub invariant-loop-b : goal.invariant-loop-b

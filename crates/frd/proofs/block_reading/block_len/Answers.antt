@@ -1,4 +1,3 @@
-use borrow.Author.Rules.{rules}
 use mathlib.Core.Path.{sym}
 use Rattle.frd_rules.proofs.BlockLaws.{data_len, time_len, no_len}
 use Rattle.frd.proofs.block_reading.block_len.Goals as goal

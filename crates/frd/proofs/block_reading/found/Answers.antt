@@ -1,4 +1,3 @@
-use borrow.Author.Rules.{rules}
 use mathlib.Core.Path.{sym}
 use Rattle.frd_rules.proofs.BlockLaws.{found_end, found_data, found_time}
 use Rattle.frd.proofs.block_reading.found.Goals as goal

@@ -1,4 +1,3 @@
-use borrow.Author.Rules.{rules}
 use mathlib.Core.Path.{sym, ◌∙◌}
 use Rattle.wire.proofs.Parts.{tail_part}
 use Rattle.frd_rules.proofs.BlockLaws.{at_past, at_within, block_means}

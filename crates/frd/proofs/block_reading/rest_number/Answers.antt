@@ -1,4 +1,3 @@
-use borrow.Author.Rules.{rules}
 use Rattle.wire.proofs.Orders.{order}
 use Rattle.frd_rules.specs.Block.{rest_number}
 use Rattle.frd.proofs.block_reading.rest_number.Goals as goal

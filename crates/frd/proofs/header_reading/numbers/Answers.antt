@@ -1,4 +1,3 @@
-use borrow.Author.Rules.{rules}
 use Rattle.frd_rules.specs.Header.{numbers_of}
 use Rattle.frd.proofs.header_reading.numbers.Goals as goal
 

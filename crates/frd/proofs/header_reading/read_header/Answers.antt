@@ -1,4 +1,3 @@
-use borrow.Author.Rules.{rules}
 use mathlib.Core.Path.{sym, ◌∙◌}
 use Rattle.frd_rules.specs.Header.{read_header_of}
 use Rattle.wire.proofs.Answers.{refuses, stands}

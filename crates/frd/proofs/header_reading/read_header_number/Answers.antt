@@ -1,4 +1,3 @@
-use borrow.Author.Rules.{rules}
 use Rattle.wire.proofs.Orders.{order}
 use Rattle.frd_rules.specs.Header.{read_header_number}
 use Rattle.frd.proofs.header_reading.read_header_number.Goals as goal

@@ -1,4 +1,3 @@
-use borrow.Author.Rules.{rules}
 use mathlib.Core.Path.{refl}
 use Rattle.frd_rules.specs.Header.{signature_in}
 use Rattle.frd_rules.proofs.HeaderLaws.{signature_refused, signature_stands}
