@@ -11,12 +11,14 @@ mod memories;
 mod mlgs;
 mod values;
 
+ghost use Rattle.std.specs.Prelude.{◌≤◌, length};
 ghost use Rattle.reckonings.specs.Reckonings.{Reckonings};
 
 use answers::{Answer, nothing, put_answer, unknown};
 use bridge::Bridge;
 use bus::{Directory, HolderState};
 use lines::{Words, find, part, put_bytes, words_of};
+use std::io::Read;
 
 // What the calls change beside the memory that they are lent: a device's directory and state, a bridge, its second buffer, how many turns it has had.
 #[derive(Clone, Copy)]
@@ -105,16 +107,33 @@ fn cases(out: &mut [u8], s: &[u8]) -> usize {
 }
 
 // The cases that 01 marks * are proved of the definitions, as one table.
-fn run(s: &[u8])
+fn run(rt: &impl Print, s: &[u8])
     ensures reckoned { Reckonings }
 {
-    let mut out = io::large_buffer();
+    let mut out = [0u8; 65536];
     let n = cases(&mut out, s);
-    print::flush(&out, n);
+    print::flush(rt, &out, n);
 }
 
-fn main() {
-    let mut input = io::large_buffer();
-    let n = io::read_full(libc::STDIN_FILENO, &mut input);
-    run(&input[..n]);
+// Reads until the buffer is full, the input ends or a read fails, and hands back how many bytes it read.
+fn read_full<R: Read>(input: &mut R, buffer: &mut [u8]) -> usize
+    ensures { result ≤ length buffer.new }
+{
+    let mut len: usize = 0;
+    while len < buffer.len() {
+        let Ok(n) = input.read(&mut buffer[len..]) else {
+            return len;
+        };
+        if n == 0 {
+            return len;
+        }
+        len += n;
+    }
+    len
+}
+
+fn main(rt: HostRuntime) {
+    let mut input = [0u8; 65536];
+    let n = read_full(&mut rt.reader(), &mut input);
+    run(&rt, &input[..n]);
 }

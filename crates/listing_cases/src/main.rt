@@ -2,12 +2,20 @@
 // the length and a sum.
 #![tactic(auto)]
 
-ghost use Rattle.std.specs.Prelude.{◌<◌};
+ghost use Rattle.std.specs.Prelude.{◌<◌, ◌≤◌, length};
 
-use libc::STDOUT_FILENO;
+use std::env::{Env, FillError};
+use std::fs::File;
+use std::io::Read;
+use std::rt::Files;
 
-fn text(s: &[u8]) {
-    io::write_all(STDOUT_FILENO, s);
+// What can't be printed is left out.
+fn text(rt: &impl Print, s: &[u8]) {
+    let _ = rt.write_all(s);
+}
+
+fn decimal(rt: &impl Print, x: u64) {
+    let _ = rt.print(x);
 }
 
 fn wide(b: u8) -> u64
@@ -29,52 +37,85 @@ fn sum_of(s: &[u8]) -> u64
     sum
 }
 
-fn show(s: &[u8]) {
+fn show(rt: &impl Print, s: &[u8]) {
     let len = s.len();
     if len <= 20000 {
-        text(s);
+        text(rt, s);
         return;
     }
-    text(&s[0..200]);
-    text(b"\n..\n");
-    text(&s[len - 200..len]);
-    io::print_decimal(STDOUT_FILENO, len as u64);
-    text(b" bytes, sum ");
-    io::print_decimal(STDOUT_FILENO, sum_of(s));
-    text(b"\n");
+    text(rt, &s[0..200]);
+    text(rt, b"\n..\n");
+    text(rt, &s[len - 200..len]);
+    decimal(rt, len as u64);
+    text(rt, b" bytes, sum ");
+    decimal(rt, sum_of(s));
+    text(rt, b"\n");
 }
 
-fn list(file: &[u8]) {
-    text(b", ");
-    io::print_decimal(STDOUT_FILENO, file.len() as u64);
-    text(b" bytes\n");
+fn list(rt: &impl Print, file: &[u8]) {
+    text(rt, b", ");
+    decimal(rt, file.len() as u64);
+    text(rt, b" bytes\n");
     let mut out = [0u8; 327680];
     let w = listing::list(&mut out, file);
     let len = w.len;
-    show(&out[0..len]);
+    show(rt, &out[0..len]);
 }
 
-fn case(name: &[u8]) {
-    text(b"== ");
-    text(name);
-    let fd = os::open_read(name);
-    if fd < 0 {
-        text(b" can't be opened\n");
-        return;
+// A file to be read, where its name is text and there is one.
+fn open<R: Files>(rt: &R, name: &[u8]) -> Option<R::File> {
+    let Ok(path) = str::from_utf8(name) else {
+        return None;
+    };
+    File::open(rt, path).ok()
+}
+
+// Reads until the buffer is full, the file ends or a read fails, and hands back how many bytes it read.
+fn read_full<R: Read>(file: &mut R, buffer: &mut [u8]) -> usize
+    ensures { result ≤ length buffer.new }
+{
+    let mut len: usize = 0;
+    while len < buffer.len() {
+        let Ok(n) = file.read(&mut buffer[len..]) else {
+            return len;
+        };
+        if n == 0 {
+            return len;
+        }
+        len += n;
     }
-    let mut file = [0u8; 65537];
-    let n = io::read_full(fd, &mut file);
-    libc::close(fd);
-    list(&file[0..n]);
+    len
 }
 
-fn main() {
-    let count = os::arg_count();
-    let mut i: usize = 1;
-    while i < count {
-        let mut name = io::buffer();
-        let len = os::arg(i, &mut name);
-        case(&name[0..len]);
-        i += 1;
+fn case<R: Files + Print>(rt: &R, name: &[u8]) {
+    text(rt, b"== ");
+    text(rt, name);
+    let opened = open(rt, name);
+    let Some(mut input) = opened else {
+        text(rt, b" can't be opened\n");
+        return;
+    };
+    let mut file = [0u8; 65537];
+    let n = read_full(&mut input, &mut file);
+    list(rt, &file[0..n]);
+}
+
+// Argument i and its case: whether there is one. A name longer than any path is as an empty one.
+fn argument<R: Env + Files + Print>(rt: &R, i: usize) -> bool {
+    let mut name = [0u8; 4096];
+    let given = rt.arg(i, &mut name);
+    match given {
+        Ok(len) => case(rt, &name[0..len]),
+        Err(FillError::TooLong) => case(rt, b""),
+        Err(FillError::NotPresent) => return false,
+    }
+    true
+}
+
+fn main(rt: HostRuntime) {
+    for i in 1..usize::MAX {
+        if !argument(&rt, i) {
+            return;
+        }
     }
 }

@@ -75,12 +75,12 @@ pub fn bytes(out: &mut [u8], at: usize, s: &[u8]) -> usize
     next
 }
 
-// Writes the first n bytes to standard output: whether all were written. There have to be so many.
-pub fn flush(out: &[u8], n: usize) -> bool
+// Prints the first n bytes: whether all were written. There have to be so many.
+pub fn flush<P: Print>(to: &P, out: &[u8], n: usize) -> bool
     ensures { length out.now < n → result ≡ false }
 {
     if out.len() < n {
         return false;
     }
-    io::write_all(libc::STDOUT_FILENO, &out[0..n])
+    to.write_all(&out[0..n]).is_ok()
 }
