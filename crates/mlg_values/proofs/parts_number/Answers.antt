@@ -1,4 +1,3 @@
-use borrow.Author.Rules.{rules}
 use Rattle.wire.proofs.Orders.{order}
 use Rattle.mlg_rules.specs.Shown.{parts_number, scaling_in}
 use Rattle.mlg_values.proofs.parts_number.Goals as goal

@@ -1,4 +1,3 @@
-use borrow.Author.Rules.{rules}
 use mathlib.Core.Path.{refl}
 use Rattle.mlg_rules.proofs.Finite.{no_nan}
 use Rattle.mlg_rules.proofs.ShownLaws.{parts_stand}

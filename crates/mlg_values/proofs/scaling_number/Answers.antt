@@ -1,4 +1,3 @@
-use borrow.Author.Rules.{rules}
 use Rattle.wire.proofs.Orders.{order}
 use Rattle.mlg_rules.specs.Shown.{scaling_number}
 use Rattle.mlg_values.proofs.scaling_number.Goals as goal

@@ -1,4 +1,3 @@
-use borrow.Author.Rules.{rules}
 use mathlib.Core.Path.{sym, ◌∙◌}
 use Rattle.mlg_rules.specs.Shown.{scaling_of}
 use Rattle.wire.proofs.Answers.{refuses, stands}

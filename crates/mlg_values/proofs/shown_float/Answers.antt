@@ -1,8 +1,6 @@
-use borrow.Author.Rules.{rules}
 use Prim.Native.Nat.{ℕ}
 use mathlib.Core.Path.{sym, ◌∙◌, ap}
 use native.Mathlib.Omega.{arith}
-use borrow.Author.Tests.{not-true, not-false}
 use lib.Ieee.{binary32, of_bits}
 use Rattle.mlg_rules.specs.Shown.{apply_of}
 use Rattle.wire.proofs.Answers.{refuses}
@@ -15,10 +13,10 @@ use Rattle.mlg_values.proofs.shown_float.Goals as goal
 pub returns-then-not-finite_bits : goal.returns-then-not-finite_bits
 unfolding apply_of
 returns-then-not-finite_bits c = let e = c.be32-bits.ensures ∙ whole 4 c.args.raw.now c.requires in
-    rw (← e) (refuses S.Is S.Refused _ _ 30 (by_raw _ _ (sym c.finite_bits.ensures ∙ not-true _ c.if-not-finite_bits.true)) (λ e. omega arith))
+    rw (← e) (refuses S.Is S.Refused _ _ 30 (by_raw _ _ (sym c.finite_bits.ensures ∙ c.if-not-finite_bits.true)) (λ e. omega arith))
 
 pub float_from_bits-bits : goal.float_from_bits-bits
-float_from_bits-bits c = no_nan _ (sym c.finite_bits.ensures ∙ not-false _ c.if-not-finite_bits.false)
+float_from_bits-bits c = no_nan _ (sym c.finite_bits.ensures ∙ c.if-not-finite_bits.false)
 
 pub returns : goal.returns
 returns c =

@@ -1,4 +1,3 @@
-use borrow.Author.Rules.{rules}
 use mathlib.Core.Path.{sym, ◌∙◌, refl, ap}
 use native.Mathlib.Omega.{arith}
 use Rattle.mlg_rules.specs.Types.{size_of}

@@ -1,4 +1,3 @@
-use borrow.Author.Rules.{rules}
 use mathlib.Core.Path.{refl}
 use Rattle.mlg_rules.specs.Types.{size_of}
 use Rattle.mlg_rules.proofs.TypeLaws.{size_none}

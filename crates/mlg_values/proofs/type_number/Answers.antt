@@ -1,4 +1,3 @@
-use borrow.Author.Rules.{rules}
 use native.Mathlib.Omega.{arith}
 use Rattle.wire.proofs.Orders.{order}
 use Rattle.mlg_rules.specs.Field.{type_number}

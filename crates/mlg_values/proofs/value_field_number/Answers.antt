@@ -1,4 +1,3 @@
-use borrow.Author.Rules.{rules}
 use Rattle.wire.proofs.Orders.{order}
 use Rattle.mlg_rules.proofs.LayoutLaws.{field_of}
 use Rattle.mlg_rules.specs.Raw.{value_field_number}

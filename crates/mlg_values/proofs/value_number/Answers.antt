@@ -1,4 +1,3 @@
-use borrow.Author.Rules.{rules}
 use Rattle.wire.proofs.Orders.{order}
 use Rattle.mlg_rules.specs.Raw.{value_number}
 use Rattle.mlg_values.proofs.value_number.Goals as goal
