@@ -2,22 +2,23 @@
 PREFIX = /usr/local
 VERSION = 0.7.0
 
-archive = target/staticlib/libhoneygimlet.a
+archive = crates/honeygimlet/out/libhoneygimlet.a
 includedir = $(DESTDIR)$(PREFIX)/include
 libdir = $(DESTDIR)$(PREFIX)/lib
 
-# the C library, proved and built, and the program loglist
+# the C library, proved and built, and the program loglist (crates/loglist/out/loglist)
 all: library loglist
 
-# rt staticlib honeygimlet, unless nothing changed since
+# rt lib in crates/honeygimlet, unless nothing changed since
 library:
 	.ci/archive
 
 loglist:
-	rt check loglist
+	.ci/program loglist
 
 # the C examples, built into target/ and run
 examples: library
+	mkdir -p target
 	for name in firmware logger; do \
 	    $(CC) -std=c11 -Wall -Wextra -Iinclude examples/$$name.c $(archive) -o target/$$name && target/$$name || exit 1; \
 	done
@@ -36,7 +37,7 @@ check:
 	.ci/run
 
 clean:
-	rm -rf target
+	rm -rf target crates/*/out
 
 .NOTPARALLEL:
 .PHONY: all library loglist examples install check clean

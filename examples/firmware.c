@@ -17,7 +17,7 @@
  * Up to here the device is of family 3. Last, it is a Megasquirt-2 (family 2), which keeps a single table in working memory. The dash writes a map into
  * table 3, does not burn it and reads table 7: table 3 then has the map burnt before. It writes another map, burns that and reads table 7: it is kept.
  *
- *     gcc -std=c11 -Iinclude examples/firmware.c target/staticlib/libhoneygimlet.a -o target/firmware
+ *     gcc -std=c11 -Iinclude examples/firmware.c crates/honeygimlet/out/libhoneygimlet.a -o target/firmware
  */
 #include "honeygimlet.h"
 

@@ -3,7 +3,7 @@
  * Then it goes on to 600 blocks, where the counter starts again after the 256th, and lists them; once more with counters modulo 255.
  * The program exits 1 where what is read is not what was written, or another number of counters is wrong than should be.
  *
- *     gcc -std=c11 -Iinclude examples/logger.c target/staticlib/libhoneygimlet.a -o target/logger
+ *     gcc -std=c11 -Iinclude examples/logger.c crates/honeygimlet/out/libhoneygimlet.a -o target/logger
  */
 #include "honeygimlet.h"
 
