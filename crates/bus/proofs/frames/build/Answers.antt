@@ -1,11 +1,11 @@
-use Rattle.std.proofs.Common.{◌≡◌, ◌-◌, ◌≤◌, min, length, take, replicate, sym, refl, ◌∙◌, subst, ⊎_elim, zero-add, arith, length-take, rules}
-use lib.Seq.{sets}
+use Rattle.std.proofs.Common.{◌≡◌, length, take, replicate, sym, refl, ◌∙◌, subst, zero-add, arith, length-take}
 use Rattle.bus_rules.specs.Frames.{padded, frame_with, build_of}
 use Rattle.bus_rules.specs.declared.Frame.{Frame}
 use Rattle.bus_rules.specs.Rows.{Built}
 use Rattle.bus_rules.proofs.FrameLaws.{padded_take, padded_sets, sets_next, sets_done}
 use Rattle.bus_rules.proofs.RowTheorems.{row_theorems}
 use Rattle.bus.proofs.frames.build.Goals as goal
+use Rattle.bus.proofs.frames.build.Goals.{then-i-bytes, else-i-bytes}
 
 pub loop-i-init : goal.loop-i-init
 loop-i-init c = (omega arith, refl, omega arith)
@@ -19,11 +19,11 @@ loop-i-preserved c =
     let i = c.loop-i.i in
     let inv = c.loop-i.invariant in (
       omega arith,
-      ⊎_elim
-          (λ w. w.2 ∙ rw inv.1 (rw zero-add at (sets_next (replicate 8 0) 0 bs i w.0.taken)))
-          (λ w. w.1 ∙ inv.1 ∙ sets_done (replicate 8 0) 0 bs i w.0.left)
-          c.if-i-bytes.branch,
-      ⊎_elim (λ w. omega (arith, w.3, inv.2, w.0.taken)) (λ w. omega (arith, w.2, inv.2, w.0.left)) c.if-i-bytes.branch,
+      elim c.if-i-bytes.branch [
+        | then-i-bytes w ↦ w.first-is ∙ rw inv.1 (rw zero-add at (sets_next (replicate 8 0) 0 bs i w.if-i-bytes.true))
+        | else-i-bytes w ↦ w.first-is ∙ inv.1 ∙ sets_done (replicate 8 0) 0 bs i w.if-i-bytes.false
+      ],
+      elim c.if-i-bytes.branch [ then-i-bytes w ↦ omega (arith, inv.2) | else-i-bytes w ↦ omega (arith, inv.2) ],
     )
 
 pub returns : goal.returns

@@ -1,10 +1,5 @@
-use Rattle.std.proofs.Common.{◌≡◌, ◌-◌, ◌≤◌, min, length, take, replicate, sym, refl, ◌∙◌, subst, ⊎_elim, zero-add, arith, length-take, rules}
+use Rattle.std.proofs.Common.{◌≡◌, ◌-◌, ◌≤◌, min, length, take, replicate}
 use lib.Seq.{sets}
-use Rattle.bus_rules.specs.Frames.{padded, frame_with, build_of}
-use Rattle.bus_rules.specs.declared.Frame.{Frame}
-use Rattle.bus_rules.specs.Rows.{Built}
-use Rattle.bus_rules.proofs.FrameLaws.{padded_take, padded_sets, sets_next, sets_done}
-use Rattle.bus_rules.proofs.RowTheorems.{row_theorems}
 use Rattle.bus.proofs.frames.build.Given as goal
 
 abbrev pub invariant-loop-i : goal.invariant-loop-i

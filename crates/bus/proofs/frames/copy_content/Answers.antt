@@ -1,9 +1,9 @@
-use Rattle.std.proofs.Common.{◌≡◌, ◌+◌, ◌-◌, ◌<◌, ◌≤◌, length, take, refl, ap, ◌∙◌, ⊎_elim, arith, take_all, rules}
+use Rattle.std.proofs.Common.{◌≡◌, ◌+◌, ◌<◌, length, take, refl, ap, ◌∙◌, arith, take_all, rules}
 use lib.Seq.{sets, length-sets}
 use Rattle.bus_rules.specs.Frames.{content}
 use Rattle.bus_rules.proofs.FrameLaws.{content_min, content_at, sets_next, sets_done}
 use Rattle.bus.proofs.frames.copy_content.Goals as goal
-use Rattle.bus.proofs.frames.copy_content.Goals.{Then-i-n}
+use Rattle.bus.proofs.frames.copy_content.Goals.{Then-i-n, then-i-n, else-i-n}
 
 pub loop-i-init : goal.loop-i-init
 loop-i-init c = (omega arith, refl, refl)
@@ -26,10 +26,10 @@ loop-i-preserved c =
     let inv = c.loop-i.invariant in
     let l = content_min a.f (search rules) in
     let e : c.if-i-n.out ≡ sets a.out.now a.at (take (i + 1) bs) =
-    ⊎_elim
-    (λ w. w.2 ∙ rw (inv.2, ← content_at a.f i w.0.taken) (sets_next a.out.now a.at bs i (omega (arith, w.0.taken))))
-    (λ w. w.1 ∙ inv.2 ∙ sets_done a.out.now a.at bs i (omega (arith, w.0.left)))
-    c.if-i-n.branch in
+    elim c.if-i-n.branch [
+      | then-i-n w ↦ w.out-is ∙ rw (inv.2, ← content_at a.f i w.if-i-n.true) (sets_next a.out.now a.at bs i (omega (arith, w.if-i-n.true)))
+      | else-i-n w ↦ w.out-is ∙ inv.2 ∙ sets_done a.out.now a.at bs i (omega (arith, w.if-i-n.false))
+    ] in
     (omega arith, ap length e ∙ length-sets a.out.now a.at (take (i + 1) bs), e)
 
 pub shape_of-out : goal.shape_of-out

@@ -1,7 +1,6 @@
-use Rattle.std.proofs.Common.{◌≡◌, ◌+◌, ◌-◌, ◌<◌, ◌≤◌, length, take, refl, ap, ◌∙◌, ⊎_elim, arith, take_all, rules}
-use lib.Seq.{sets, length-sets}
+use Rattle.std.proofs.Common.{◌≡◌, ◌-◌, ◌≤◌, length, take}
+use lib.Seq.{sets}
 use Rattle.bus_rules.specs.Frames.{content}
-use Rattle.bus_rules.proofs.FrameLaws.{content_min, content_at, sets_next, sets_done}
 use Rattle.bus.proofs.frames.copy_content.Given as goal
 
 abbrev pub invariant-loop-i : goal.invariant-loop-i

@@ -1,4 +1,4 @@
-use Rattle.std.proofs.Common.{ap, ◌∙◌, rules}
+use Rattle.std.proofs.Common.{ap, ◌∙◌}
 use Rattle.bus_rules.specs.Frames.{frame_with, build_of}
 use Rattle.bus_rules.specs.declared.Frame.{Frame}
 use Rattle.bus_rules.proofs.FrameLaws.{padded_take}

@@ -1,4 +1,4 @@
-use Rattle.std.proofs.Common.{sym, ◌∙◌, arith, rules}
+use Rattle.std.proofs.Common.{sym, ◌∙◌, arith}
 use Rattle.wire.proofs.Puts.{put_over, put_sets}
 use Rattle.bus.proofs.frames.put_content.Goals as goal
 

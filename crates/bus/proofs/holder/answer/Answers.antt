@@ -1,4 +1,3 @@
-use Rattle.std.proofs.Common.{rules}
 use Rattle.bus_rules.specs.Holder.{answer_with}
 use Rattle.bus.proofs.holder.answer.Goals as goal
 

@@ -1,4 +1,4 @@
-use Rattle.std.proofs.Common.{◌≤◌, sym, ap, arith, length-take-le, rules}
+use Rattle.std.proofs.Common.{◌≤◌, sym, ap, arith, length-take-le}
 use Rattle.bus_rules.specs.declared.RequestRead.{RequestRead}
 use Rattle.bus_rules.specs.Holder.{byte_of, read_at, request_at}
 use Rattle.bus_rules.proofs.RequestLaws.{read_request_holds}

@@ -1,4 +1,4 @@
-use Rattle.std.proofs.Common.{◌≡◌, ap, arith, rules}
+use Rattle.std.proofs.Common.{◌≡◌, ap, arith}
 use Rattle.bus_rules.specs.declared.RequestRead.{RequestRead}
 use Rattle.bus_rules.specs.Holder.{byte_of, read_at, request_at}
 use Rattle.bus_rules.proofs.FrameLaws.{part_is, part_length}
@@ -12,11 +12,11 @@ unfolding request_at read_at byte_of
 count c = ap (λ (q : RequestRead). q.request.count) c.read_request-q.ensures.value
 
 pub slice_bounds-reply-end : goal.slice_bounds-reply-end
-slice_bounds-reply-end c = omega (arith, c.requires.3, count c.before)
+slice_bounds-reply-end c = omega (arith, c.requires.3, count (goal.at.slice_bounds-reply-end c).After-read_request-q)
 
 pub reply-requires : goal.reply-requires
 reply-requires c =
-    let q = c.before.before in
+    let q = (goal.at.reply-requires c).After-read_request-q in
     let l = part_length c.args.memory.now c.args.at c.read_request-q.result.request.count (omega (arith, c.requires.3, count q)) in
     let h = read_request_holds c.read_request-q.result c.read_request-q.ensures.back in
     (c.requires.0, c.requires.1, h.table, h.offset, rw part_is (omega (arith, l, c.requires.2, count q)))

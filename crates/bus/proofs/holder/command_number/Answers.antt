@@ -1,4 +1,3 @@
-use Rattle.std.proofs.Common.{rules}
 use Rattle.wire.proofs.Orders.{order}
 use Rattle.bus_rules.specs.Holder.{command_number}
 use Rattle.bus.proofs.holder.command_number.Goals as goal

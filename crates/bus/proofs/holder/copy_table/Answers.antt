@@ -1,4 +1,4 @@
-use Rattle.std.proofs.Common.{ℕ, take, drop, ◌∙◌, ap₂, arith, rules}
+use Rattle.std.proofs.Common.{ℕ, take, drop, ◌∙◌, ap₂, arith}
 use lib.Seq.{sets}
 use Rattle.wire.proofs.Puts.{put_sets}
 use Rattle.bus_rules.specs.Device.{copy_table}

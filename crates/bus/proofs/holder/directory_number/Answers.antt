@@ -1,4 +1,3 @@
-use borrow.Author.Rules.{rules}
 use Rattle.bus.proofs.holder.directory_number.Goals as goal
 
 pub tables_number-requires : goal.tables_number-requires

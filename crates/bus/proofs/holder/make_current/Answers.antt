@@ -1,4 +1,3 @@
-use borrow.Author.Rules.{rules}
 use mathlib.Core.Path.{refl}
 use Rattle.bus_rules.specs.Device.{currently, is_current, reloads, with_current}
 use Rattle.bus.proofs.holder.make_current.Goals as goal

@@ -1,4 +1,3 @@
-use borrow.Author.Rules.{rules}
 use Rattle.wire.proofs.Orders.{order}
 use Rattle.bus_rules.specs.Device.{length_number, memory_number}
 use Rattle.bus.proofs.holder.memory_number.Goals as goal

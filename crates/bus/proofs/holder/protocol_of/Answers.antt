@@ -1,4 +1,3 @@
-use Rattle.std.proofs.Common.{rules}
 use Rattle.bus_rules.specs.Holder.{protocol}
 use Rattle.bus.proofs.holder.protocol_of.Goals as goal
 

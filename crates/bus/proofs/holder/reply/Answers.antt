@@ -1,4 +1,4 @@
-use Rattle.std.proofs.Common.{ap, ◌∙◌, arith, rules}
+use Rattle.std.proofs.Common.{ap, ◌∙◌, arith}
 use Rattle.bus_rules.specs.Holder.{reply_to, answer_with}
 use Rattle.bus_rules.proofs.RowTheorems.{build_lawful}
 use Rattle.bus.proofs.holder.reply.Goals as goal

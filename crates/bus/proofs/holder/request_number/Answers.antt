@@ -1,4 +1,3 @@
-use Rattle.std.proofs.Common.{rules}
 use Rattle.wire.proofs.Orders.{order}
 use Rattle.bus_rules.specs.Holder.{request_number}
 use Rattle.bus.proofs.holder.request_number.Goals as goal

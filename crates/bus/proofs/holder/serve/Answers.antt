@@ -1,4 +1,4 @@
-use Rattle.std.proofs.Common.{◌≡◌, ℕ, ◌≢◌, List, length, get_or, sym, ap, ◌∙◌, arith, w8, Fits, rules}
+use Rattle.std.proofs.Common.{◌≡◌, ◌≤◌, ◌*◌, ℕ, ◌≢◌, List, length, get_or, sym, ap, ◌∙◌, arith, w8, Fits, rules}
 use Rattle.wire.specs.Order.{◌or_else◌}
 use Rattle.wire.proofs.Orders.{order}
 use Rattle.bus_rules.specs.declared.Frame.{Frame}
@@ -6,7 +6,8 @@ use Rattle.bus_rules.specs.declared.HolderState.{HolderState}
 use Rattle.bus_rules.specs.declared.Served.{Served}
 use Rattle.bus_rules.specs.Frames.{head_number}
 use Rattle.bus_rules.specs.Device.{Device, device, own_of, start_of, size_of, right_of, memory_number, state_number}
-use Rattle.bus_rules.specs.Holder.{byte_of, no_answer, kind_number, device_number, serve_number, serve_of, device_after}
+use Rattle.bus_rules.specs.Ident.{id_table}
+use Rattle.bus_rules.specs.Holder.{size_at, right_at, byte_of, no_answer, kind_number, device_number, serve_number, serve_of, device_after}
 use Rattle.bus_rules.specs.Demand2.{Demand2}
 use Rattle.bus_rules.proofs.IdentLaws.{table_small}
 use Rattle.bus_rules.proofs.Cases.{served_case, refused_case, device_after_lem, same_held}
@@ -15,7 +16,8 @@ use Rattle.bus_rules.proofs.FrameLaws.{IsFrame}
 use Rattle.bus_rules.proofs.Demand2.{demand2}
 use Rattle.bus_rules.proofs.AllExamples.{examples}
 use Rattle.bus.proofs.holder.serve.Goals as goal
-use Rattle.bus.proofs.holder.serve.Goals.{After-frame_number-number, Start}
+use Rattle.bus.proofs.holder.serve.Goals.{Start}
+use Rattle.bus.specs.declared.holder.Table.{Table}
 
 -- the device before the call
 abbrev before : Start → Device
@@ -44,18 +46,6 @@ later-number : (e : Device) (f : Frame) (n k : ℕ)
 unfolding serve_number device_number
 later-number e f n k h z l = search order depth 12
 
--- the number of a frame to a sound device
-abbrev start : After-frame_number-number → Start
-start c = c.before.before.before.before.before.before.before.before
-
-number : (c : After-frame_number-number) → c.frame_number-number.result ≡ serve_number (before (start c)) (start c).args.f
-number c =
-    let s = start c in
-    let t = c.table_at-t.ensures in
-    let k = c.table_of.ensures in
-    later-number (before s) s.args.f c.device_number-unsound.result c.frame_number-number.result c.device_number-unsound.ensures c.if-unsound-ne0.false
-    (c.frame_number-number.ensures (before s) (t.1 ∙ ap (size_of s.args.d) k) (t.2 ∙ ap (right_of s.args.d) k))
-
 -- a refusal
 refused : (s : Start) (n : ℕ) (r : Served) (t : HolderState) → n ≡ serve_number (before s) s.args.f → n ≢ 0 → (r ≡ no_answer n) × (t ≡ s.args.s)
     → ((r ≡ serve_of (before s) s.args.f) × (t ≡ (device_after (before s) s.args.f).state)
@@ -71,38 +61,50 @@ refused s n r t h k e =
 pub table_at-t-requires : goal.table_at-t-requires
 table_at-t-requires c = omega (arith, c.table_of.ensures, table_small c.args.f.id)
 
+-- the number of a frame to a sound device
+number : (s : Start) (t : Table) (k n w : ℕ)
+    → (t.start ≡ start_of s.args.d k) × (t.size ≡ size_of s.args.d k) × (t.right ≡ right_of s.args.d k) × (t.start ≤ 65535 * k) → k ≡ id_table s.args.f.id
+    → n ≡ (state_number s.args.d s.args.s or_else memory_number s.args.d (length s.args.memory.now) (length s.args.flash.now)) → n ≡ 0
+    → ((e : Device) → t.size ≡ size_at e s.args.f → t.right ≡ right_at e s.args.f
+    → w ≡ (head_number s.args.d.own s.args.f or_else kind_number e s.args.f)) → w ≡ serve_number (before s) s.args.f
+number s t k n w h i m z l =
+    later-number (before s) s.args.f n w m z (l (before s) (h.1 ∙ ap (size_of s.args.d) i) (h.2 ∙ ap (right_of s.args.d) i))
+
 pub returns-then-unsound-ne0 : goal.returns-then-unsound-ne0
 returns-then-unsound-ne0 c =
-    let s = c.before.before.before.before.before.before.before in
+    let s = (goal.at.returns-then-unsound-ne0 c).Start in
     let n = c.device_number-unsound in
     let k = c.if-unsound-ne0.true in
-    record { served_value = (refused s n.result _ _ (first-number (before s) c.args.f n.result n.ensures k) k c.refuse.ensures).0; demand2 = (refused s n.result _ _ (first-number (before s) c.args.f n.result n.ensures k) k c.refuse.ensures).1.0; examples = (refused s n.result _ _ (first-number (before s) c.args.f n.result n.ensures k) k c.refuse.ensures).1.1 }
+    let r = refused s n.result _ _ (first-number (before s) c.args.f n.result n.ensures k) k c.refuse.ensures in
+    record { served_value = r.0; demand2 = r.1.0; examples = r.1.1 }
 
 pub frame_number-number-requires : goal.frame_number-number-requires
 frame_number-number-requires c = c.parts_of-p.ensures
 
 pub returns-then-number-ne0 : goal.returns-then-number-ne0
 returns-then-number-ne0 c =
-    let n = c.before.before in
-    record { served_value = (refused (start n) c.frame_number-number.result _ _ (number n) (λ z. omega (arith, c.if-number-ne0.true, z)) c.refuse-then-number-ne0.ensures).0; demand2 = (refused (start n) c.frame_number-number.result _ _ (number n) (λ z. omega (arith, c.if-number-ne0.true, z)) c.refuse-then-number-ne0.ensures).1.0; examples = (refused (start n) c.frame_number-number.result _ _ (number n) (λ z. omega (arith, c.if-number-ne0.true, z)) c.refuse-then-number-ne0.ensures).1.1 }
+    let s = (goal.at.returns-then-number-ne0 c).Start in
+    let n = number s _ _ _ _ c.table_at-t.ensures c.table_of.ensures c.device_number-unsound.ensures c.if-unsound-ne0.false c.frame_number-number.ensures in
+    let r = refused s c.frame_number-number.result _ _ n (λ z. omega (arith, c.if-number-ne0.true, z)) c.refuse-then-number-ne0.ensures in
+    record { served_value = r.0; demand2 = r.1.0; examples = r.1.1 }
 
 pub act-requires : goal.act-requires
 act-requires c =
-    let n = c.before.before.before in
-    let p = c.parts_of-p in
+    let s = (goal.at.act-requires c).Start in
+    let n = number s _ _ _ _ c.table_at-t.ensures c.table_of.ensures c.device_number-unsound.ensures c.if-unsound-ne0.false c.frame_number-number.ensures in
     let k = c.table_of.ensures in
-    let d = (start n).args.d in (
-      omega (arith, number n, c.if-number-ne0.false),
+    let d = s.args.d in (
+      omega (arith, n, c.if-number-ne0.false),
       c.table_at-t.ensures.0 ∙ ap (start_of d) k,
       c.table_at-t.ensures.1 ∙ ap (size_of d) k,
-      p.ensures,
+      c.parts_of-p.ensures,
     )
 
 pub returns : goal.returns
 returns c =
-    let n = c.before.before.before.before.before.before.before.before in
-    let s = start n in
-    let e = served_case (before s) s.args.f (sym (number n) ∙ c.if-number-ne0.false) in
+    let s = (goal.at.returns c).Start in
+    let n = number s _ _ _ _ c.table_at-t.ensures c.table_of.ensures c.device_number-unsound.ensures c.if-unsound-ne0.false c.frame_number-number.ensures in
+    let e = served_case (before s) s.args.f (sym n ∙ c.if-number-ne0.false) in
     let p = c.act.ensures.0 ∙ sym e.0 in
     let m = same_held e.1 in
     let h = c.act.ensures.1 ∙ m.0 in

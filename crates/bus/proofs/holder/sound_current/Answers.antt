@@ -1,4 +1,3 @@
-use borrow.Author.Rules.{rules}
 use native.Mathlib.Omega.{arith}
 use mathlib.Core.Bool.{or-false}
 use borrow.Author.Tests.{ne_eqb, le-leb, lt-leb}

@@ -1,12 +1,6 @@
-use mir.Val.{Fits}
-use mir.Syntax.{w16}
-use lib.ListN.{get_or}
 use Prim.Native.Nat.{◌≤◌, ◌-◌, ◌*◌}
-use mathlib.Core.Path.{◌≡◌, refl, ◌∙◌, ap}
-use native.Mathlib.Omega.{arith}
-use borrow.Author.Rules.{rules}
-use Rattle.bus_rules.specs.Device.{size_of, right_of, start_of}
-use Rattle.bus_rules.proofs.Directories.{start_next}
+use mathlib.Core.Path.{◌≡◌}
+use Rattle.bus_rules.specs.Device.{start_of}
 use Rattle.bus.proofs.holder.table_at.Given as goal
 
 abbrev pub invariant-loop-i : goal.invariant-loop-i

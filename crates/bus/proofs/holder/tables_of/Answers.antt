@@ -1,7 +1,6 @@
 use mir.Val.{Fits}
 use mir.Syntax.{w16}
 use lib.ListN.{get_or}
-use Prim.Native.Nat.{◌≤◌, ◌-◌, ◌*◌}
 use mathlib.Core.Path.{◌≡◌, refl, ◌∙◌, ap}
 use native.Mathlib.Omega.{arith}
 use borrow.Author.Rules.{rules}

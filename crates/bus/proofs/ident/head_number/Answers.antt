@@ -1,4 +1,3 @@
-use Rattle.std.proofs.Common.{rules}
 use Rattle.wire.proofs.Orders.{order}
 use Rattle.bus_rules.proofs.IdentLaws.{head_is}
 use Rattle.bus.proofs.ident.head_number.Goals as goal

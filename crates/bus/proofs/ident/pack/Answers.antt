@@ -1,4 +1,4 @@
-use Rattle.std.proofs.Common.{◌≡◌, ℕ, sym, ap, ◌∙◌, subst, rules}
+use Rattle.std.proofs.Common.{◌≡◌, ℕ, sym, ap, ◌∙◌, subst}
 use Rattle.wire.proofs.Answers.{refuses, stands}
 use Rattle.bus_rules.specs.Ident.{id_in, pack_of}
 use Rattle.bus_rules.specs.Rows.{UnpackAfterPack, RowByRow, LawfulIds}

@@ -1,4 +1,4 @@
-use Rattle.std.proofs.Common.{sym, ◌∙◌, rules}
+use Rattle.std.proofs.Common.{sym, ◌∙◌}
 use Rattle.wire.proofs.Answers.{refuses, stands}
 use Rattle.bus_rules.specs.Frames.{read_head_of}
 use Rattle.bus_rules.specs.declared.Unpacked.TheVariants as U

@@ -1,4 +1,4 @@
-use Rattle.std.proofs.Common.{◌≡◌, ℕ, sym, ◌∙◌, subst, rules}
+use Rattle.std.proofs.Common.{◌≡◌, ℕ, sym, ◌∙◌, subst}
 use Rattle.bus_rules.specs.Ident.{unpack_of}
 use Rattle.wire.proofs.Answers.{refuses, stands}
 use Rattle.bus_rules.specs.Rows.{PackAfterUnpack, RowByRow, LawfulIds}

@@ -1,4 +1,4 @@
-use Rattle.std.proofs.Common.{sym, ◌∙◌, subst, arith, rules}
+use Rattle.std.proofs.Common.{sym, ◌∙◌, subst, arith}
 use Rattle.bus_rules.specs.Request.{request_bytes_of, request}
 use Rattle.bus_rules.specs.Rows.{ReadAfterWrite}
 use Rattle.bus_rules.proofs.RequestLaws.{Holds, zero_holds, wrote_no, wrote_yes}

@@ -1,4 +1,4 @@
-use Rattle.std.proofs.Common.{◌≡◌, ℕ, ◌/◌, ◌%◌, arith, rules}
+use Rattle.std.proofs.Common.{◌≡◌, ℕ, ◌/◌, ◌%◌, arith}
 use Rattle.bus_rules.specs.Ident.{in_rows}
 use Rattle.bus_rules.proofs.IdentLaws.{id_is}
 use Rattle.bus.proofs.rows.id_in_rows.Goals as goal

@@ -1,4 +1,3 @@
-use Rattle.std.proofs.Common.{rules}
 use Rattle.bus_rules.specs.Ident.{id_offset, id_kind, id_from, id_to, parts_of}
 use Rattle.bus.proofs.rows.parts_of.Goals as goal
 

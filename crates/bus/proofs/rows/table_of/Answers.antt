@@ -1,4 +1,4 @@
-use Rattle.std.proofs.Common.{refl, rules}
+use Rattle.std.proofs.Common.{refl}
 use Rattle.bus_rules.specs.Ident.{id_table}
 use Rattle.bus.proofs.rows.table_of.Goals as goal
 
