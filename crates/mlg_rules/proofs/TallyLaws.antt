@@ -1,10 +1,8 @@
 -- Blocks counted one by one.
 use Prim.Native.Nat.{ℕ, zero, suc, ◌+◌, ◌-◌, ◌≤◌}
 use mathlib.Core.Path.{◌≡◌, refl, ap}
-use mathlib.Core.List.{List, [], ◌∷◌}
+use mathlib.Core.List.{List, []}
 use native.Mathlib.Omega.{arith}
-use types.Run.{OneOf}
-use denote.Enum.Declared.{tag_of}
 use lib.ListN.{length}
 use Rattle.mlg_rules.specs.Header.{read_header_of, head_answer}
 use Rattle.mlg_rules.specs.Block.{counter_after, type_in, read_block_of, block_answer}
@@ -16,7 +14,6 @@ use Rattle.mlg_rules.specs.declared.Header.{Header}
 use Rattle.mlg_rules.specs.declared.Head.TheVariants as head
 use Rattle.wire.specs.declared.Tally.{Tally}
 use Rattle.mlg_rules.specs.declared.Block.TheVariants.{Data, Mark, End, Refused}
-use Rattle.mlg_rules.specs.contracts.Head as head-type
 use Rattle.mlg_rules.proofs.BlockLaws.{whole}
 use Rattle.mlg_rules.proofs.LogLaws.{IsBlock, Next, Stands, a_block, the_end, refused, stands_at, step, parts_length, log_end, log_refused, log_more}
 
@@ -70,10 +67,10 @@ pub at_fits : (l n : ℕ) (f : List ℕ) (at : ℕ) (b : Block) → read_block_o
 at_fits l n f at b e g = fits_by l n f at b (rw e at (stands_at l n f at)) g
 
 -- a header that is refused
-pub count_none : (f : List ℕ) (b : Head) → read_header_of f ≡ b → OneOf (1 ∷ []) (tag_of head-type.the_type b)
+pub count_none : (f : List ℕ) (b : Head) → read_header_of f ≡ b → ((h : Header) → b ≡ head.Is h → ⊥)
     → ◌≡◌ {A = Tally} (record { blocks = 0; ending = (head_answer b).0; place = 0 }) (count_blocks_of f)
 unfolding count_blocks_of tally_head head_answer
-count_none f (head.Is h) e g = absurd (omega arith)
+count_none f (head.Is h) e g = absurd (g h refl)
 count_none f (head.Refused n) e g = rw e
 
 pub count_is : (f : List ℕ) (h : Header) → read_header_of f ≡ head.Is h → tally_of h.size (log_of h.size f h.begin) ≡ count_blocks_of f
