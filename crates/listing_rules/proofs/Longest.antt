@@ -16,7 +16,6 @@ use Rattle.mlg_rules.specs.declared.Header.{Header}
 use Rattle.mlg_rules.specs.declared.Head.{Head}
 use Rattle.mlg_rules.specs.declared.Head.TheVariants as head
 use Rattle.mlg_rules.specs.declared.Block.{Block}
-use Rattle.mlg_rules.specs.declared.Block.TheVariants.{Refused}
 use Rattle.mlg_rules.proofs.LogLaws.{IsBlock, Stands, a_block, the_end, refused, stands_at, parts_block}
 use Rattle.mlg_rules.proofs.TallyLaws.{at_fits}
 use Rattle.listing_rules.specs.Lines.{block_line}

@@ -2,10 +2,8 @@
 use Prim.Native.Nat.{ℕ}
 use mathlib.Core.Path.{◌≡◌, refl}
 use mathlib.Core.Bool.{false, not}
-use mathlib.Core.List.{List, [], ◌∷◌}
+use mathlib.Core.List.{List}
 use native.Mathlib.Omega.{arith}
-use types.Run.{OneOf}
-use denote.Enum.Declared.{tag_of}
 use borrow.Author.Tests.{eqb-true, not-false}
 use lib.Dec.{eqb}
 use lib.IntN.{ℤ}
@@ -17,7 +15,6 @@ use Rattle.mlg_rules.specs.Field.{type_of, field_size}
 use Rattle.mlg_rules.specs.Raw.{value_field_number, value_number, raw_of, raw_value_of}
 use Rattle.mlg_rules.specs.declared.RawValue.{RawValue}
 use Rattle.mlg_rules.specs.declared.RawValue.TheVariants as R
-use Rattle.mlg_rules.specs.contracts.RawValue.{the_type}
 
 raw_given : (v : ℕ) (d b : List ℕ) → value_number v d b ≡ 0 → R.Is (raw_of (type_of d) b) ≡ raw_value_of v d b
 unfolding raw_value_of
@@ -26,8 +23,8 @@ raw_given v d b e = stands R.Is R.Refused (value_number v d b) _ _ e refl
 pub raw_is : (v : ℕ) (d b : List ℕ) (r : RawValue) (z : ℤ) → value_number v d b ≡ 0 → r ≡ raw_value_of v d b → r ≡ R.Is z → z ≡ raw_of (type_of d) b
 raw_is v d b r z e p q = let s = raw_given v d b e in cc
 
-pub raw_not_refused : (v : ℕ) (d b : List ℕ) (r : RawValue) → value_number v d b ≡ 0 → r ≡ raw_value_of v d b → OneOf (1 ∷ []) (tag_of the_type r) → ⊥
-raw_not_refused v d b (R.Is z) e p k = omega arith
+pub raw_not_refused : (v : ℕ) (d b : List ℕ) (r : RawValue) → value_number v d b ≡ 0 → r ≡ raw_value_of v d b → ((z : ℤ) → r ≡ R.Is z → ⊥) → ⊥
+raw_not_refused v d b (R.Is z) e p k = k z refl
 raw_not_refused v d b (R.Refused n) e p k = let s = raw_given v d b e in let w : ◌≡◌ {A = ℕ} 0 1 = cc in omega arith
 
 pub equal : (a b : ℕ) → not (eqb a b) ≡ false → a ≡ b
