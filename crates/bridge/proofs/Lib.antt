@@ -8,5 +8,3 @@ pub mod Turns
 pub mod Replies
 pub mod Spans
 pub mod Closings
-pub mod WalkedFunctions
-pub mod BridgeBorrows
