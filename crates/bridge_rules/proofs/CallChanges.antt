@@ -93,7 +93,7 @@ sets_copied b p bytes l = record {
   copied = λ i m. get_d_sets_in b p bytes i l m;
   before = λ i m. get_d_sets_below b p bytes i m;
   after = λ i m. get_d_sets_above b p bytes i m;
-  same_length_lem = length-sets b p bytes;
+  same_length = length-sets b p bytes;
 }
 
 -- ── openings ───────────────────────────────────────────────────────────────────────────────────────────────────────
@@ -266,7 +266,7 @@ module _ (s : Bridge) (b : Buffers) (f : Frame) (k : ℕ) (h : Sound s) (lb : Ri
       copied = λ i m. copied.copied i (omega (arith, long)) ∙ content_byte i m;
       before = copied.before;
       after = λ i m. copied.after i (omega (arith, long));
-      same_length_lem = copied.same_length_lem;
+      same_length = copied.same_length;
     });
     moves = subst (λ (y : Slot). MovesOn (slot s k) y f.len) (sym (set_here _ (sets b.first place (content f))))
         (advanced_moves (slot s k) f.len brings.0 brings.2);

@@ -50,7 +50,7 @@ pub record Copied (b b' : List ℕ) (p n : ℕ) (bytes : List ℕ) : Type 0 wher
   pub copied : (i : ℕ) → i < n → get_or b' (p + i) 0 ≡ get_or bytes i 0
   pub before : (i : ℕ) → i < p → get_or b' i 0 ≡ get_or b i 0
   pub after : (i : ℕ) → p + n ≤ i → get_or b' i 0 ≡ get_or b i 0
-  pub same_length_lem : length b' ≡ length b
+  pub same_length : length b' ≡ length b
 
 -- ── Openings ───────────────────────────────────────────────────────────────────────────────────────────────────────
 

@@ -42,7 +42,7 @@ module _ (d : Directory) (k : ℕ) (from to : List ℕ) (l : k < 32) (whole : le
   unfolding copy_table table
   table_copied = record {
     within = (omega (arith, table_within d k l), omega (arith, table_within d k l));
-    same_length_lem = length-sets to (start_of d k) table;
+    same_length = length-sets to (start_of d k) table;
     equal = λ i h. sets_in to (start_of d k) table within i (omega (arith, table_length))
         ∙ get_or-take (size_of d k) (drop (start_of d k) from) i 0 h ∙ get_or-drop (start_of d k) from i 0;
     others = outside;
@@ -51,7 +51,7 @@ module _ (d : Directory) (k : ℕ) (from to : List ℕ) (l : k < 32) (whole : le
 
 -- a table copied to another memory, and back from there: nothing changes
 pub copied_back : (d : Directory) (k : ℕ) (from to mid after : List ℕ) → TableCopied d k from to mid → TableCopied d k mid from after → after ≡ from
-copied_back d k from to mid after a b = ext_get_or 0 after from b.same_length_lem (λ j l. at j (dec_lt j (start_of d k)) (dec_lt j (start_of d k + size_of d k)))
+copied_back d k from to mid after a b = ext_get_or 0 after from b.same_length (λ j l. at j (dec_lt j (start_of d k)) (dec_lt j (start_of d k + size_of d k)))
   where
     at : (j : ℕ) → Dec (j < start_of d k) → Dec (j < start_of d k + size_of d k) → get_or after j 0 ≡ get_or from j 0
     at j (yes p) q = b.others j (inl p)

@@ -101,7 +101,7 @@ module _ (d : Device) (f : Frame) (w : IsFrame f) (ok : Accepted d f) (s : Serve
         in_table = r.0;
         in_memory = r.1;
         same_tables = rw e;
-        same_length_lem = rw e (length-sets m (place_of d f) (content f));
+        same_length = rw e (length-sets m (place_of d f) (content f));
         addressed = λ i lt. rw e (sets_in m (place_of d f) (content f) fit i (omega (arith, l)) ∙ content_at f i lt);
         others = λ j o. rw e (sets_outside m (place_of d f) (content f) fit j (rw l o));
         other_tables = λ k i lt h n. rw e (sets_outside m (place_of d f) (content f) fit _ (rw l (apart_place k i h n r.0)));

@@ -22,7 +22,7 @@ pub record CommandServed (e : Device) (f : Frame) (s : Served) (after : Device) 
   pub in_table : id_offset f.id + f.len ≤ size_at e f
   pub in_memory : place_of e f + f.len ≤ length e.memory
   pub same_tables : SameTables e after
-  pub same_length_lem : length after.memory ≡ length e.memory
+  pub same_length : length after.memory ≡ length e.memory
   pub addressed : (i : ℕ) → i < f.len → get_or after.memory (place_of e f + i) 0 ≡ byte_of f i
   pub others : (j : ℕ) → (j < place_of e f) ⊎ (place_of e f + f.len ≤ j) → get_or after.memory j 0 ≡ get_or e.memory j 0
   pub other_tables : (k i : ℕ) → k < 32 → i < size_of e.directory k → k ≢ table_of f
@@ -59,7 +59,7 @@ pub record QueryServed (e : Device) (f : Frame) (s : Served) (after : Device) : 
 -- `to`, which is `after` afterwards
 pub record TableCopied (d : Directory) (k : ℕ) (from to after : List ℕ) : Type 0 where
   pub within : (start_of d k + size_of d k ≤ length from) × (start_of d k + size_of d k ≤ length to)
-  pub same_length_lem : length after ≡ length to
+  pub same_length : length after ≡ length to
   pub equal : (i : ℕ) → i < size_of d k → get_or after (start_of d k + i) 0 ≡ get_or from (start_of d k + i) 0
   pub others : (j : ℕ) → (j < start_of d k) ⊎ (start_of d k + size_of d k ≤ j) → get_or after j 0 ≡ get_or to j 0
   pub other_tables : (l i : ℕ) → l < 32 → i < size_of d l → l ≢ k → get_or after (start_of d l + i) 0 ≡ get_or to (start_of d l + i) 0
