@@ -34,7 +34,9 @@ returns-then-n-ne0 c =
     (c.plain.ensures ∙ g.0, g.1)
 
 pub offset_bounds-slots-k : goal.offset_bounds-slots-k
-offset_bounds-slots-k c = omega (arith, bounded (not_refused (goal.at.offset_bounds-slots-k c).Start _ _ c.judge_reply-judged.ensures c.if-n-ne0.false))
+offset_bounds-slots-k c =
+    let a = not_refused (goal.at.offset_bounds-slots-k c).Start _ _ c.judge_reply-judged.ensures c.if-n-ne0.false in
+    omega (arith, bounded a)
 
 pub bounds-slots-k : goal.bounds-slots-k
 bounds-slots-k c = omega (arith, bounded (not_refused (goal.at.bounds-slots-k c).Start _ _ c.judge_reply-judged.ensures c.if-n-ne0.false))
@@ -48,10 +50,14 @@ differs-requires c =
     (bounded t, fits.0, reply_compared s.args.b (lent s) s.args.f t.judged _ t.awaited)
 
 pub offset_bounds-slots-k-then-differs : goal.offset_bounds-slots-k-then-differs
-offset_bounds-slots-k-then-differs c = omega (arith, bounded (not_refused (goal.at.offset_bounds-slots-k-then-differs c).Start _ _ c.judge_reply-judged.ensures c.if-n-ne0.false))
+offset_bounds-slots-k-then-differs c =
+    let a = not_refused (goal.at.offset_bounds-slots-k-then-differs c).Start _ _ c.judge_reply-judged.ensures c.if-n-ne0.false in
+    omega (arith, bounded a)
 
 pub bounds-slots-k-then-differs : goal.bounds-slots-k-then-differs
-bounds-slots-k-then-differs c = omega (arith, bounded (not_refused (goal.at.bounds-slots-k-then-differs c).Start _ _ c.judge_reply-judged.ensures c.if-n-ne0.false))
+bounds-slots-k-then-differs c =
+    let a = not_refused (goal.at.bounds-slots-k-then-differs c).Start _ _ c.judge_reply-judged.ensures c.if-n-ne0.false in
+    omega (arith, bounded a)
 
 pub returns-then-differs : goal.returns-then-differs
 unfolding slot differed
@@ -69,7 +75,9 @@ pub overflow_add-k : goal.overflow_add-k
 overflow_add-k c = omega (arith, bounded (not_refused (goal.at.overflow_add-k c).Start _ _ c.judge_reply-judged.ensures c.if-n-ne0.false))
 
 pub offset_bounds-slots-k-2 : goal.offset_bounds-slots-k-2
-offset_bounds-slots-k-2 c = omega (arith, bounded (not_refused (goal.at.offset_bounds-slots-k-2 c).Start _ _ c.judge_reply-judged.ensures c.if-n-ne0.false))
+offset_bounds-slots-k-2 c =
+    let a = not_refused (goal.at.offset_bounds-slots-k-2 c).Start _ _ c.judge_reply-judged.ensures c.if-n-ne0.false in
+    omega (arith, bounded a)
 
 pub bounds-slots-k-2 : goal.bounds-slots-k-2
 bounds-slots-k-2 c = omega (arith, bounded (not_refused (goal.at.bounds-slots-k-2 c).Start _ _ c.judge_reply-judged.ensures c.if-n-ne0.false))

@@ -33,8 +33,14 @@ returns-then-lowest_givable-eq4 c =
 
 pub returns-then-b-ge4294967295 : goal.returns-then-b-ge4294967295
 unfolding room_number
-returns-then-b-ge4294967295 c = rw (free-found (goal.at.returns-then-b-ge4294967295 c).Else-lowest_free-eq4, givable-found (goal.at.returns-then-b-ge4294967295 c).Else-lowest_givable-eq4) (search order depth 12)
+returns-then-b-ge4294967295 c =
+    let f = free-found (goal.at.returns-then-b-ge4294967295 c).Else-lowest_free-eq4 in
+    let g = givable-found (goal.at.returns-then-b-ge4294967295 c).Else-lowest_givable-eq4 in
+    rw (f, g) (search order depth 12)
 
 pub returns : goal.returns
 unfolding room_number
-returns c = rw (free-found (goal.at.returns c).Else-lowest_free-eq4, givable-found (goal.at.returns c).Else-lowest_givable-eq4) (search order depth 12)
+returns c =
+    let f = free-found (goal.at.returns c).Else-lowest_free-eq4 in
+    let g = givable-found (goal.at.returns c).Else-lowest_givable-eq4 in
+    rw (f, g) (search order depth 12)
