@@ -5,7 +5,7 @@ use mathlib.Core.Bool.{Bool, true, false, not, ◌&&◌, ◌||◌, and-true, and
 use mathlib.Core.List.{List, [], ◌∷◌, map}
 use native.Mathlib.Omega.{arith}
 use native.Mathlib.Numerals.{add-one}
-use lib.ListN.{length, get_or, drop, drop_of_length-le, length-map}
+use lib.ListN.{length, get_or, drop, drop_of_length-le}
 use lib.Seq.{drop-cons}
 use lib.Dec.{eqb, leb}
 use borrow.Author.Tests.{le-leb, eq-eqb}
@@ -24,10 +24,6 @@ four d (a ∷ b ∷ c ∷ e ∷ f ∷ l) h = absurd (omega arith)
 pub map_four : {A B : Type 0} (f : A → B) (d : A) (l : List A) → length l ≡ 4
     → f (get_or l 0 d) ∷ f (get_or l 1 d) ∷ f (get_or l 2 d) ∷ f (get_or l 3 d) ∷ [] ≡ map f l
 map_four f d l h = ap (map f) (sym (four d l h))
-
--- a bridge has four slots, as its declared type says it
-pub four_slots : {B : Type 0} (s : Bridge) (f : Slot → B) → length (map f s.slots) ≡ 4 → length s.slots ≡ 4
-four_slots s f h = sym (length-map s.slots f) ∙ h
 
 abbrev pub apart : Slot → Slot → Bool
 apart x y = eqb x.ticket 0 || not (eqb y.ticket x.ticket)
