@@ -3,10 +3,6 @@ use Rattle.mlg_rules.specs.Types.{size_of}
 use Rattle.mlg_rules.proofs.TypeLaws.{size_none}
 use Rattle.mlg_values.proofs.size_of.Goals as goal
 
--- ?? need gone: array-read-result
--- array-read-result : tie.Need-array-read-result
--- array-read-result c = search rules
-
 pub returns-then-k-lt13 : goal.returns-then-k-lt13
 unfolding size_of
 returns-then-k-lt13 c = refl
