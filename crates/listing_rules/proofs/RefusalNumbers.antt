@@ -13,7 +13,8 @@ use Rattle.wire.specs.Log.{judged}
 use Rattle.mlg_rules.specs.Layout.{field_len}
 use Rattle.mlg_rules.specs.Field.{type_number}
 use Rattle.mlg_rules.specs.Fields.{texts_number, names_number, field_number, fields_number}
-use Rattle.mlg_rules.specs.Header.{fields_end, name_number, places_number, last_number, body_number, read_header_number, read_header_of, numbers_of, fields_from, area_in}
+use Rattle.mlg_rules.specs.Header.{fields_end, name_number, places_number, last_number, body_number}
+use Rattle.mlg_rules.specs.Header.{read_header_number, read_header_of, numbers_of, fields_from, area_in}
 use Rattle.mlg_rules.specs.Block.{last_of, rest_number, parts_of, block_of, place_number, read_block_of}
 use Rattle.mlg_rules.specs.declared.Header.{Header}
 use Rattle.mlg_rules.specs.declared.Head.TheVariants as head

@@ -39,10 +39,16 @@ module _ (l : ℕ) (t r : List ℕ) where
     number_alone : (block_len l (type_in t) ≡ 0 → ⊥) → block_len l (type_in t) ≤ length t → rest_number l (t ++ r) ≡ rest_number l t
     unfolding rest_number
     number_alone e h =
-        rw (first, last_alone (type_in t) e h, le-ltb (length (t ++ r)) (block_len l (type_in t)) (le_trans h longer), le-ltb (length t) (block_len l (type_in t)) h)
+        rw (
+          first,
+          last_alone (type_in t) e h,
+          le-ltb (length (t ++ r)) (block_len l (type_in t)) (le_trans h longer),
+          le-ltb (length t) (block_len l (type_in t)) h,
+        )
 
     judged_alone : (n c at : ℕ) → block_len l (type_in t) ≡ n → block_len l (type_in t) ≤ length t
-        → judged Refused (rest_number l (t ++ r)) at (parts_of (type_in (t ++ r)) c at (t ++ r)) ≡ judged Refused (rest_number l t) at (parts_of (type_in t) c at t)
+        → judged Refused (rest_number l (t ++ r)) at (parts_of (type_in (t ++ r)) c at (t ++ r))
+        ≡ judged Refused (rest_number l t) at (parts_of (type_in t) c at t)
     unfolding judged
     judged_alone zero c at e h = rw (unknown (t ++ r) 0 (ap (block_len l) first ∙ e) refl, unknown t 0 e refl)
     judged_alone (suc n) c at e h =

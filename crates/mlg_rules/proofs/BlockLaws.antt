@@ -73,7 +73,8 @@ unfolding read_block_of place_number
 at_within l n f at h = judged_yes _ at _ (sym (if_no 23 _ 0 0 (le-ltb _ _ h) refl))
 
 -- what a block's answer says
-judged_values : (l n at : ℕ) (b : Block) (v : BlockAnswer) → block_answer l b ≡ v → block_answer l (judged Refused n at b) ≡ judged (no_block refused_kind) n at v
+judged_values : (l n at : ℕ) (b : Block) (v : BlockAnswer) → block_answer l b ≡ v
+    → block_answer l (judged Refused n at b) ≡ judged (no_block refused_kind) n at v
 unfolding judged block_answer
 judged_values l zero at b v e = e
 judged_values l (suc n) at b v e = refl
@@ -88,12 +89,14 @@ unfolding block_of rest_result block_answer
 rest_values l c at [] = refl
 rest_values l c at (b ∷ t) = judged_values l _ at _ _ (part_values_lem l b c at (b ∷ t))
 
-pub block_means : {r : Block} (l n : ℕ) (f : List ℕ) (at : ℕ) → r ≡ read_block_of l n f at → (r ≡ read_block_of l n f at) × (block_answer l r ≡ block_result l n f at)
+pub block_means : {r : Block} (l n : ℕ) (f : List ℕ) (at : ℕ) → r ≡ read_block_of l n f at
+    → (r ≡ read_block_of l n f at) × (block_answer l r ≡ block_result l n f at)
 unfolding read_block_of block_result
 block_means l n f at e = (e, ap (block_answer l) e ∙ judged_values l _ at _ _ (rest_values l (counter_after n) at (drop at f)))
 
 -- what a block that no number refuses keeps to
-pub whole : (l : ℕ) (t : List ℕ) → rest_number l t ≡ 0 → (block_len l (type_in t) ≡ 0 → ⊥) × (block_len l (type_in t) ≤ length t) × (last_of (type_in t) l t ≡ 0)
+pub whole : (l : ℕ) (t : List ℕ) → rest_number l t ≡ 0
+    → (block_len l (type_in t) ≡ 0 → ⊥) × (block_len l (type_in t) ≤ length t) × (last_of (type_in t) l t ≡ 0)
 unfolding rest_number
 whole l t e =
     let a = if_zero 24 _ _ e in
@@ -106,7 +109,8 @@ unfolding parts_of
 parts_data zero c at t e = refl
 parts_data (suc k) c at t e = absurd (omega arith)
 
-pub parts_mark : (k c at : ℕ) (t : List ℕ) → (k ≡ 0 → ⊥) → parts_of k c at t ≡ Mark (counter_in t) (time_in t) (at + 4) (text_len (text_in t)) (eqb (counter_in t) c)
+pub parts_mark : (k c at : ℕ) (t : List ℕ) → (k ≡ 0 → ⊥)
+    → parts_of k c at t ≡ Mark (counter_in t) (time_in t) (at + 4) (text_len (text_in t)) (eqb (counter_in t) c)
 unfolding parts_of
 parts_mark zero c at t e = absurd (e refl)
 parts_mark (suc k) c at t e = refl

@@ -32,11 +32,13 @@ text_part at f =
 
 -- what a block says, in bytes
 entry_bytes_lem : (k l n at : ℕ) (f : List ℕ) (es : List Entry)
-    → entries_bytes n (entry_in l f (parts_of k (counter_after n) at (drop at f)) ++ es) ≡ rewritten k l (counter_after n) (drop at f) ++ entries_bytes (n + 1) es
+    → entries_bytes n (entry_in l f (parts_of k (counter_after n) at (drop at f)) ++ es)
+    ≡ rewritten k l (counter_after n) (drop at f) ++ entries_bytes (n + 1) es
 unfolding parts_of rewritten
 entry_bytes_lem zero l n at f es =
     ap (λ (x : List ℕ). data_bytes (counter_after n) (time_in (drop at f)) (take l x) ++ entries_bytes (n + 1) es) (sym (drop-drop 4 at f))
-entry_bytes_lem (suc k) l n at f es = ap (λ (x : List ℕ). mark_bytes (counter_after n) (time_in (drop at f)) x ++ entries_bytes (n + 1) es) (sym (text_part at f))
+entry_bytes_lem (suc k) l n at f es =
+    ap (λ (x : List ℕ). mark_bytes (counter_after n) (time_in (drop at f)) x ++ entries_bytes (n + 1) es) (sym (text_part at f))
 
 as_expected_here : (k c at : ℕ) (t : List ℕ) → AsExpected (parts_of k c at t) → counter_in t ≡ c
 unfolding parts_of

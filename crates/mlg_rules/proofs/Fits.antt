@@ -107,7 +107,8 @@ ended_most (b ∷ l) = omega (arith, length-append l (0 ∷ []))
 -- the file's length, as it is tested
 module _ (v : ℕ) (f n i : List ℕ) (r hl : ℕ) (er : r ≡ length (ended i)) (eh : hl ≡ header_len v) (few : length f / field_len v ≤ 65535) where
   pub too_long_lem : 4294967295 - (hl + length f) < length n + r → ltb 4294967295 (header_len v + length f + length (area_of n i)) ≡ true
-  too_long_lem h = lt-ltb 4294967295 (header_len v + length f + length (area_of n i)) (omega (arith, area_length n i, fields_few v (length f) few, header_most v))
+  too_long_lem h =
+      lt-ltb 4294967295 (header_len v + length f + length (area_of n i)) (omega (arith, area_length n i, fields_few v (length f) few, header_most v))
 
   pub not_long : length n + r ≤ 4294967295 - (hl + length f) → ltb 4294967295 (header_len v + length f + length (area_of n i)) ≡ false
   not_long h = le-ltb 4294967295 (header_len v + length f + length (area_of n i)) (omega (arith, area_length n i, fields_few v (length f) few, header_most v))

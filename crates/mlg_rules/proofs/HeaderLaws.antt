@@ -37,6 +37,7 @@ placed n h e =
     }
 
 -- what a header's answer says
-pub head_means : (f : List ℕ) (r : Head) → r ≡ read_header_of f → (r ≡ read_header_of f) × (head_answer r ≡ result_of no_header (read_header_number f) (numbers_of f))
+pub head_means : (f : List ℕ) (r : Head) → r ≡ read_header_of f
+    → (r ≡ read_header_of f) × (head_answer r ≡ result_of no_header (read_header_number f) (numbers_of f))
 unfolding read_header_of head_answer
 head_means f r = means Is Refused no_header head_answer (λ h. refl) (λ n. refl) r _ _

@@ -31,7 +31,8 @@ record Reads (l : ℕ) (es : List Entry) (f : List ℕ) (log : Log) : Type 0 whe
   many : length log.blocks ≡ length es
   place : log.place ≡ length f
 
-same_reads : (k l n : ℕ) (es : List Entry) (f g : List ℕ) (at to : ℕ) → f ≡ g → at ≡ to → Reads l es f (log_from k l n f at) → Reads l es g (log_from k l n g to)
+same_reads : (k l n : ℕ) (es : List Entry) (f g : List ℕ) (at to : ℕ) → f ≡ g → at ≡ to
+    → Reads l es f (log_from k l n f at) → Reads l es g (log_from k l n g to)
 same_reads k l n es f g at to p q r = rw (← p, ← q) r
 
 -- where nothing is left

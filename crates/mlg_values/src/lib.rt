@@ -11,7 +11,8 @@ ghost use Rattle.mlg_rules.specs.Layout.{served, layout_of};
 ghost use Rattle.mlg_rules.specs.Types.{size_of};
 ghost use Rattle.mlg_rules.specs.Field.{type_number, type_of, field_size};
 ghost use Rattle.mlg_rules.specs.Raw.{value_field_number, value_number, raw_of, raw_value_of, raw_answer};
-ghost use Rattle.mlg_rules.specs.Shown.{shows, finite, raw_float, scaled, scaled_number, apply_of, shown_number, shown_of, shown_value_of, zero_float, shown_answer};
+ghost use Rattle.mlg_rules.specs.Shown.{shows, finite, raw_float, scaled, scaled_number, apply_of, shown_number, shown_of};
+ghost use Rattle.mlg_rules.specs.Shown.{shown_value_of, zero_float, shown_answer};
 ghost use Rattle.mlg_rules.specs.Shown.{scaling_in, parts_number, scaling_number, scaling_of, zero_scaling, scaling_answer};
 
 pub use mlg_rules::{FieldScaling, Layout, RawValue, Scaling, ShownValue};

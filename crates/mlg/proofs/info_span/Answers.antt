@@ -31,11 +31,15 @@ returns-then-info-eq0 c =
     given _ _ _ 0 0 f c.span_of-then-info-eq0.ensures stands (sym z) (sym (info_none f _ z)) (omega arith)
 
 pub slice_bounds-text_len-count : goal.slice_bounds-text_len-count
-slice_bounds-text_len-count c = let p = in-file c.args.file.now c.numbers-h.result c.numbers-h.ensures (sym c.read_header_number-number.ensures ∙ c.if-number-ne0.false) in
+slice_bounds-text_len-count c =
+    let stands = sym c.read_header_number-number.ensures ∙ c.if-number-ne0.false in
+    let p = in-file c.args.file.now c.numbers-h.result c.numbers-h.ensures stands in
     omega (arith, p.info_before_lem c.if-info-eq0.false, p.data_begins)
 
 pub slice_bounds-text_len-start : goal.slice_bounds-text_len-start
-slice_bounds-text_len-start c = let p = in-file c.args.file.now c.numbers-h.result c.numbers-h.ensures (sym c.read_header_number-number.ensures ∙ c.if-number-ne0.false) in
+slice_bounds-text_len-start c =
+    let stands = sym c.read_header_number-number.ensures ∙ c.if-number-ne0.false in
+    let p = in-file c.args.file.now c.numbers-h.result c.numbers-h.ensures stands in
     omega (arith, p.info_before_lem c.if-info-eq0.false, p.data_begins)
 
 pub returns : goal.returns

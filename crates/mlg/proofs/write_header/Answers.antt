@@ -9,7 +9,13 @@ use Rattle.mlg_rules.proofs.HeaderBytes.{header_fits, header_length}
 use Rattle.mlg.proofs.write_header.Goals as goal
 
 pub returns-then-number-ne0 : goal.returns-then-number-ne0
-returns-then-number-ne0 c = record { fact = refuses _ _ _ _ c.write_header_number-number.ensures c.if-number-ne0.true; back = header_back; log = log_back; same = log_same; examples = examples }
+returns-then-number-ne0 c = record {
+  fact = refuses _ _ _ _ c.write_header_number-number.ensures c.if-number-ne0.true;
+  back = header_back;
+  log = log_back;
+  same = log_same;
+  examples = examples;
+}
 
 pub put_header-requires : goal.put_header-requires
 put_header-requires c =

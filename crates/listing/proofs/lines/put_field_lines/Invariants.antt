@@ -13,7 +13,8 @@ invariant-loop-index l =
     × (l.place ≡ 89 * l.index)
     × (l.next ≤ l.at + 100 * l.index)
     × (length l.out ≡ length l.initial.out)
-    × Completes l.initial.out l.at (field_lines l.version 0 l.count l.fields) l.out l.next (field_lines l.version l.index (l.count - l.index) (drop l.place l.fields))
+    × Completes l.initial.out l.at (field_lines l.version 0 l.count l.fields) l.out l.next
+    (field_lines l.version l.index (l.count - l.index) (drop l.place l.fields))
 
 abbrev pub decreases-loop-index : goal.decreases-loop-index
 decreases-loop-index l = l.count - l.index

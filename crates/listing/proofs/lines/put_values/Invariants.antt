@@ -16,7 +16,8 @@ invariant-loop-left l =
     × (l.next + 22 * l.left ≤ l.at + 22 * l.count)
     × (length l.out ≡ length l.initial.out)
     × ValuesNotRefused l.version l.left (drop l.place l.fields) (drop l.start l.bytes)
-    × Completes l.initial.out l.at (values_text l.version l.count l.fields l.bytes) l.out l.next (values_text l.version l.left (drop l.place l.fields) (drop l.start l.bytes))
+    × Completes l.initial.out l.at (values_text l.version l.count l.fields l.bytes) l.out l.next
+    (values_text l.version l.left (drop l.place l.fields) (drop l.start l.bytes))
 
 abbrev pub decreases-loop-left : goal.decreases-loop-left
 decreases-loop-left l =

@@ -13,7 +13,8 @@ invariant-loop-left l =
     × (l.n + l.left ≤ length l.file + 1)
     × (l.next ≤ l.at + 2 ^ 21 * l.n)
     × (length l.out ≡ length l.initial.out)
-    × Completes l.initial.out l.at (log_lines l.h l.file 0 (log_of l.h.size l.file l.h.begin)) l.out l.next (log_lines l.h l.file l.n (log_from l.left l.h.size l.n l.file l.place))
+    × Completes l.initial.out l.at (log_lines l.h l.file 0 (log_of l.h.size l.file l.h.begin)) l.out l.next
+    (log_lines l.h l.file l.n (log_from l.left l.h.size l.n l.file l.place))
 
 abbrev pub decreases-loop-left : goal.decreases-loop-left
 decreases-loop-left l = l.left

@@ -8,7 +8,11 @@ use Rattle.mlg.proofs.fields.last_zeros.Given as goal
 
 abbrev pub invariant-loop-k : goal.invariant-loop-k
 invariant-loop-k l =
-    Found (area_of l.names l.info) l.last l.k × (zeros (drop l.end (area_of l.names l.info)) ≡ l.k) × (length l.last ≡ 32) × (l.end ≤ length l.names) × (l.k ≤ 32)
+    Found (area_of l.names l.info) l.last l.k
+    × (zeros (drop l.end (area_of l.names l.info)) ≡ l.k)
+    × (length l.last ≡ 32)
+    × (l.end ≤ length l.names)
+    × (l.k ≤ 32)
 
 abbrev pub decreases-loop-k : goal.decreases-loop-k
 decreases-loop-k l = 32 - l.k

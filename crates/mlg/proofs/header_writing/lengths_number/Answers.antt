@@ -38,7 +38,9 @@ pub overflow_add-header_len : goal.overflow_add-header_len
 overflow_add-header_len c = omega (arith, c.header_len.ensures, header_most c.args.version)
 
 pub overflow_sub-header_len : goal.overflow_sub-header_len
-overflow_sub-header_len c = omega (arith, c.header_len.ensures, header_most c.args.version, fields_few _ _ (rw c.field_len-each.ensures at c.if-count-gt65535.false))
+overflow_sub-header_len c =
+    let few = rw c.field_len-each.ensures at c.if-count-gt65535.false in
+    omega (arith, c.header_len.ensures, header_most c.args.version, fields_few _ _ few)
 
 pub returns-then-header_len-len : goal.returns-then-header_len-len
 unfolding lengths_number
