@@ -2,4 +2,4 @@ use Rattle.reckonings.proofs.Reckonings.{reckoned}
 use Rattle.cases.proofs.run.Goals as goal
 
 pub returns : goal.returns
-returns g c = reckoned
+returns g c = record { reckoned = reckoned }
