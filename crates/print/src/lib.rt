@@ -3,7 +3,7 @@
 #![tactic(auto)]
 
 ghost use Rattle.std.specs.Prelude.{◌≡◌, false, [], ◌∷◌, ◌<◌, min, max, length};
-ghost use Rattle.io.specs.Digits.{hex_digit_ascii as glyphOf};
+ghost use Rattle.io.specs.Digits.{hex_digit_ascii};
 ghost use Rattle.print.specs.Print.{hex_byte, Puts, PutsNumber, put_bytes, next_bytes};
 
 // Puts a text.
@@ -49,7 +49,7 @@ pub fn hex(out: &mut [u8], at: usize, x: u64, width: usize) -> usize
 // A digit below 16.
 fn glyph(d: u8) -> u8
     requires { d < 16 }
-    ensures { result ≡ glyphOf d }
+    ensures { result ≡ hex_digit_ascii d }
 {
     if d < 10 { 48 + d } else { 87 + d }
 }
