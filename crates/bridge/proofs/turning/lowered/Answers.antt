@@ -3,22 +3,6 @@ use Rattle.bridge_rules.specs.Turn.{lowered}
 use Rattle.bridge.proofs.FourSlots.{map_four}
 use Rattle.bridge.proofs.turning.lowered.Goals as goal
 
--- ?? need gone: array-read-one-smaller
--- array-read-one-less : tie.Need-array-read-one-smaller
--- array-read-one-less c = search rules
-
--- ?? need gone: array-read-one-smaller-2
--- array-read-one-less-2 : tie.Need-array-read-one-smaller-2
--- array-read-one-less-2 c = search rules
-
--- ?? need gone: array-read-one-smaller-3
--- array-read-one-less-3 : tie.Need-array-read-one-smaller-3
--- array-read-one-less-3 c = search rules
-
--- ?? need gone: array-read-one-smaller-4
--- array-read-one-less-4 : tie.Need-array-read-one-smaller-4
--- array-read-one-less-4 c = search rules
-
 pub returns : goal.returns
 returns c =
     rw (
