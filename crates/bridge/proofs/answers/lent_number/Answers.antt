@@ -2,6 +2,7 @@ use Prim.Native.Nat.{ℕ}
 use mathlib.Core.Path.{◌≡◌}
 use mathlib.Core.Bool.{false, ◌&&◌, and-false}
 use lib.Dec.{eqb}
+use native.Mathlib.Omega.{arith}
 use borrow.Author.Tests.{eq-eqb, ne_eqb}
 use Rattle.bridge_rules.specs.Answers.{lent_number}
 use Rattle.wire.proofs.Orders.{order}
@@ -36,6 +37,6 @@ returns c =
     let a = c.args in
     rw (
       ← c.sound.ensures,
-      eq-eqb a.n 512 c.if-n-ne512.false,
-      eq-eqb a.m 512 c.if-m-ne512.false,
+      eq-eqb a.n 512 (omega arith),
+      eq-eqb a.m 512 (omega arith),
     ) (search order depth 12)

@@ -1,22 +1,18 @@
-use Rattle.std.proofs.Common.{◌≡◌, ◌+◌, ◌<◌, length, take, refl, ap, ◌∙◌, arith, take_all, rules}
+use Rattle.std.proofs.Common.{◌≡◌, ◌+◌, length, take, refl, ap, ◌∙◌, arith, take_all, rules}
 use lib.Seq.{sets, length-sets}
 use Rattle.bus_rules.specs.Frames.{content}
 use Rattle.bus_rules.proofs.FrameLaws.{content_min, content_at, sets_next, sets_done}
 use Rattle.bus.proofs.frames.copy_content.Goals as goal
-use Rattle.bus.proofs.frames.copy_content.Goals.{Then-i-n, then-i-n, else-i-n}
 
 pub loop-i-init : goal.loop-i-init
 loop-i-init c = (omega arith, refl, refl)
 
 -- a turn that copies is at a byte that counts
-counted : (c : Then-i-n) → c.loop-i.i < length (content c.args.f)
-counted c = omega (arith, content_min c.args.f (search rules))
-
 pub overflow_add-out : goal.overflow_add-out
-overflow_add-out c = omega (arith, counted c.before)
+overflow_add-out c = omega (arith, content_min c.args.f (search rules))
 
 pub bounds-out-at : goal.bounds-out-at
-bounds-out-at c = omega (arith, counted c.before)
+bounds-out-at c = omega (arith, content_min c.args.f (search rules))
 
 pub loop-i-preserved : goal.loop-i-preserved
 loop-i-preserved c =
@@ -27,8 +23,8 @@ loop-i-preserved c =
     let l = content_min a.f (search rules) in
     let e : c.if-i-n.out ≡ sets a.out.now a.at (take (i + 1) bs) =
     elim c.if-i-n.branch [
-      | then-i-n w ↦ w.out-is ∙ rw (inv.2, ← content_at a.f i w.if-i-n.true) (sets_next a.out.now a.at bs i (omega (arith, w.if-i-n.true)))
-      | else-i-n w ↦ w.out-is ∙ inv.2 ∙ sets_done a.out.now a.at bs i (omega (arith, w.if-i-n.false))
+      | goal.then-i-n w ↦ w.out-is ∙ rw (inv.2, ← content_at a.f i w.if-i-n.true) (sets_next a.out.now a.at bs i (omega (arith, w.if-i-n.true)))
+      | goal.else-i-n w ↦ w.out-is ∙ inv.2 ∙ sets_done a.out.now a.at bs i (omega (arith, w.if-i-n.false))
     ] in
     (omega arith, ap length e ∙ length-sets a.out.now a.at (take (i + 1) bs), e)
 
