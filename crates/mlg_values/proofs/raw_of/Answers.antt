@@ -1,4 +1,4 @@
-use mathlib.Core.Path.{refl, sym, ◌∙◌, ap}
+use Rattle.std.proofs.Common.{◌≡◌, ◌≢◌, refl, sym, ◌∙◌, ap}
 use native.Mathlib.Omega.{arith}
 use lib.IntN.{pos}
 use mir.Syntax.{w64}
@@ -47,8 +47,8 @@ returns-then-kind-eq6 c =
 
 pub returns : goal.returns
 returns c =
-    let if1 = c.if-kind-eq1.false in
-    let if2 = c.if-kind-eq3.false in
-    let if4 = c.if-kind-eq6.false in
-    let e = c.be32-2.ensures ∙ whole 4 c.args.raw.now (omega (arith, c.requires, size_plain c.args.kind if4)) in
-    to_z_pos w64 c.be32-2.result (omega arith) ∙ ap pos e ∙ sym (raw_plain _ _ if1 if2 c.if-kind-eq5.false if4)
+    let k = c.args.kind in
+    let other : k ≢ 6 = λ (z : k ≡ 6). omega arith in
+    let e = c.be32-2.ensures ∙ whole 4 c.args.raw.now (omega (arith, c.requires, size_plain k other)) in
+    to_z_pos w64 c.be32-2.result (omega arith) ∙ ap pos e
+    ∙ sym (raw_plain _ _ (λ (z : k ≡ 1). omega arith) (λ (z : k ≡ 3). omega arith) (λ (z : k ≡ 5). omega arith) other)

@@ -16,4 +16,4 @@ returns-then-x-lt3 c =
 pub returns : goal.returns
 returns c =
     let x = c.args.x in
-    c.moved-2.ensures ∙ age_over x c.requires (omega (arith, c.if-x-gt1.false)) (omega (arith, c.if-x-lt3.false))
+    c.moved-2.ensures ∙ age_over x c.requires (omega arith) (omega arith)

@@ -94,7 +94,7 @@ act-requires c =
     let n = number s _ _ _ _ c.table_at-t.ensures c.table_of.ensures c.device_number-unsound.ensures c.if-unsound-ne0.false c.frame_number-number.ensures in
     let k = c.table_of.ensures in
     let d = s.args.d in (
-      omega (arith, n, c.if-number-ne0.false),
+      omega (arith, n),
       c.table_at-t.ensures.0 ∙ ap (start_of d) k,
       c.table_at-t.ensures.1 ∙ ap (size_of d) k,
       c.parts_of-p.ensures,

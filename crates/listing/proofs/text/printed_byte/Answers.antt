@@ -9,4 +9,4 @@ pub returns-then-b-gt126 : goal.returns-then-b-gt126
 returns-then-b-gt126 c = printed_dot_high c.args.b (omega (arith, c.if-b-gt126.true))
 
 pub returns : goal.returns
-returns c = printed_same c.args.b (omega (arith, c.if-b-lt32.false)) (omega (arith, c.if-b-gt126.false))
+returns c = printed_same c.args.b (omega arith) (omega arith)
