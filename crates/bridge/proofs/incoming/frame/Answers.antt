@@ -87,8 +87,7 @@ unfolding slot
 returns c =
     let s = (goal.at.returns c).Start in
     let t = not_refused s _ _ c.judge_reply-judged.ensures c.if-n-ne0.false in
-    let same = sym c.if-differs.false ∙ c.differs.ensures in
-    let g = frame_is s.args.b (lent s) s.args.f t.judged _ t.awaited false same in (
+    let g = frame_is s.args.b (lent s) s.args.f t.judged _ t.awaited false (cc) in (
       c.plain-2.ensures ∙ rw (c.with_slots-2.ensures, c.advanced-y.ensures) g.0,
       c.put_content.ensures ∙ g.1,
     )
