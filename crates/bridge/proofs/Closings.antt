@@ -1,29 +1,24 @@
 -- What a closing is where it is refused, and where it is not.
-use Prim.Native.Nat.{ℕ, ◌<◌}
+use Prim.Native.Nat.{ℕ}
 use mathlib.Core.Path.{◌≡◌}
-use mathlib.Core.Bool.{false}
+use mathlib.Core.Option.{some}
 use lib.ListN.{set}
 use borrow.Author.Tests.{ne_eqb}
-use Rattle.wire.proofs.Orders.{if_zero}
+use Rattle.std.specs.Prelude.{Ok, Err}
+use Rattle.wire.specs.declared.refusal.Refusal.{Refusal}
+use Rattle.wire.specs.Refusals.{code}
+use Rattle.wire.proofs.RefusalLaws.{code_ne0}
 use Rattle.bridge_rules.specs.declared.Bridge.{Bridge}
-use Rattle.bridge_rules.specs.declared.Changed.{Changed}
-use Rattle.bridge_rules.specs.State.{blank, held_slot, is_none, or_zero, or_four, with_slots}
+use Rattle.bridge_rules.specs.State.{blank, held_slot, with_slots}
+use Rattle.bridge_rules.specs.Views.{as_changed}
 use Rattle.bridge_rules.specs.Ending.{close_number, close_of}
-use Rattle.bridge.proofs.Searches.{held_small, slot_found}
 
 module _ (s : Bridge) (t : ℕ) where
-  pub close_refused : (n : ℕ) → n ≡ close_number s t → (n ≡ 0 → ⊥) → ◌≡◌ {A = Changed} (record { bridge = s; number = n }) (close_of s t)
+  pub close_refused : (e : Refusal) → code e ≡ close_number s t → as_changed (record { bridge = s; answer = Err e }) ≡ close_of s t
   unfolding close_of
-  close_refused n e h = rw (← e, ne_eqb n 0 h)
+  close_refused e h = rw (← h, ne_eqb (code e) 0 (code_ne0 e))
 
-  module _ (e : close_number s t ≡ 0) (k : ℕ) (q : k ≡ or_four (held_slot s t)) where
-    close_held : is_none (held_slot s t) ≡ false
-    unfolding close_number
-    close_held = (if_zero 13 _ _ (if_zero 10 _ _ e).1).0
-
-    pub close_at : (k ≡ or_zero (held_slot s t)) × (k < 4)
-    close_at = slot_found (held_slot s t) (held_small s t) q close_held
-
-    pub close_is : ◌≡◌ {A = Changed} (record { bridge = with_slots s (set s.slots k blank); number = 0 }) (close_of s t)
-    unfolding close_of
-    close_is = rw (← close_at.0, e)
+  pub close_frees : 0 ≡ close_number s t → (k : ℕ) → held_slot s t ≡ some k
+      → as_changed (record { bridge = with_slots s (set s.slots k blank); answer = Ok tt }) ≡ close_of s t
+  unfolding close_of
+  close_frees h k q = rw (← h, q)

@@ -1,5 +1,4 @@
 pub mod FourSlots
-pub mod SoundTests
 pub mod Searches
 pub mod MovedSlots
 pub mod SentFrames

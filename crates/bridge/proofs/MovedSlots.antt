@@ -1,46 +1,20 @@
--- The code's slots that age, go on or have sent are the definitions'.
-use Prim.Native.Nat.{ℕ, zero, suc, ◌+◌, ◌-◌, ◌%◌, ◌≤◌, ◌<◌, min}
+-- The code's slots that age are the definition's.
+use Prim.Native.Nat.{ℕ, zero, suc, ◌+◌, ◌-◌, ◌%◌, ◌≤◌, ◌<◌}
 use mathlib.Core.Path.{◌≡◌, refl, ◌∙◌, ap}
-use mathlib.Core.Bool.{true, false, ◌&&◌}
+use mathlib.Core.Bool.{false}
 use mathlib.Core.List.{List, [], ◌∷◌, map}
 use native.Mathlib.Omega.{arith}
-use native.Mathlib.Numerals.{add-one}
 use lib.ListN.{length, get_or, set}
 use lib.Seq.{set-get_or}
-use lib.Dec.{leb}
-use borrow.Author.Tests.{le-leb, lt-leb, lt-ltb, le-ltb}
 use Rattle.bridge_rules.specs.declared.Slot.{Slot}
-use Rattle.bridge_rules.specs.State.{waiting, ready, done, gave_up, is_waiting, asks, checking, blank, moved}
-use Rattle.bridge_rules.specs.Turn.{ticked, aged, advanced, requested, read_back, carried, sent_slot}
+use Rattle.bridge_rules.specs.State.{is_waiting, blank}
+use Rattle.bridge_rules.specs.Turn.{aged}
 use Rattle.bridge.proofs.FourSlots.{four}
 use Rattle.bridge.proofs.Searches.{fuel}
 
--- ── Aging ──────────────────────────────────────────────────────────────────────────────────────────────────────────
-
-module _ (x : Slot) where
-  pub age_none : is_waiting x.phase ≡ false → x ≡ aged x
-  unfolding aged
-  age_none e = rw e
-
-  module _ (e : x.phase ≡ waiting) where
-    waits : is_waiting x.phase ≡ true
-    waits = ap is_waiting e
-
-    pub age_on : 1 < x.left → moved x waiting x.progress x.sends (x.left - 1) ≡ aged x
-    unfolding aged ticked
-    age_on l = rw (waits, lt-leb x.left 1 l)
-
-    pub age_again : x.left ≤ 1 → x.sends < 3 → moved x ready x.progress x.sends 0 ≡ aged x
-    unfolding aged ticked
-    age_again l s =
-        let z : x.left - 1 ≡ 0 = omega arith in
-        rw (waits, le-leb x.left 1 l, lt-leb 3 x.sends s, z)
-
-    pub age_over : x.left ≤ 1 → 3 ≤ x.sends → moved x gave_up x.progress x.sends 0 ≡ aged x
-    unfolding aged ticked
-    age_over l s =
-        let z : x.left - 1 ≡ 0 = omega arith in
-        rw (waits, le-leb x.left 1 l, le-leb 3 x.sends s, z)
+age_none : (x : Slot) → is_waiting x.phase ≡ false → x ≡ aged x
+unfolding aged
+age_none x e = rw e
 
 -- one slot aged
 abbrev aged_at : ℕ → List Slot → List Slot
@@ -83,33 +57,3 @@ aged_from s (suc (suc (suc (suc i)))) a b c d e = absurd (omega arith)
 
 pub aged_four : (s : ℕ) (l : List Slot) → length l ≡ 4 → aged_on 4 s l ≡ map aged l
 aged_four s l h = rw (four blank l h) (aged_from s (s % 4) _ _ _ _ refl)
-
--- ── Going on ───────────────────────────────────────────────────────────────────────────────────────────────────────
-
-module _ (x : Slot) where
-  pub advance_on : x.progress + 8 < x.count → moved x ready (x.progress + 8) 0 0 ≡ advanced x
-  unfolding advanced
-  advance_on h = let z : min (x.progress + 8) x.count ≡ x.progress + 8 = omega arith in rw (lt-ltb (x.progress + 8) x.count h, z)
-
-  pub advance_done : x.count ≤ x.progress + 8 → moved x done x.count 0 0 ≡ advanced x
-  unfolding advanced
-  advance_done h = let z : min (x.progress + 8) x.count ≡ x.count = omega arith in rw (le-ltb (x.progress + 8) x.count h, z)
-
--- a slot that sent its CMD
-module _ (x : Slot) where
-  pub carry_back : checking x.kind ≡ true → x.count ≤ x.progress + 8 → read_back x ≡ carried x
-  unfolding carried
-  carry_back e h = rw (e, le-leb x.count (x.progress + 8) h)
-
-  pub carry_on : (checking x.kind && leb x.count (x.progress + 8)) ≡ false → advanced x ≡ carried x
-  unfolding carried
-  carry_on e = rw e
-
--- a slot that sent
-pub sent_asks : (x : Slot) → asks x.kind ≡ true → moved x waiting x.progress (x.sends + 1) 20 ≡ sent_slot x
-unfolding sent_slot requested
-sent_asks x e = rw (e, add-one x.sends)
-
-pub sent_carries : (x : Slot) → asks x.kind ≡ false → carried x ≡ sent_slot x
-unfolding sent_slot
-sent_carries x e = rw e

@@ -1,16 +1,48 @@
--- What the code has of a search for a slot: its number, or 4.
+-- What the code has of a search for a slot.
 use Prim.Native.Nat.{ℕ, zero, suc, ◌+◌, ◌-◌, ◌%◌, ◌<◌}
 use mathlib.Core.Path.{◌≡◌, refl, sym, ◌∙◌, ap}
 use mathlib.Core.Bool.{Bool, true, false, cond}
-use mathlib.Core.List.{List}
+use mathlib.Core.List.{List, [], ◌∷◌}
 use mathlib.Core.Option.{Option, none, some}
 use native.Mathlib.Omega.{arith}
 use native.Mathlib.Numerals.{add-one}
-use lib.ListN.{get_or}
+use lib.ListN.{length, get_or}
+use Rattle.std.specs.List.{position, zip}
+use Rattle.std.specs.Prelude as found
+use Rattle.std.specs.Prelude.{Some, None, Ok, ok_or}
+use Rattle.wire.specs.declared.refusal.Refusal.{Refusal}
 use Rattle.bridge_rules.specs.declared.Bridge.{Bridge}
 use Rattle.bridge_rules.specs.declared.Slot.{Slot}
-use Rattle.bridge_rules.specs.State.{is_ready, blank, slot, first_slot, next_ready, lowest_free, lowest_givable, held_slot, or_four, Frame, is_none, or_zero}
+use Rattle.bridge_rules.specs.State.{is_ready, blank, slot, first_slot, next_ready, lowest_givable, held_slot, Frame}
+use Rattle.bridge_rules.specs.Views.{as_found}
 use Rattle.bridge_rules.specs.Incoming.{awaiting}
+use Rattle.bridge.proofs.FourSlots.{four}
+
+-- ── The first of four that passes a test ───────────────────────────────────────────────────────────────────────────
+
+by_tests : (a b c d : Bool)
+    → as_found (position (λ (x : Bool). x) (a ∷ b ∷ c ∷ d ∷ [])) ≡ first_slot (λ k. get_or (a ∷ b ∷ c ∷ d ∷ []) k false) 0 4
+unfolding first_slot
+by_tests true b c d = refl
+by_tests false true c d = refl
+by_tests false false true d = refl
+by_tests false false false true = refl
+by_tests false false false false = refl
+
+pub first_of_four : {A : Type 0} (p : A → Bool) (d : A) (l : List A) → length l ≡ 4
+    → as_found (position p l) ≡ first_slot (λ k. p (get_or l k d)) 0 4
+unfolding first_slot
+first_of_four p d l h =
+    rw (four d l h) (by_tests (p (get_or l 0 d)) (p (get_or l 1 d)) (p (get_or l 2 d)) (p (get_or l 3 d)))
+
+-- the same of four pairs
+pub first_of_both : {A B : Type 0} (p : A → B → Bool) (d : A) (e : B) (l : List A) (m : List B) → length l ≡ 4 → length m ≡ 4
+    → as_found (position (λ (x : A × B). p x.0 x.1) (zip l m)) ≡ first_slot (λ k. p (get_or l k d) (get_or m k e)) 0 4
+unfolding first_slot
+first_of_both p d e l m g h = rw (four d l g, four e m h) (by_tests (p (get_or l 0 d) (get_or m 0 e)) (p (get_or l 1 d) (get_or m 1 e))
+    (p (get_or l 2 d) (get_or m 2 e)) (p (get_or l 3 d) (get_or m 3 e)))
+
+-- ── The search for a ready slot ────────────────────────────────────────────────────────────────────────────────────
 
 abbrev pub ready_in : List Slot → ℕ → Bool
 ready_in l k = is_ready (get_or l k blank).phase
@@ -34,12 +66,18 @@ module _ (p : ℕ → Bool) (s i : ℕ) where
   unfolding first_slot
   ends e = let z : 4 - i ≡ 0 = omega arith in ap (first_slot p (s + i)) z
 
--- the whole search for a ready slot
+-- the whole search
 pub whole : (b : Bridge) → next_ready b ≡ first_slot (ready_in b.slots) (b.last + 1) 4
 unfolding next_ready slot
 whole b = ap (λ (n : ℕ). first_slot (ready_in b.slots) n 4) (sym (add-one b.last))
 
--- a search finds nothing, or one of the four slots
+-- what a search found that is not refused
+pub found_at : (o : found.Option ℕ) (e : Refusal) (k : ℕ) → Ok k ≡ ok_or o e → as_found o ≡ some k
+found_at None e k q = let z : ◌≡◌ {A = ℕ} 0 1 = cc in absurd (omega arith)
+found_at (Some j) e k q = let z : j ≡ k = cc in ap some z
+
+-- ── What is found is one of the four ───────────────────────────────────────────────────────────────────────────────
+
 abbrev pub Small : Option ℕ → Type 0
 Small none = Unit {0}
 Small (some k) = k < 4
@@ -53,49 +91,22 @@ small_first p start (suc fuel) = go (p (start % 4)) (small_first p (suc start) f
     go true h = omega arith
     go false h = h
 
-pub free_small : (s : Bridge) → Small (lowest_free s)
-unfolding lowest_free
-free_small s = small_first _ 0 4
+is_small : (o : Option ℕ) (k : ℕ) → Small o → o ≡ some k → k < 4
+is_small none k m e = let z : ◌≡◌ {A = ℕ} 0 1 = cc in absurd (omega arith)
+is_small (some j) k m e = let z : j ≡ k = cc in omega (arith, z, m)
 
-pub givable_small : (s : Bridge) → Small (lowest_givable s)
+pub givable_small : (s : Bridge) (k : ℕ) → lowest_givable s ≡ some k → k < 4
 unfolding lowest_givable
-givable_small s = small_first _ 0 4
+givable_small s k e = is_small _ k (small_first _ 0 4) e
 
-pub held_small : (s : Bridge) (t : ℕ) → Small (held_slot s t)
+pub held_small : (s : Bridge) (t k : ℕ) → held_slot s t ≡ some k → k < 4
 unfolding held_slot
-held_small s t = small_first _ 0 4
+held_small s t k e = is_small _ k (small_first _ 0 4) e
 
-pub ready_small : (s : Bridge) → Small (next_ready s)
+pub ready_small : (s : Bridge) (k : ℕ) → next_ready s ≡ some k → k < 4
 unfolding next_ready
-ready_small s = small_first _ (suc s.last) 4
+ready_small s k e = is_small _ k (small_first _ (suc s.last) 4) e
 
-pub awaiting_small : (s : Bridge) (f : Frame) → Small (awaiting s f)
+pub awaiting_small : (s : Bridge) (f : Frame) (k : ℕ) → awaiting s f ≡ some k → k < 4
 unfolding awaiting
-awaiting_small s f = small_first _ 0 4
-
--- what the code has of a search: the slot's number, or 4
-module _ (o : Option ℕ) {k : ℕ} (m : Small o) (e : k ≡ or_four o) where
-  pub is_four : k ≡ 4 → o ≡ none
-  is_four h = go o m e
-    where
-      go : (p : Option ℕ) → Small p → k ≡ or_four p → p ≡ none
-      go none l q = refl
-      go (some j) l q = absurd (omega arith)
-
-  pub not_four : (k ≡ 4 → ⊥) → (o ≡ some k) × (k < 4)
-  not_four h = go o m e
-    where
-      go : (p : Option ℕ) → Small p → k ≡ or_four p → (p ≡ some k) × (k < 4)
-      go none l q = absurd (h q)
-      go (some j) l q = (ap some (sym q), omega arith)
-
-  pub slot_found : is_none o ≡ false → (k ≡ or_zero o) × (k < 4)
-  slot_found h = go o m e h
-    where
-      go : (p : Option ℕ) → Small p → k ≡ or_four p → is_none p ≡ false → (k ≡ or_zero p) × (k < 4)
-      go none l q i = absurd (let z : ◌≡◌ {A = Bool} true false = i in let y : ◌≡◌ {A = ℕ} 0 1 = cc in omega arith)
-      go (some j) l q i = (q, omega arith)
-
-pub or_zero_four : (o : Option ℕ) → Small o → or_zero o < 4
-or_zero_four none m = omega arith
-or_zero_four (some k) m = m
+awaiting_small s f k e = is_small _ k (small_first _ 0 4) e

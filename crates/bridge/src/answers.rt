@@ -1,44 +1,34 @@
-// What the calls that are lent the buffers share: the numbers that refuse them, and an answer without a frame.
+// What the calls share: how they judge the bridge and the buffers that they are lent, and a refusal.
 ghost use Rattle.std.specs.Prelude.{◌≡◌, ◌&&◌, eqb};
-ghost use Rattle.std.proofs.Math.Option.{none};
-ghost use Rattle.bridge_rules.specs.Answers.{lent_number, yielded_of};
+ghost use Rattle.wire.specs.Refusals.{number_of};
+ghost use Rattle.bridge_rules.specs.Answers.{lent_number};
 
 use crate::soundness::sound;
-use crate::{Bridge, Stepped, Yielded};
+use crate::{After, Bridge, Refusal};
 
-// 11 and 10, by which a call judges the bridge and its buffers, of lengths n and m; else 0.
-pub(crate) fn lent_number(b: Bridge, n: usize, m: usize) -> u8
-    ensures { result ≡ lent_number b (eqb n 512 && eqb m 512) }
+// 11 and 10, by which a call judges the bridge and its buffers, of lengths n and m.
+#[tactic(auto, using(wire::proofs::Orders::order), unfolding(bridge_rules::specs::Answers::lent_number))]
+pub(crate) fn check_lent(b: Bridge, n: usize, m: usize) -> Result<(), Refusal>
+    ensures { number_of result ≡ lent_number b (eqb n 512 && eqb m 512) }
 {
     if !sound(b) {
-        return 11;
+        return Err(Refusal::Unsound);
     }
     if n != 512 {
-        return 10;
+        return Err(Refusal::MemoryLength);
     }
     if m != 512 {
-        return 10;
+        return Err(Refusal::MemoryLength);
     }
-    0
+    Ok(())
 }
 
-// A bridge with a number and no frame.
-pub(crate) fn plain(b: Bridge, number: u8) -> Stepped
-    ensures { result ≡ record { bridge = b; answer = yielded_of number none } }
+// A refusal leaves the bridge as it was.
+pub(crate) fn refused<T>(b: Bridge, e: Refusal) -> After<T>
+    ensures { result ≡ record { bridge = b; answer = Err e } }
 {
-    let bytes = [0u8; 8];
-    let frame = bus::Frame {
-        id: 0,
-        len: 0,
-        bytes: bytes,
-    };
-    let answer = Yielded {
-        number: number,
-        frames: 0,
-        frame: frame,
-    };
-    Stepped {
+    After {
         bridge: b,
-        answer: answer,
+        answer: Err(e),
     }
 }

@@ -1,7 +1,9 @@
-// A bridge of four slots: transfers to and from the tables of devices on the bus.
+// A bridge of four slots: transfers to and from the tables of devices on the bus. Its private functions take a slot's number below 4 and a
+// sound bridge by a `requires`, and not by types of their own: every call makes the bridge anew, so such a type would be built at each step.
 #![tactic(auto)]
 
 mod answers;
+mod asking;
 pub mod ending;
 pub mod in_place;
 pub mod incoming;
@@ -15,14 +17,7 @@ pub mod tickets;
 pub mod turning;
 
 pub use bridge_rules::{
-    Bridge, CHECK, Changed, DIFFERENT, DONE, FREE, GAVE_UP, Opened, READ, READ_BACK, READY, Slot,
-    Stepped, WAITING, WRITE, Yielded,
+    After, Bridge, CHECK, DIFFERENT, DONE, FREE, GAVE_UP, READ, READ_BACK, READY, Slot, WAITING,
+    WRITE,
 };
-pub use wire::Span;
-
-// A number, and a done read's part of the first buffer.
-#[derive(Clone, Copy)]
-pub struct Shown<'a> {
-    pub number: u8,
-    pub part: &'a [u8],
-}
+pub use wire::{Extent, Refusal};

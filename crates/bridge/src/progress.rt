@@ -1,52 +1,54 @@
 // How a transfer goes on: eight bytes a frame, the last fewer.
-ghost use Rattle.std.specs.Prelude.{◌<◌, ◌≡◌};
+ghost use Rattle.std.specs.Prelude.{◌≡◌};
 ghost use Rattle.bridge_rules.specs.Turn.{chunk_len, advanced, read_back, carried};
 
-use crate::state::{checking, moved, of_kind};
+use crate::state::checking;
 use crate::{DONE, READ_BACK, READY, Slot};
 
-// How many bytes the next frame of an unfinished transfer asks for or carries: eight, the last fewer.
-pub(crate) fn next_len(count: u8, progress: u8) -> u8
-    requires { progress < count }
-    ensures { result ≡ chunk_len count progress }
+// How many bytes a slot's next frame asks for or carries: eight, the last fewer; 0 where nothing is left.
+#[tactic(auto, unfolding(bridge_rules::specs::Turn::chunk_len))]
+pub(crate) fn chunk_len(x: Slot) -> u8
+    ensures { result ≡ chunk_len x.count x.progress }
 {
-    let n = count - progress;
-    if n < 8 { n } else { 8 }
-}
-
-// The same of any slot: 0 where nothing is left.
-pub(crate) fn chunk_len(count: u8, progress: u8) -> u8
-    ensures { result ≡ chunk_len count progress }
-{
-    if count <= progress {
-        return 0;
-    }
-    next_len(count, progress)
+    x.count.saturating_sub(x.progress).min(8)
 }
 
 // A slot past the current eight bytes: ready for the next, or done.
+#[tactic(auto, unfolding(bridge_rules::specs::Turn::advanced))]
 pub(crate) fn advanced(x: Slot) -> Slot
     ensures { result ≡ advanced x }
 {
-    if x.progress as u32 + 8 < x.count as u32 {
-        moved(x, READY, x.progress + 8, 0, 0)
-    } else {
-        moved(x, DONE, x.count, 0, 0)
+    let next = x.progress as u32 + 8;
+    Slot {
+        phase: if next < x.count as u32 { READY } else { DONE },
+        progress: next.min(x.count as u32) as u8,
+        sends: 0,
+        left: 0,
+        ..x
     }
 }
 
 // A checked write that sent its last bytes is ready to read them back.
+#[tactic(auto, unfolding(bridge_rules::specs::Turn::read_back))]
 fn read_back(x: Slot) -> Slot
     ensures { result ≡ read_back x }
 {
-    moved(of_kind(x, READ_BACK), READY, 0, 0, 0)
+    Slot {
+        kind: READ_BACK,
+        phase: READY,
+        progress: 0,
+        sends: 0,
+        left: 0,
+        ..x
+    }
 }
 
 // A slot that sent its CMD: past those bytes, or ready to read back.
+#[tactic(auto, unfolding(bridge_rules::specs::Turn::carried))]
 pub(crate) fn carried(x: Slot) -> Slot
     ensures { result ≡ carried x }
 {
-    if checking(x.kind) & (x.count as u32 <= x.progress as u32 + 8) {
+    if checking(x.kind) && x.count as u32 <= x.progress as u32 + 8 {
         return read_back(x);
     }
     advanced(x)

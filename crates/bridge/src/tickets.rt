@@ -1,123 +1,96 @@
 // Status, and a done read's bytes.
-ghost use Rattle.std.specs.Prelude.{◌≡◌, ◌+◌, ◌<◌, ◌≤◌, length};
+ghost use Rattle.std.specs.Prelude.{◌≡◌, ◌+◌, ◌<◌, ◌≤◌, length, [], IfOk, MatchResult};
+ghost use Rattle.std.proofs.Math.Option.{some};
+ghost use Rattle.wire.specs.Refusals.{number_of};
+ghost use Rattle.wire.specs.Log.{as_span};
+ghost use Rattle.bridge_rules.specs.State.{held_slot};
 ghost use Rattle.bridge_rules.specs.Ending.{phase_number, ticket_number, status_of, bytes_number, slot_span, span_of, bytes_of};
-ghost use Rattle.wire.specs.Log.{part_of};
 
 use crate::search::held_slot;
 use crate::soundness::sound;
 use crate::state::shows;
-use crate::{Bridge, DIFFERENT, DONE, GAVE_UP, Shown, Span};
+use crate::{Bridge, DIFFERENT, DONE, Extent, GAVE_UP, Refusal};
 
-fn phase_number(phase: u8) -> u8
-    ensures { result ≡ phase_number phase }
+#[tactic(auto, using(wire::proofs::Orders::order), unfolding(bridge_rules::specs::Ending::phase_number))]
+fn check_phase(phase: u8) -> Result<(), Refusal>
+    ensures { number_of result ≡ phase_number phase }
 {
-    if phase == DONE {
-        return 0;
+    match phase {
+        DONE => Ok(()),
+        GAVE_UP => Err(Refusal::GaveUp),
+        DIFFERENT => Err(Refusal::Different),
+        _ => Err(Refusal::NotFinished),
     }
-    if phase == GAVE_UP {
-        return 16;
-    }
-    if phase == DIFFERENT {
-        return 18;
-    }
-    15
 }
 
-fn ticket_number(b: Bridge, ticket: u32) -> u8
-    ensures { result ≡ ticket_number b ticket }
+// 14, 15, 16 and 18; else the ticket's slot.
+#[tactic(auto, using(wire::proofs::Orders::order), unfolding(bridge_rules::specs::Ending::ticket_number))]
+fn check_ticket(b: Bridge, ticket: u32) -> Result<usize, Refusal>
+    ensures { (number_of result ≡ ticket_number b ticket) × IfOk result (λ k. held_slot b ticket ≡ some k) }
 {
-    let k = held_slot(b, ticket);
-    if k == 4 {
-        return 14;
-    }
-    let slots = b.slots;
-    let x = slots[k];
-    phase_number(x.phase)
+    let k = held_slot(b, ticket).ok_or(Refusal::UnknownTicket)?;
+    check_phase(b.slots[k].phase)?;
+    Ok(k)
 }
 
 // 0 done, 16 gave up, 18 read back different, 15 not finished; 14 where the ticket is unknown, 11 where the bridge is unsound.
-pub fn status(b: Bridge, ticket: u32) -> u8
-    ensures { result ≡ status_of b ticket }
+#[tactic(auto, using(wire::proofs::Orders::order), unfolding(bridge_rules::specs::Ending::status_of))]
+pub fn status(b: Bridge, ticket: u32) -> Result<(), Refusal>
+    ensures { number_of result ≡ status_of b ticket }
 {
     if !sound(b) {
-        return 11;
+        return Err(Refusal::Unsound);
     }
-    ticket_number(b, ticket)
+    check_ticket(b, ticket)?;
+    Ok(())
 }
 
-fn bytes_number(b: Bridge, n: usize, ticket: u32) -> u8
-    ensures { result ≡ bytes_number b n ticket }
+// 11, 10 and status's numbers, with a buffer of length n; else the ticket's slot.
+#[tactic(auto, using(wire::proofs::Orders::order), unfolding(bridge_rules::specs::Ending::bytes_number))]
+fn check_bytes(b: Bridge, n: usize, ticket: u32) -> Result<usize, Refusal>
+    ensures { (number_of result ≡ bytes_number b n ticket) × IfOk result (λ k. held_slot b ticket ≡ some k) }
 {
     if !sound(b) {
-        return 11;
+        return Err(Refusal::Unsound);
     }
     if n != 512 {
-        return 10;
+        return Err(Refusal::MemoryLength);
     }
-    ticket_number(b, ticket)
+    check_ticket(b, ticket)
 }
 
 // Where a done transfer's bytes lie: in slot k's part of the first buffer for a read.
-fn slot_span(b: Bridge, k: usize) -> Span
+#[tactic(auto, unfolding(bridge_rules::specs::Ending::slot_span, bridge_rules::specs::State::slot))]
+fn slot_span(b: Bridge, k: usize) -> Extent
     requires { k < 4 }
-    ensures { result ≡ slot_span b k }
+    ensures { as_span (Ok result) ≡ slot_span b k }
 {
-    let slots = b.slots;
-    let x = slots[k];
+    let x = b.slots[k];
     if shows(x.kind) {
-        return Span {
-            number: 0,
+        Extent {
             start: 128 * k,
             len: x.count as usize,
-        };
+        }
+    } else {
+        Extent { start: 0, len: 0 }
     }
-    Span {
-        number: 0,
-        start: 0,
-        len: 0,
-    }
-}
-
-// The same of a ticket, with a buffer of length n.
-fn span_of(b: Bridge, n: usize, ticket: u32) -> Span
-    ensures { result ≡ span_of b n ticket }
-{
-    let number = bytes_number(b, n, ticket);
-    if number != 0 {
-        return Span {
-            number: number,
-            start: 0,
-            len: 0,
-        };
-    }
-    let k = held_slot(b, ticket);
-    slot_span(b, k)
 }
 
 // Where a done read's bytes lie in the first buffer, with the number of the bytes call; an empty span otherwise.
-pub fn span(b: Bridge, first: &[u8], ticket: u32) -> Span
-    ensures { (result ≡ span_of b (length first.now) ticket) × (result.start + result.len ≤ length first.now) }
+pub fn span(b: Bridge, first: &[u8], ticket: u32) -> Result<Extent, Refusal>
+    ensures { (as_span result ≡ span_of b (length first.now) ticket)
+        × ((as_span result).start + (as_span result).len ≤ length first.now) }
 {
-    span_of(b, first.len(), ticket)
+    let k = check_bytes(b, first.len(), ticket)?;
+    Ok(slot_span(b, k))
 }
 
-// The part of a buffer that a span says.
-fn part<'a>(buffer: &'a [u8], s: Span) -> &'a [u8]
-    requires { s.start + s.len ≤ length buffer.now }
-    ensures { result.now ≡ part_of buffer.now s }
+// A done read's part of the first buffer, empty for a write; else 11, 10 or status's number.
+pub fn bytes<'a>(b: Bridge, first: &'a [u8], ticket: u32) -> Result<&'a [u8], Refusal>
+    ensures { (number_of result ≡ (bytes_of b first.now ticket).number)
+        × MatchResult result (λ part. part.now ≡ (bytes_of b first.now ticket).shown)
+        (λ e. [] ≡ (bytes_of b first.now ticket).shown) }
 {
-    let start = s.start;
-    let end = start + s.len;
-    &buffer[start..end]
-}
-
-// A done read's part of the first buffer, with 11, 10 or status's number; an empty part otherwise.
-pub fn bytes<'a>(b: Bridge, first: &'a [u8], ticket: u32) -> Shown<'a>
-    ensures { (result.number ≡ (bytes_of b first.now ticket).number) × (result.part.now ≡ (bytes_of b first.now ticket).shown) }
-{
-    let s = span_of(b, first.len(), ticket);
-    Shown {
-        number: s.number,
-        part: part(first, s),
-    }
+    let part = span(b, first, ticket)?;
+    Ok(&first[part.start..part.start + part.len])
 }

@@ -3,7 +3,7 @@ use Rattle.std.specs.Prelude.{ℕ, ◌*◌, List, cond, not, length, set, ltb, e
 use Rattle.std.proofs.Math.Option.{none}
 use Rattle.wire.specs.Order.{◌if◌else◌}
 use Rattle.wire.specs.Log.{part_of}
-use Rattle.wire.specs.declared.Span.{Span}
+use Rattle.wire.specs.declared.views.Span.{Span}
 use Rattle.bridge_rules.specs.declared.Bridge.{Bridge}
 use Rattle.bridge_rules.specs.declared.Changed.{Changed}
 use Rattle.bridge_rules.specs.State.{done, gave_up, different, shows, blank, slot, fresh, with_slots, sound, held_slot, is_none, or_zero}

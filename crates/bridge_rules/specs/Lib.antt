@@ -1,6 +1,7 @@
 pub mod State
 pub mod Sound
 pub mod Answers
+pub mod Views
 pub mod Opening
 pub mod Turn
 pub mod Incoming

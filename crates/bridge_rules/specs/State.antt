@@ -227,8 +227,3 @@ is_none (some k) = false
 abbrev pub or_zero : Option ℕ → ℕ
 or_zero none = 0
 or_zero (some k) = k
-
--- a slot's number, or 4 for none
-abbrev pub or_four : Option ℕ → ℕ
-or_four none = 4
-or_four (some k) = k

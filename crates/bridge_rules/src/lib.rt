@@ -1,7 +1,11 @@
 // The bridge's state and answers. What its calls do to them is defined in specs/; demand 3 is specs/Run.antt to specs/Demand3.antt.
 #![tactic(auto)]
 
-// A slot's phases.
+mod views;
+
+use wire::Refusal;
+
+// A slot's phases. They and the kinds stay numbers: C may lend a slot with any, and `sound` judges it (11).
 pub const FREE: u8 = 0;
 
 pub const READY: u8 = 1;
@@ -25,7 +29,7 @@ pub const CHECK: u8 = 3;
 
 // A slot: free, or held by a transfer. Numbers that it doesn't use are 0.
 #[repr(C)]
-#[derive(Clone, Copy)]
+#[derive(Clone, Copy, PartialEq, Eq)]
 pub struct Slot {
     pub ticket: u32,
     pub offset: u16,
@@ -39,7 +43,8 @@ pub struct Slot {
     pub left: u8,
 }
 
-// The bridge: its slots, the last ticket given, its own number, the slot last served, and each slot's turns left to rest.
+// The bridge: its slots, the last ticket given, its own number, the slot last served, and each slot's turns left to rest. Slots and rests
+// stay two arrays, as C lays them out.
 #[repr(C)]
 #[derive(Clone, Copy)]
 pub struct Bridge {
@@ -49,6 +54,15 @@ pub struct Bridge {
     pub last: u8,
     pub rests: [u8; 4],
 }
+
+// The bridge after a call, and what the call answers; a refusal hands the bridge back as it was given.
+#[derive(Clone, Copy)]
+pub struct After<T> {
+    pub bridge: Bridge,
+    pub answer: Result<T, Refusal>,
+}
+
+// What C sees of them, which the definitions and the theorems speak of.
 
 // What an opening hands back.
 #[repr(C)]

@@ -17,13 +17,11 @@ pub fn build(p: Parts, bytes: &[u8]) -> Frame
     let id = id_in_rows(p);
     let mut first = [0u8; 8];
     let mut len: u8 = 0;
-    let mut i = 0;
-    while i < 8 {
+    for i in 0..8 {
         if i < bytes.len() {
             first[i] = bytes[i];
             len += 1;
         }
-        i += 1;
     }
     Frame {
         id,
@@ -32,7 +30,7 @@ pub fn build(p: Parts, bytes: &[u8]) -> Frame
     }
 }
 
-// The first eight bytes given, and zeros where there are fewer: the bytes of a frame, whatever its parts.
+// The first eight bytes given, and zeros where there are fewer: the bytes of a frame, whatever its parts (here all 0, written out).
 pub fn padded(bytes: &[u8]) -> [u8; 8]
     ensures { result ≡ padded bytes.now }
 {
@@ -43,8 +41,7 @@ pub fn padded(bytes: &[u8]) -> [u8; 8]
         to: 0,
         table: 0,
     };
-    let frame = build(parts, bytes);
-    frame.bytes
+    build(parts, bytes).bytes
 }
 
 // How many bytes of a frame count.
@@ -60,12 +57,10 @@ pub(crate) fn copy_content(out: &mut [u8], at: usize, f: Frame)
     ensures { out.new ≡ sets out.old at (content f) }
 {
     let n = f.len as usize;
-    let mut i = 0;
-    while i < 8 {
+    for i in 0..8 {
         if i < n {
             out[at + i] = f.bytes[i];
         }
-        i += 1;
     }
 }
 

@@ -6,8 +6,11 @@ pub mod holder;
 pub mod ident;
 pub mod requests;
 mod rows;
+mod views;
 
 pub use bus_rules::{
-    BURN, CMD, Directory, FirstState, Frame, HolderAnswer, HolderState, Packed, Parts, REQ, RSP,
-    Request, RequestBytes, RequestRead, Served, Unpacked, XTND,
+    BURN, CMD, Directory, FirstState, Frame, HolderAnswer, HolderState, Parts, REQ, RSP, Request,
+    RequestBytes, RequestRead, Served, XTND,
 };
+pub use views::{Answered, Asked, Reply};
+pub use wire::Refusal;

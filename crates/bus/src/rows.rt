@@ -2,8 +2,9 @@
 ghost use Rattle.std.specs.Prelude.{◌≡◌};
 ghost use Rattle.bus_rules.specs.Ident.{id_table, id_in, in_rows, parts_of};
 
-use crate::Parts;
+use crate::{Frame, Parts};
 
+#[tactic(auto, unfolding(bus_rules::specs::Ident::id_table))]
 pub(crate) fn table_of(id: u32) -> u8
     ensures { result ≡ id_table id }
 {
@@ -31,4 +32,23 @@ pub(crate) fn id_in_rows(p: Parts) -> u32
         + (p.from % 16 * 16 + p.to % 16) as u32 * 128
         + (p.kind % 8) as u32 * 32768
         + (p.offset % 2048) as u32 * 262144
+}
+
+// A frame, and the parts of its identifier.
+#[derive(Clone, Copy)]
+pub(crate) struct Received {
+    pub(crate) frame: Frame,
+    pub(crate) parts: Parts,
+    ghost read: { parts ≡ parts_of frame.id },
+}
+
+impl Received {
+    pub(crate) fn new(frame: Frame) -> Received
+        ensures { result.frame ≡ frame }
+    {
+        Received {
+            frame,
+            parts: parts_of(frame.id),
+        }
+    }
 }

@@ -1,6 +1,6 @@
 -- A proof by computation says `unfolding bus`, and so opens every definition of the bus, and those of wire that they stand on.
 use Rattle.wire.specs.Order.{◌if◌else◌, ◌or_else◌}
-use Rattle.wire.specs.Answer.{answer, result_of}
+use Rattle.wire.specs.Refusals.{checked, refusal_of}
 use Rattle.bus_rules.specs.Ident.{id_spare, id_table, id_to, id_from, id_kind, id_offset, by_row, sum_of_rows, id_in, parts_of, in_rows, pack_number, pack_of}
 use Rattle.bus_rules.specs.Ident.{unpack_number, unpack_of}
 use Rattle.bus_rules.specs.Frames.{content, padded, frame_with, build_of, no_frame, head_number, receive_number, read_head_of}
@@ -13,7 +13,7 @@ use Rattle.bus_rules.specs.Holder.{no_answer, answer_with, reply_to, acknowledge
 use Rattle.bus_rules.specs.Holder.{serve_number, served_by, after_by, serve_of, device_after}
 
 unfoldable pub orders : Unit {0}
-unfolding ◌if◌else◌ ◌or_else◌ answer result_of
+unfolding ◌if◌else◌ ◌or_else◌ checked refusal_of
 orders = tt
 
 unfoldable pub identifiers : Unit {0}

@@ -8,7 +8,7 @@ use native.Mathlib.Nat.{zero-add, suc-add}
 use native.Mathlib.Omega.{arith}
 use native.Mathlib.Decide.{dec_lt}
 use lib.Dec.{leb, eqb}
-use borrow.Author.Tests.{leb-true, le-leb, lt-leb, not-false, eqb-true}
+use borrow.Author.Tests.{leb-true, le-leb, not-false, eqb-true}
 use Rattle.wire.proofs.Orders.{order, if_zero, else_zero}
 use Rattle.bus_rules.specs.Device.{Directory, start_of, total_of, size_of, right_of, sound_tables, sound_directory}
 use Rattle.bus_rules.specs.Device.{directory_number, length_number, memory_number}
@@ -120,18 +120,6 @@ pub says_sound : (d : Directory) → SoundDirectory d → sound_directory d ≡ 
 unfolding sound_directory
 says_sound d s =
     rw (le-leb _ _ s.own, all_tables d 32 (λ k l. (omega (arith, (s.tables k l).size), omega (arith, (s.tables k l).right))), le-leb _ _ s.total)
-
-pub unsound : (d : Directory) → (15 < d.own) ⊎ ((sound_tables d 32 ≡ false) ⊎ (32768 < total_of d)) → sound_directory d ≡ false
-unfolding sound_directory
-unsound d (inl h) =
-    left_false (leb d.own 15 && sound_tables d 32) (leb (total_of d) 32768) (left_false (leb d.own 15) (sound_tables d 32) (lt-leb _ _ h))
-unsound d (inr (inl h)) =
-    left_false (leb d.own 15 && sound_tables d 32) (leb (total_of d) 32768) (right_false (leb d.own 15) (sound_tables d 32) h)
-unsound d (inr (inr h)) = right_false (leb d.own 15 && sound_tables d 32) (leb (total_of d) 32768) (lt-leb _ _ h)
-
-pub is_sound : (d : Directory) → d.own ≤ 15 → sound_tables d 32 ≡ true → total_of d ≤ 32768 → sound_directory d ≡ true
-unfolding sound_directory
-is_sound d o t s = rw (le-leb _ _ o, t, le-leb _ _ s)
 
 -- ── 11 and 10 ──────────────────────────────────────────────────────────────────────────────────────────────────────
 

@@ -9,18 +9,15 @@ use lib.Dec.{lit<, ltb, eqb}
 use mathlib.Core.Bool.{not}
 use borrow.Author.Tests.{ltb-false, leb-false, eqb-true, not-false}
 use Rattle.wire.specs.Order.{◌if◌else◌, ◌or_else◌}
-use Rattle.wire.specs.Answer.{answer, result_of}
-use Rattle.wire.proofs.Answers.{answered, means}
+use Rattle.std.proofs.Common.{Ok}
+use Rattle.wire.specs.Refusals.{checked}
+use Rattle.wire.proofs.RefusalLaws.{answered}
 use Rattle.wire.proofs.Orders.{order, if_zero, if_or_else, zero_or_else}
 use Rattle.bus_rules.specs.Ident.{Parts, rows, part, part_at, by_row, sum_of_rows, id_of, id_in, in_rows}
 use Rattle.bus_rules.specs.Ident.{id_spare, id_table, id_to, id_from, id_kind, id_offset, parts_of}
-use Rattle.bus_rules.specs.Ident.{pack_number, pack_of, packed_answer, no_parts, unpack_number, unpack_of, unpacked_answer}
+use Rattle.bus_rules.specs.Ident.{pack_number, pack_of, unpack_number, unpack_of}
 use Rattle.bus_rules.specs.Frames.{Frame, head_number}
 use Rattle.bus_rules.specs.Rows.{RowByRow, IsLawful, LawfulIds}
-use Rattle.bus_rules.specs.declared.Packed.{Packed}
-use Rattle.bus_rules.specs.declared.Packed.TheVariants as P
-use Rattle.bus_rules.specs.declared.Unpacked.{Unpacked}
-use Rattle.bus_rules.specs.declared.Unpacked.TheVariants as U
 
 -- one row of a sum: above it q, below it r, of weight k and m values wide
 row_of_sum : (q v r k m n : ℕ) → r < k → v < m → n ≡ (q * m + v) * k + r → n / k % m ≡ v
@@ -147,31 +144,15 @@ unpack_zero id h e = let z : 0 ≡ unpack_number id = search order depth 12 in s
 
 -- ── The answers ────────────────────────────────────────────────────────────────────────────────────────────────────
 
--- the cases of each enum are told apart
-pub packed_is : (n x id : ℕ) → answer P.Is P.Refused n x ≡ P.Is id → (n ≡ 0) × (x ≡ id)
-packed_is = answered P.Is P.Refused (λ n y e. let z : ◌≡◌ {A = ℕ} 0 1 = cc in omega arith) (λ x y e. cc)
-
-pub unpacked_is : (n : ℕ) (x p : Parts) → answer U.Is U.Refused n x ≡ U.Is p → (n ≡ 0) × (x ≡ p)
-unpacked_is = answered U.Is U.Refused (λ n y e. let z : ◌≡◌ {A = ℕ} 0 1 = cc in omega arith) (λ x y e. cc)
-
--- each case means its number and its value
-pub packed_means : (r : Packed) (n x : ℕ) → r ≡ answer P.Is P.Refused n x
-    → (r ≡ answer P.Is P.Refused n x) × (packed_answer r ≡ result_of 0 n x)
-packed_means = means P.Is P.Refused 0 packed_answer (λ x. refl) (λ n. refl)
-
-pub unpacked_means : (r : Unpacked) (n : ℕ) (x : Parts) → r ≡ answer U.Is U.Refused n x
-    → (r ≡ answer U.Is U.Refused n x) × (unpacked_answer r ≡ result_of no_parts n x)
-unpacked_means = means U.Is U.Refused no_parts unpacked_answer (λ x. refl) (λ n. refl)
-
 -- unpacking the identifier of lawful parts gives them back
-pub unpack_id : (p : Parts) → Lawful p → unpack_of (id_in p) ≡ U.Is p
-unfolding unpack_of answer
+pub unpack_id : (p : Parts) → Lawful p → unpack_of (id_in p) ≡ Ok p
+unfolding unpack_of checked
 unpack_id p l = rw (unpack_zero (id_in p) (packed_small p l) (packed_spare p l), parts_of_packed p l)
 
-pub unpack_after_pack_lem : (p : Parts) (id : ℕ) → pack_of p ≡ P.Is id → unpack_of id ≡ U.Is p
+pub unpack_after_pack_lem : (p : Parts) (id : ℕ) → pack_of p ≡ Ok id → unpack_of id ≡ Ok p
 unfolding pack_of
 unpack_after_pack_lem p id e =
-    let h = packed_is _ _ id e in
+    let h = answered _ _ id e in
     rw (← h.1) (unpack_id p (zero_lawful p h.0))
 
 -- seven rows, each the quotient above it times 2 to its width and its own value, add up
@@ -211,35 +192,35 @@ module _ (id : ℕ) (small : id < 2 ^ 29) (spare : id_spare id ≡ 0) where
   unfolding parts_of id_table
   row_by_row = record { sum = sum_of_rows_lem; each = each_part; table = refl }
 
-pub unpacked_by_row_lem : (id : ℕ) (p : Parts) → unpack_of id ≡ U.Is p → RowByRow id p
+pub unpacked_by_row_lem : (id : ℕ) (p : Parts) → unpack_of id ≡ Ok p → RowByRow id p
 unfolding unpack_of
 unpacked_by_row_lem id p e =
-    let h = unpacked_is _ _ p e in
+    let h = answered _ _ p e in
     let l = unpack_lawful id h.0 in
     rw (← h.1) (row_by_row id l.0 l.1)
 
-pub packed_by_row_lem : (p : Parts) (id : ℕ) → pack_of p ≡ P.Is id → RowByRow id p
+pub packed_by_row_lem : (p : Parts) (id : ℕ) → pack_of p ≡ Ok id → RowByRow id p
 packed_by_row_lem p id e = unpacked_by_row_lem id p (unpack_after_pack_lem p id e)
 
 pub parts_lawful : (id : ℕ) → Lawful (parts_of id)
 unfolding parts_of id_to id_from id_kind id_offset id_table
 parts_lawful id = record { offset = omega arith; kind = omega arith; from = omega arith; to = omega arith; table = omega arith }
 
-pub pack_after_unpack_lem : (id : ℕ) (p : Parts) → unpack_of id ≡ U.Is p → pack_of p ≡ P.Is id
-unfolding unpack_of pack_of answer id_in
+pub pack_after_unpack_lem : (id : ℕ) (p : Parts) → unpack_of id ≡ Ok p → pack_of p ≡ Ok id
+unfolding unpack_of pack_of checked id_in
 pack_after_unpack_lem id p e =
-    let h = unpacked_is (unpack_number id) (parts_of id) p e in
+    let h = answered (unpack_number id) (parts_of id) p e in
     let l : Lawful p = rw h.1 at (parts_lawful id) in
-    rw (lawful_zero p l) (ap P.Is (sym (unpacked_by_row_lem id p e).sum))
+    rw (lawful_zero p l) (ap (λ (n : ℕ). Ok n) (sym (unpacked_by_row_lem id p e).sum))
 
 -- ── The lawful identifiers ─────────────────────────────────────────────────────────────────────────────────────────
 
-accepted_lawful : (id : ℕ) (p : Parts) → unpack_of id ≡ U.Is p → IsLawful id
+accepted_lawful : (id : ℕ) (p : Parts) → unpack_of id ≡ Ok p → IsLawful id
 unfolding unpack_of id_spare
-accepted_lawful id p e = unpack_lawful id (unpacked_is _ _ p e).0
+accepted_lawful id p e = unpack_lawful id (answered _ _ p e).0
 
-lawful_accepted : (id : ℕ) → IsLawful id → unpack_of id ≡ U.Is (parts_of id)
-unfolding unpack_of answer id_spare
+lawful_accepted : (id : ℕ) → IsLawful id → unpack_of id ≡ Ok (parts_of id)
+unfolding unpack_of checked id_spare
 lawful_accepted id l = rw (unpack_zero id l.0 l.1)
 
 pub lawful_ids_lem : LawfulIds

@@ -6,12 +6,16 @@ use mathlib.Core.List.{List, [], ◌∷◌}
 use Prim.Native.Nat.{ℕ, zero, suc, ◌+◌, ◌*◌, ◌/◌, ◌%◌, ◌≤◌, ◌<◌}
 use native.Mathlib.Omega.{arith}
 use lib.Dec.{eqb}
-use lib.ListN.{replicate}
 use borrow.Author.Tests.{ltb-false, eqb-true, eq-eqb}
+use Rattle.std.proofs.Common.{Ok, Err}
+use Rattle.std.specs.Int.{from_bool}
+use Rattle.wire.specs.declared.refusal.Refusal.{Refusal}
+use Rattle.wire.specs.Refusals.{code}
+use Rattle.wire.proofs.RefusalLaws.{code_ne0}
 use Rattle.wire.specs.Order.{◌if◌else◌}
 use Rattle.wire.proofs.Orders.{order, if_zero}
 use Rattle.bus_rules.specs.Request.{Request, RequestRead, request_of, clear_of, read_request_of, request}
-use Rattle.bus_rules.specs.Request.{request_bytes_number, wrote_request, request_bytes_of}
+use Rattle.bus_rules.specs.Request.{request_bytes_number, wrote_request, request_bytes_of, as_request_bytes}
 use Rattle.bus_rules.specs.Rows.{cleared, WriteAfterRead}
 use Rattle.bus_rules.specs.declared.RequestBytes.{RequestBytes}
 use Rattle.bus_rules.proofs.Directories.{both}
@@ -49,6 +53,12 @@ one_at_most : (t : Bool) → (1 if t else 0) ≤ 1
 unfolding ◌if◌else◌
 one_at_most true = omega arith
 one_at_most false = omega arith
+
+-- a bool as the mark
+pub mark_is : (t : Bool) → from_bool t ≡ (1 if t else 0)
+unfolding ◌if◌else◌
+mark_is true = refl
+mark_is false = refl
 
 pub mark_small : (a c : ℕ) → clear_of a c ≤ 1
 unfolding clear_of
@@ -147,16 +157,16 @@ read_after_write_lem q e a b c k = go (request_bytes_number q) refl e k
         rw (← ea, ← eb, ← ec) (reads_back_lem q (zero_holds q n))
     go (suc m) n z l = absurd (omega arith)
 
-pub wrote_no : (k n : ℕ) (bs : List ℕ) → k ≡ n → (k ≡ 0 → ⊥)
-    → ◌≡◌ {A = RequestBytes} (record { number = k; bytes = replicate 3 0 }) (wrote_request n bs)
+-- what C sees of a refusal, and of the bytes
+pub wrote_no : (n : ℕ) (bs : List ℕ) (e : Refusal) → code e ≡ n → as_request_bytes (Err e) ≡ wrote_request n bs
 unfolding wrote_request
-wrote_no k zero bs e h = absurd (h e)
-wrote_no k (suc n) bs e h = rw e
+wrote_no zero bs e h = absurd (code_ne0 e h)
+wrote_no (suc n) bs e h = rw h
 
-pub wrote_yes : (k n : ℕ) (bs : List ℕ) → k ≡ n → k ≡ 0 → ◌≡◌ {A = RequestBytes} (record { number = 0; bytes = bs }) (wrote_request n bs)
+pub wrote_yes : (n : ℕ) (bs : List ℕ) → n ≡ 0 → as_request_bytes (Ok bs) ≡ wrote_request n bs
 unfolding wrote_request
-wrote_yes k zero bs e h = refl
-wrote_yes k (suc n) bs e h = absurd (omega arith)
+wrote_yes zero bs h = refl
+wrote_yes (suc n) bs h = absurd (omega arith)
 
 -- of bytes with their reserved bits cleared the same is read, and they are clear
 pub read_cleared : (a b c : ℕ) → b < 256 → c < 256 → (x y z : ℕ) → cleared a b c ≡ x ∷ y ∷ z ∷ []

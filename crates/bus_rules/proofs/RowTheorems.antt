@@ -9,7 +9,8 @@ use Rattle.bus_rules.specs.Ident.{Parts, id_in, pack_of}
 use Rattle.bus_rules.specs.Frames.{frame_with, build_of}
 use Rattle.bus_rules.specs.Rows.{Built, RowTheorems}
 use Rattle.bus_rules.proofs.IdentLaws.{unpack_after_pack_lem, pack_after_unpack_lem, lawful_ids_lem, packed_by_row_lem, unpacked_by_row_lem}
-use Rattle.bus_rules.proofs.IdentLaws.{Lawful, zero_lawful, packed_is, unpack_id, in_rows_lawful, same_in_rows}
+use Rattle.wire.proofs.RefusalLaws.{answered}
+use Rattle.bus_rules.proofs.IdentLaws.{Lawful, zero_lawful, unpack_id, in_rows_lawful, same_in_rows}
 use Rattle.bus_rules.proofs.RequestLaws.{read_after_write_lem, write_after_read_lem}
 use Rattle.bus_rules.proofs.FrameLaws.{content_of_frame, padded_length, padded_after}
 
@@ -18,7 +19,7 @@ unfolding build_of frame_with pack_of
 built p bs = record {
   unpacks = unpack_id _ (in_rows_lawful p);
   packed = λ id e.
-      let h = packed_is _ _ id e in
+      let h = answered _ _ id e in
       ap (λ (i : ℕ). frame_with i (take 8 bs)) (ap id_in (same_in_rows p (zero_lawful p h.0)) ∙ h.1);
   content = content_of_frame _ (take 8 bs) (take_length_le 8 bs);
   eight = padded_length _ (take_length_le 8 bs);

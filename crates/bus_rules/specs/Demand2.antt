@@ -2,7 +2,7 @@
 -- bytes. 02, C-11: "Demand 2 then speaks of both memories." C-13: "Demand 2 reads per family; what the two share is proved once over the family":
 -- CommandServed, RequestServed and BurnServed speak of the device that the frame acts on (`acting`), all else of the device before. And which number is
 -- given exactly when, and C-16's mark. Of a call on the device e and the frame f that answers s and leaves the device after.
-use Rattle.std.specs.Prelude.{ℕ, ◌+◌, ◌≤◌, ◌<◌, ◌^◌, ◌/◌, ◌%◌, ◌≡◌, ◌⊎◌, ◌↔◌, ◌≢◌, List, [], ◌∷◌, length, get_or}
+use Rattle.std.specs.Prelude.{ℕ, ◌+◌, ◌≤◌, ◌<◌, ◌^◌, ◌/◌, ◌%◌, ◌≡◌, ◌⊎◌, ◌↔◌, ◌≢◌, List, [], ◌∷◌, length, get_or, Ok}
 use Rattle.std.proofs.lemmas.List.Edits.{sets}
 use Rattle.wire.specs.First.{First, Unless, Zero}
 use Rattle.bus_rules.specs.Ident.{id_spare, id_to, id_from, id_kind, id_offset, unpack_of}
@@ -12,7 +12,6 @@ use Rattle.bus_rules.specs.Rows.{cleared}
 use Rattle.bus_rules.specs.Device.{Directory, HolderState, FirstState, Device, device, SameTables, none_current, currently, own_of, size_of, right_of}
 use Rattle.bus_rules.specs.Device.{start_of, total_of}
 use Rattle.bus_rules.specs.Holder.{Served, byte_of, request_at, table_of, size_at, right_at, place_of, no_answer, acting, serve_of, device_after}
-use Rattle.bus_rules.specs.declared.Unpacked.TheVariants as U
 
 -- ── What a served frame does, on either family ─────────────────────────────────────────────────────────────────────
 
@@ -32,7 +31,7 @@ pub record CommandServed (e : Device) (f : Frame) (s : Served) (after : Device) 
 pub record Replied (e : Device) (f : Frame) (q : Request) (s : Served) : Type 0 where
   pub done : s.number ≡ 0
   pub one : s.frames ≡ 1
-  pub ident : unpack_of s.frame.id ≡ U.Is (record { offset = q.offset; kind = rsp; from = own_of e; to = id_from f.id; table = q.table })
+  pub ident : unpack_of s.frame.id ≡ Ok (record { offset = q.offset; kind = rsp; from = own_of e; to = id_from f.id; table = q.table })
   pub len : s.frame.len ≡ q.count
   pub eight : length s.frame.bytes ≡ 8
   pub zeros : (i : ℕ) → q.count ≤ i → get_or s.frame.bytes i 0 ≡ 0
@@ -68,7 +67,7 @@ pub record TableCopied (d : Directory) (k : ℕ) (from to after : List ℕ) : Ty
 pub record Acknowledged (e : Device) (f : Frame) (s : Served) : Type 0 where
   pub done : s.number ≡ 0
   pub one : s.frames ≡ 1
-  pub ident : unpack_of s.frame.id ≡ U.Is (record { offset = 0; kind = xtnd; from = own_of e; to = id_from f.id; table = table_of f })
+  pub ident : unpack_of s.frame.id ≡ Ok (record { offset = 0; kind = xtnd; from = own_of e; to = id_from f.id; table = table_of f })
   pub len : s.frame.len ≡ 2
   pub bytes : s.frame.bytes ≡ 0x0E ∷ 0x01 ∷ 0 ∷ 0 ∷ 0 ∷ 0 ∷ 0 ∷ 0 ∷ []
 

@@ -1,8 +1,10 @@
 -- 01 "Table holder": a device is a directory and the memory in which its tables lie. 02, C-11: "A second lent memory, as long as the first,
 -- is the flash." C-13: "The holder is told its family (2, the older, or 3) and remembers the current table".
-use Rattle.std.specs.Prelude.{ℕ, zero, suc, ◌+◌, ◌≡◌, Bool, true, not, cond, ◌&&◌, ◌||◌, List, leb, eqb, get_or, take, drop}
+use Rattle.std.specs.Prelude.{ℕ, zero, suc, ◌+◌, ◌≡◌, Bool, true, not, cond, ◌&&◌, ◌||◌, List, leb, eqb, get_or, take, drop, Result, Ok, Err}
 use Rattle.std.proofs.lemmas.List.Edits.{sets}
 use Rattle.wire.specs.Order.{◌if◌else◌, ◌or_else◌}
+use Rattle.wire.specs.declared.refusal.Refusal.{Refusal}
+use Rattle.wire.specs.Refusals.{code}
 pub use Rattle.bus_rules.specs.declared.Directory.{Directory}
 pub use Rattle.bus_rules.specs.declared.HolderState.{HolderState}
 pub use Rattle.bus_rules.specs.declared.FirstState.{FirstState}
@@ -74,6 +76,11 @@ state_number d s = 11 if not (known_family s.family && sound_current d s) else 0
 unfoldable pub first_state_of : (family : ℕ) → FirstState
 first_state_of family =
     cond (known_family family) (record { number = 0; state = none_current family }) (record { number = 11; state = none_current 0 })
+
+-- what C sees of a first state or a refusal of its family
+abbrev pub as_first_state : Result HolderState Refusal → FirstState
+as_first_state (Ok s) = record { number = 0; state = s }
+as_first_state (Err e) = record { number = code e; state = none_current 0 }
 
 -- ── The device ─────────────────────────────────────────────────────────────────────────────────────────────────────
 

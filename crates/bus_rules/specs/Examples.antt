@@ -1,11 +1,10 @@
 -- What the definitions make of identifiers, of 002's worked examples, and of other frames to a small device. All that is asked and answered is written out.
-use Rattle.std.specs.Prelude.{ℕ, ◌-◌, ◌≡◌, List, [], ◌∷◌, ◌++◌, map, length, replicate}
+use Rattle.wire.specs.declared.refusal.Refusal.TheVariants as R
+use Rattle.std.specs.Prelude.{ℕ, ◌-◌, ◌≡◌, List, [], ◌∷◌, ◌++◌, map, length, replicate, Ok, Err}
 use Rattle.bus_rules.specs.Device.{Directory, HolderState, Device, device, first_state_of}
 use Rattle.bus_rules.specs.Frames.{Frame}
 use Rattle.bus_rules.specs.Ident.{Parts, rows, part, part_at, sum_of_rows, pack_of, unpack_of}
 use Rattle.bus_rules.specs.Request.{read_request_of, request_bytes_of}
-use Rattle.bus_rules.specs.declared.Packed.TheVariants as P
-use Rattle.bus_rules.specs.declared.Unpacked.TheVariants as U
 use Rattle.bus_rules.specs.Holder.{Served, serve_of, device_after}
 
 -- of a device: table 4 has 2 bytes and no right, table 7 has 8 bytes to read, table 15 so many to read and write, table 20 has 2 to read and write
@@ -67,8 +66,8 @@ table_zero s memory =
 pub record ByHand (id : ℕ) (parts : List ℕ) (p : Parts) : Type 0 where
   pub apart : map (part id) rows ≡ parts
   pub together : sum_of_rows rows parts ≡ id
-  pub unpacked : unpack_of id ≡ U.Is p
-  pub packed : pack_of p ≡ P.Is id
+  pub unpacked : unpack_of id ≡ Ok p
+  pub packed : pack_of p ≡ Ok id
 
 -- a frame by its identifier, its length, and its bytes before zeros
 abbrev pub frame : (id len : ℕ) → List ℕ → Frame
@@ -99,8 +98,8 @@ pub record Examples : Type 0 where
   pub largest : ByHand 0x1FFFFFFC (0 ∷ 1 ∷ 15 ∷ 15 ∷ 15 ∷ 7 ∷ 2047 ∷ [])
       (record { offset = 2047; kind = 7; from = 15; to = 15; table = 31 })
   -- "0x1FFFFFFD is 2; 0x20000000 is 1"
-  pub spare_one : (part_at 0x1FFFFFFD 0 ≡ 1) × (unpack_of 0x1FFFFFFD ≡ U.Refused 2)
-  pub over29_bits : (map (part 0x20000000) rows ≡ replicate 7 0) × (unpack_of 0x20000000 ≡ U.Refused 1)
+  pub spare_one : (part_at 0x1FFFFFFD 0 ≡ 1) × (unpack_of 0x1FFFFFFD ≡ Err R.SpareBits)
+  pub over29_bits : (map (part 0x20000000) rows ≡ replicate 7 0) × (unpack_of 0x20000000 ≡ Err R.HighIdentifier)
   -- 002, 4.1: "id=0x40b878, DLC=3, Data = 0x06 0x00 0x04" brings "id=0x103b0 .. 0x31 0x34 0x20 0x00"
   pub signature : Answers holder (frame 0x40B878 3 (0x06 ∷ 0x00 ∷ 0x04 ∷ 0xFF ∷ [])) 1
       (frame 0x103B0 4 (0x31 ∷ 0x34 ∷ 0x20 ∷ 0x00 ∷ []))
@@ -207,7 +206,7 @@ pub record Examples : Type 0 where
   pub bit_four_nine : Refuses holder (frame 0x40B878 3 (0x06 ∷ 0x00 ∷ 0x19 ∷ [])) 9
   pub five : Refuses holder (frame 0x403878 5 (0xB0 ∷ 0xB1 ∷ 0xB2 ∷ 0xB3 ∷ 0xB4 ∷ [])) 8
   -- table 32, a count of 16
-  pub table32 : pack_of (record { offset = 0; kind = 0; from = 0; to = 0; table = 32 }) ≡ P.Refused 7
+  pub table32 : pack_of (record { offset = 0; kind = 0; from = 0; to = 0; table = 32 }) ≡ Err R.NoTable
   pub count16 : request_bytes_of (record { table = 0; offset = 0; count = 16 }) ≡ record { number = 9; bytes = replicate 3 0 }
   -- 01: "`06 10 02` asks two bytes to table 6, offset 128", and C-16: `06 10 12` is now such a request; so is `46 10 02`
   pub clear_bytes : read_request_of 0x06 0x10 0x02 ≡ record { request = record { table = 6; offset = 128; count = 2 }; clear = 1 }

@@ -1,10 +1,9 @@
 -- 01 "Identifier and frame": a frame is an identifier, a length 0..8 and eight bytes.
-use Rattle.std.specs.Prelude.{ℕ, ◌^◌, not, List, [], ◌++◌, leb, ltb, eqb, length, take, replicate}
+use Rattle.std.specs.Prelude.{ℕ, ◌^◌, not, List, ◌++◌, leb, ltb, eqb, length, take, replicate, Result}
 use Rattle.wire.specs.Order.{◌if◌else◌}
-use Rattle.wire.specs.Answer.{answer}
+use Rattle.wire.specs.declared.refusal.Refusal.{Refusal}
+use Rattle.wire.specs.Refusals.{checked}
 use Rattle.bus_rules.specs.Ident.{Parts, id_spare, id_to, parts_of, id_in, in_rows}
-use Rattle.bus_rules.specs.declared.Unpacked.{Unpacked}
-use Rattle.bus_rules.specs.declared.Unpacked.TheVariants as U
 pub use Rattle.bus_rules.specs.declared.Frame.{Frame}
 
 -- the types: 0 CMD, 1 REQ, 2 RSP, 7 XTND; 02, C-11: 4 BURN
@@ -57,5 +56,5 @@ unfoldable pub receive_number : ℕ → Frame → ℕ
 receive_number own f = 11 if ltb 15 own else head_number own f
 
 -- the parts of a frame's identifier, unless a receiver of this own number refuses it
-unfoldable pub read_head_of : ℕ → Frame → Unpacked
-read_head_of own f = answer U.Is U.Refused (receive_number own f) (parts_of f.id)
+unfoldable pub read_head_of : ℕ → Frame → Result Parts Refusal
+read_head_of own f = checked (receive_number own f) (parts_of f.id)

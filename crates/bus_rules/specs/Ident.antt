@@ -1,12 +1,9 @@
 -- 01 "Identifier and frame": the 29-bit identifier, by sums, products, quotients and remainders.
-use Rattle.std.specs.Prelude.{ℕ, ◌+◌, ◌*◌, ◌/◌, ◌%◌, ◌^◌, not, List, [], ◌∷◌, leb, ltb, eqb, get_or}
+use Rattle.std.specs.Prelude.{ℕ, ◌+◌, ◌*◌, ◌/◌, ◌%◌, ◌^◌, not, List, [], ◌∷◌, leb, ltb, eqb, get_or, Result}
 use Rattle.wire.specs.Order.{◌if◌else◌}
-use Rattle.wire.specs.Answer.{answer}
+use Rattle.wire.specs.declared.refusal.Refusal.{Refusal}
+use Rattle.wire.specs.Refusals.{checked}
 pub use Rattle.bus_rules.specs.declared.Parts.{Parts}
-use Rattle.bus_rules.specs.declared.Packed.{Packed}
-use Rattle.bus_rules.specs.declared.Packed.TheVariants as P
-use Rattle.bus_rules.specs.declared.Unpacked.{Unpacked}
-use Rattle.bus_rules.specs.declared.Unpacked.TheVariants as U
 
 -- 01's table from the low end, a row each: its lowest bit and its width
 abbrev pub rows : List (ℕ × ℕ)
@@ -88,8 +85,8 @@ pack_number p =
     else 8 if ltb 2047 p.offset
     else 0
 
-unfoldable pub pack_of : Parts → Packed
-pack_of p = answer P.Is P.Refused (pack_number p) (id_in p)
+unfoldable pub pack_of : Parts → Result ℕ Refusal
+pack_of p = checked (pack_number p) (id_in p)
 
 -- parts as the rows hold them: each modulo 2 to its row's width, the table to those of its two rows together
 unfoldable pub in_rows : Parts → Parts
@@ -105,17 +102,9 @@ in_rows p = record {
 unfoldable pub unpack_number : ℕ → ℕ
 unpack_number id = 1 if leb (2 ^ 29) id else 2 if not (eqb (id_spare id) 0) else 0
 
-unfoldable pub unpack_of : ℕ → Unpacked
-unpack_of id = answer U.Is U.Refused (unpack_number id) (parts_of id)
+unfoldable pub unpack_of : ℕ → Result Parts Refusal
+unpack_of id = checked (unpack_number id) (parts_of id)
 
--- the paper's number and values of each case: in a refusal every other number is 0
-abbrev pub packed_answer : Packed → ℕ × ℕ
-packed_answer (P.Is id) = (0, id)
-packed_answer (P.Refused n) = (n, 0)
-
+-- in a refusal every other number is 0
 abbrev pub no_parts : Parts
 no_parts = record { offset = 0; kind = 0; from = 0; to = 0; table = 0 }
-
-abbrev pub unpacked_answer : Unpacked → ℕ × Parts
-unpacked_answer (U.Is p) = (0, p)
-unpacked_answer (U.Refused n) = (n, no_parts)

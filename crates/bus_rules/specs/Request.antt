@@ -1,6 +1,8 @@
 -- 01 "Request bytes", which 02, C-16 reads with the reserved bits ignored.
-use Rattle.std.specs.Prelude.{ℕ, zero, suc, ◌+◌, ◌*◌, ◌/◌, ◌%◌, ◌&&◌, List, [], ◌∷◌, ltb, eqb, replicate}
+use Rattle.std.specs.Prelude.{ℕ, zero, suc, ◌+◌, ◌*◌, ◌/◌, ◌%◌, ◌&&◌, List, [], ◌∷◌, ltb, eqb, replicate, Result, Ok, Err}
 use Rattle.wire.specs.Order.{◌if◌else◌}
+use Rattle.wire.specs.declared.refusal.Refusal.{Refusal}
+use Rattle.wire.specs.Refusals.{code}
 pub use Rattle.bus_rules.specs.declared.Request.{Request}
 pub use Rattle.bus_rules.specs.declared.RequestRead.{RequestRead}
 use Rattle.bus_rules.specs.declared.RequestBytes.{RequestBytes}
@@ -32,3 +34,8 @@ wrote_request (suc n) bs = record { number = suc n; bytes = replicate 3 0 }
 
 unfoldable pub request_bytes_of : Request → RequestBytes
 request_bytes_of q = wrote_request (request_bytes_number q) (request q.table q.offset q.count)
+
+-- what C sees of the bytes or a refusal of them
+abbrev pub as_request_bytes : Result (List ℕ) Refusal → RequestBytes
+as_request_bytes (Ok bs) = record { number = 0; bytes = bs }
+as_request_bytes (Err e) = record { number = code e; bytes = replicate 3 0 }

@@ -1,7 +1,9 @@
 // What the bus is made of. Its rules are defined in specs/.
 #![tactic(auto)]
 
-// The types of frames.
+mod views;
+
+// The types of frames: numbers, since `Parts.kind` is any number that C gives, and pack judges it.
 pub const CMD: u8 = 0;
 
 pub const REQ: u8 = 1;
@@ -23,21 +25,7 @@ pub struct Parts {
     pub table: u8,
 }
 
-// An identifier, or the number that refuses its parts.
-#[derive(Clone, Copy)]
-pub enum Packed {
-    Is(u32),
-    Refused(u8),
-}
-
-// The parts of an identifier, or the number that refuses it.
-#[derive(Clone, Copy)]
-pub enum Unpacked {
-    Is(Parts),
-    Refused(u8),
-}
-
-// A frame: an identifier, a length 0..8 and eight bytes. Bytes past the length are ignored.
+// A frame: an identifier, a length 0..8 and eight bytes. Bytes past the length are ignored. C lends any length, and 3 refuses one over 8.
 #[repr(C)]
 #[derive(Clone, Copy)]
 pub struct Frame {
@@ -55,7 +43,7 @@ pub struct Request {
     pub offset: u16,
 }
 
-// What is read from request bytes: the request, and 1 if their reserved bits are clear, else 0.
+// What C sees of request bytes that are read: the request, and 1 if their reserved bits are clear, else 0.
 #[repr(C)]
 #[derive(Clone, Copy)]
 pub struct RequestRead {
@@ -63,7 +51,7 @@ pub struct RequestRead {
     pub clear: u8,
 }
 
-// A number, and the three request bytes, all 0 in a refusal.
+// What C sees of request bytes that are written: a number, and the three bytes, all 0 in a refusal.
 #[repr(C)]
 #[derive(Clone, Copy)]
 pub struct RequestBytes {
@@ -72,6 +60,7 @@ pub struct RequestBytes {
 }
 
 // A holder's directory: 32 sizes and rights (0 none, 1 read, 2 read and write), two blocking factors, and its own number.
+// C lends any numbers, and 11 refuses unsound ones.
 #[repr(C)]
 #[derive(Clone, Copy)]
 pub struct Directory {
@@ -83,6 +72,7 @@ pub struct Directory {
 }
 
 // A holder's state: its family (2, the older, or 3), and its current table: `has_current` is 1 and `current` that table, or both are 0 where none is.
+// C lends any numbers, and 11 refuses unsound ones.
 #[repr(C)]
 #[derive(Clone, Copy)]
 pub struct HolderState {
@@ -91,7 +81,7 @@ pub struct HolderState {
     pub current: u8,
 }
 
-// A number, and the first state of a family, all 0 in a refusal.
+// What C sees of a first state: a number, and the state of a family, all 0 in a refusal.
 #[repr(C)]
 #[derive(Clone, Copy)]
 pub struct FirstState {
@@ -99,7 +89,7 @@ pub struct FirstState {
     pub state: HolderState,
 }
 
-// A holder's answer: a number, how many frames it has (0 or 1), the mark `clear` (1 if it answers a REQ or a protocol query whose reserved
+// What C sees of a holder's answer: a number, how many frames it has (0 or 1), the mark `clear` (1 if it answers a REQ or a protocol query whose reserved
 // bits are clear, else 0), and the frame, all 0 where there is none.
 #[repr(C)]
 #[derive(Clone, Copy)]
@@ -110,7 +100,7 @@ pub struct Served {
     pub frame: Frame,
 }
 
-// A holder's answer, and its state after it.
+// What C sees of a holder's answer, and its state after it.
 #[repr(C)]
 #[derive(Clone, Copy)]
 pub struct HolderAnswer {

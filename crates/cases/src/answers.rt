@@ -1,43 +1,70 @@
 // What a call answers, and how it is printed: ` =`, numbers, a block's kind, an identifier or bits after `0x`, bytes after a bar or a text
 // in quotes.
-use crate::lines::{NONE, part};
+use crate::lines::part;
+use arrayvec::ArrayVec;
+use print::Page;
+use wire::Refusal;
+use wire::views::number_of;
 
-// The first number is 01's; hex may be NONE.
+// What a block is.
 #[derive(Clone, Copy)]
-pub(crate) struct Answer {
-    pub(crate) count: usize,
-    pub(crate) numbers: [u64; 8],
-    pub(crate) kind: u64,
-    pub(crate) hex: u64,
-    pub(crate) len: u64,
-    pub(crate) bytes: [u8; 64],
-    pub(crate) is_text: bool,
+pub(crate) enum Kind {
+    Data,
+    Mark,
+    Time,
+    End,
 }
 
-// What a block is: a place among the words of put_kind.
-pub(crate) const DATA: u64 = 0;
+impl Kind {
+    // Its word after a space, one piece.
+    fn word(self) -> &'static [u8] {
+        match self {
+            Kind::Data => b" data",
+            Kind::Mark => b" mark",
+            Kind::Time => b" time",
+            Kind::End => b" end",
+        }
+    }
+}
 
-pub(crate) const MARK: u64 = 5;
+// The bytes that an answer ends with, as digits or as text.
+#[derive(Drop)]
+enum Shown {
+    Bytes(ArrayVec<u8, 56>),
+    Text(ArrayVec<u8, 56>),
+}
 
-pub(crate) const TIME: u64 = 10;
+// The first number is 01's. A heading's answer has none, and is not printed.
+#[derive(Drop)]
+pub(crate) struct Answer {
+    numbers: ArrayVec<u64, 8>,
+    kind: Option<Kind>,
+    hex: Option<u32>,
+    shown: Shown,
+}
 
-pub(crate) const END: u64 = 15;
+// The first 56 bytes.
+fn first(s: &[u8]) -> ArrayVec<u8, 56> {
+    let mut bytes = ArrayVec::new();
+    let _ = bytes.try_extend_from_slice(part(s, 0, 56));
+    bytes
+}
 
-pub(crate) fn numbers(count: usize, numbers: [u64; 8]) -> Answer {
+// At most eight numbers.
+pub(crate) fn numbers(given: &[u64]) -> Answer {
+    let mut numbers = ArrayVec::new();
+    let _ = numbers.try_extend_from_slice(given);
     Answer {
-        count,
         numbers,
-        kind: NONE,
-        hex: NONE,
-        len: 0,
-        bytes: [0; 64],
-        is_text: false,
+        kind: None,
+        hex: None,
+        shown: Shown::Bytes(ArrayVec::new()),
     }
 }
 
 // A heading's answer.
 pub(crate) fn nothing() -> Answer {
-    numbers(0, [0; 8])
+    numbers(&[])
 }
 
 // The answer to a call that is not there.
@@ -46,113 +73,101 @@ pub(crate) fn unknown() -> Answer {
 }
 
 pub(crate) fn number(n: u8) -> Answer {
-    numbers(1, [n as u64; 8])
+    numbers(&[u64::from(n)])
 }
 
-pub(crate) fn pair(n: u8, x: u64) -> Answer {
-    numbers(2, [n as u64, x, 0, 0, 0, 0, 0, 0])
+pub(crate) fn refused(e: Refusal) -> Answer {
+    number(e.number())
 }
 
-pub(crate) fn with_kind(a: Answer, kind: u64) -> Answer {
-    let mut a = a;
-    a.kind = kind;
-    a
+// The number of a result, 0 for a value, and the value, 0 in a refusal.
+pub(crate) fn pair(r: Result<u64, Refusal>) -> Answer {
+    numbers(&[u64::from(number_of(r)), r.unwrap_or(0)])
 }
 
-pub(crate) fn with_hex(a: Answer, hex: u64) -> Answer {
-    let mut a = a;
-    a.hex = hex;
-    a
-}
-
-// With bytes, at most 56 of them.
-pub(crate) fn with_bytes(a: Answer, s: &[u8]) -> Answer {
-    let shown = part(s, 0, 56);
-    let mut bytes = [0u8; 64];
-    wire::put(&mut bytes, 0, shown);
-    let mut a = a;
-    a.bytes = bytes;
-    a.len = shown.len() as u64;
-    a
-}
-
-pub(crate) fn with_text(a: Answer, s: &[u8]) -> Answer {
-    let mut a = with_bytes(a, s);
-    a.is_text = true;
-    a
-}
-
-pub(crate) fn flag(b: bool) -> u64 {
-    if b { 1 } else { 0 }
-}
-
-fn put_number(out: &mut [u8], at: usize, x: u64) -> usize {
-    let next = print::byte(out, at, b' ');
-    print::decimal(out, next, x)
-}
-
-fn put_numbers(out: &mut [u8], at: usize, count: usize, numbers: [u64; 8]) -> usize {
-    let mut next = at;
-    let mut i: usize = 0;
-    while i < 8 {
-        if i == count {
-            return next;
+impl Answer {
+    pub(crate) fn with_kind(self, kind: Kind) -> Answer {
+        Answer {
+            kind: Some(kind),
+            ..self
         }
-        next = put_number(out, next, numbers[i]);
-        i += 1;
     }
-    next
-}
 
-fn put_kind(out: &mut [u8], at: usize, kind: u64) -> usize {
-    print::text(out, at, part(b" data mark time end", kind, 5))
-}
-
-fn put_hex(out: &mut [u8], at: usize, x: u64) -> usize {
-    if x == NONE {
-        return at;
+    pub(crate) fn with_hex(self, hex: u32) -> Answer {
+        Answer {
+            hex: Some(hex),
+            ..self
+        }
     }
-    let next = print::text(out, at, b" 0x");
-    print::hex(out, next, x, 1)
-}
 
-fn put_text(out: &mut [u8], at: usize, s: &[u8]) -> usize {
-    let next = print::text(out, at, b" \"");
-    let next = print::text(out, next, s);
-    print::byte(out, next, b'"')
-}
-
-fn put_bytes(out: &mut [u8], at: usize, s: &[u8], is_text: bool) -> usize {
-    if is_text {
-        return put_text(out, at, s);
+    // With bytes, at most 56 of them.
+    pub(crate) fn with_bytes(self, s: &[u8]) -> Answer {
+        Answer {
+            shown: Shown::Bytes(first(s)),
+            ..self
+        }
     }
-    if s.len() == 0 {
-        return at;
+
+    pub(crate) fn with_text(self, s: &[u8]) -> Answer {
+        Answer {
+            shown: Shown::Text(first(s)),
+            ..self
+        }
     }
-    let next = print::text(out, at, b" |");
-    print::bytes(out, next, s)
-}
 
-// What stands after the numbers.
-fn put_rest(out: &mut [u8], at: usize, a: Answer) -> usize {
-    let next = put_kind(out, at, a.kind);
-    let next = put_hex(out, next, a.hex);
-    let bytes = a.bytes;
-    put_bytes(out, next, part(&bytes, 0, a.len), a.is_text)
-}
-
-fn put_some(out: &mut [u8], at: usize, a: Answer) -> usize {
-    if a.count == 0 {
-        return at;
+    pub(crate) fn has_hex(&self) -> bool {
+        self.hex.is_some()
     }
-    let numbers = a.numbers;
-    let next = print::text(out, at, b" =");
-    let next = put_numbers(out, next, a.count, numbers);
-    put_rest(out, next, a)
+
+    // Puts the answer and the end of the line.
+    pub(crate) fn put(&self, page: &mut Page) {
+        if !self.numbers.is_empty() {
+            page.text(b" =");
+            put_numbers(page, self.numbers.as_slice());
+            put_kind(page, self.kind);
+            put_hex(page, self.hex);
+            put_shown(page, &self.shown);
+        }
+        page.byte(b'\n');
+    }
 }
 
-// Puts an answer and the end of the line.
-pub(crate) fn put_answer(out: &mut [u8], at: usize, a: Answer) -> usize {
-    let next = put_some(out, at, a);
-    print::byte(out, next, b'\n')
+fn put_numbers(page: &mut Page, numbers: &[u64]) {
+    for x in numbers {
+        page.byte(b' ');
+        page.decimal(*x);
+    }
+}
+
+fn put_kind(page: &mut Page, kind: Option<Kind>) {
+    if let Some(kind) = kind {
+        page.text(kind.word());
+    }
+}
+
+fn put_hex(page: &mut Page, hex: Option<u32>) {
+    if let Some(x) = hex {
+        page.text(b" 0x");
+        page.hex(u64::from(x), 1);
+    }
+}
+
+fn put_bytes(page: &mut Page, s: &[u8]) {
+    if !s.is_empty() {
+        page.text(b" |");
+        page.bytes(s);
+    }
+}
+
+fn put_text(page: &mut Page, s: &[u8]) {
+    page.text(b" \"");
+    page.text(s);
+    page.byte(b'"');
+}
+
+fn put_shown(page: &mut Page, shown: &Shown) {
+    match shown {
+        Shown::Bytes(s) => put_bytes(page, s.as_slice()),
+        Shown::Text(s) => put_text(page, s.as_slice()),
+    }
 }

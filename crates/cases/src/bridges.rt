@@ -1,17 +1,18 @@
-// The bridge.
-use crate::answers::{Answer, number, pair, unknown, with_bytes};
-use crate::buses::{device, frame_of, state, with_frame};
-use crate::lines::{NONE, Words, part, room};
-use crate::{Ran, World, kept};
+// The bridge. Its first buffer is the first 512 bytes of the memory.
+use crate::World;
+use crate::answers::{Answer, number, numbers, pair, refused, unknown};
+use crate::buses::{frame_of, with_frame};
+use crate::lines::{Words, part, room};
 use bridge::ending::{close, reset};
 use bridge::incoming::frame;
 use bridge::opening::{open_check, open_read, open_write};
-use bridge::tickets::{span, status};
-use bridge::{Bridge, Changed, Opened, Slot, Stepped};
+use bridge::tickets::{bytes, status};
+use bridge::{After, Bridge, Slot};
+use wire::views::number_of;
 
 // A state that no call has made; reset makes a fresh bridge of it.
-fn unmade() -> Bridge {
-    let x = Slot {
+pub(crate) fn unmade() -> Bridge {
+    let slot = Slot {
         ticket: 0,
         offset: 0,
         phase: 0,
@@ -23,9 +24,8 @@ fn unmade() -> Bridge {
         sends: 0,
         left: 0,
     };
-    let slots = [x, x, x, x];
     Bridge {
-        slots,
+        slots: [slot; 4],
         issued: 0,
         own: 200,
         last: 9,
@@ -33,188 +33,120 @@ fn unmade() -> Bridge {
     }
 }
 
-pub(crate) fn fresh() -> World {
-    let directory = device(0);
-    let bridge = unmade();
-    World {
-        directory,
-        state: state(3, 0, 0),
-        bridge,
-        second: [0; 512],
-        turns: 0,
-    }
-}
-
-fn with_bridge(w: World, bridge: Bridge, turns: u64, answer: Answer) -> Ran {
-    let directory = w.directory;
-    let state = w.state;
-    let second = w.second;
-    kept(
-        World {
-            directory,
-            state,
-            bridge,
-            second,
-            turns,
-        },
-        answer,
-    )
-}
-
 // open_read DEVICE TABLE OFFSET COUNT, open_write and open_check DEVICE TABLE OFFSET | BYTES: the number and the ticket.
-fn opened(w: World, o: Opened) -> Ran {
-    with_bridge(w, o.bridge, w.turns, pair(o.number, o.ticket as u64))
+fn opened(w: &mut World, o: After<u32>) -> Answer {
+    w.bridge = o.bridge;
+    pair(o.answer.map(u64::from))
 }
 
-fn open_checked(w: World, memory: &[u8], a: Words, bytes: &[u8]) -> Ran {
-    let b = a.n8;
-    let h = a.n16;
-    let mut w = w;
-    let mut second = w.second;
-    let o = open_check(w.bridge, memory, &mut second, b[3], b[4], h[5], bytes);
-    w.second = second;
+fn opened_read(w: &mut World, a: &Words) -> Answer {
+    let o = open_read(
+        w.bridge,
+        &w.memory[..512],
+        &w.second,
+        a.u8(3),
+        a.u8(4),
+        a.u16(5),
+        a.u64(6) as usize,
+    );
     opened(w, o)
 }
 
-// reset OWN, close TICKET: the number.
-fn changed(w: World, c: Changed, turns: u64) -> Ran {
-    with_bridge(w, c.bridge, turns, number(c.number))
+fn opened_write(w: &mut World, a: &Words, bytes: &[u8]) -> Answer {
+    let second = &w.second;
+    let memory = room(&mut w.memory, 0, 512);
+    let o = open_write(w.bridge, memory, second, a.u8(3), a.u8(4), a.u16(5), bytes);
+    opened(w, o)
 }
 
-// frame IDENTIFIER | BYTES: the number.
-fn taken(w: World, s: Stepped) -> Ran {
-    let x = s.answer;
-    with_bridge(w, s.bridge, w.turns, number(x.number))
+fn opened_check(w: &mut World, a: &Words, bytes: &[u8]) -> Answer {
+    let o = open_check(
+        w.bridge,
+        &w.memory[..512],
+        &mut w.second,
+        a.u8(3),
+        a.u8(4),
+        a.u16(5),
+        bytes,
+    );
+    opened(w, o)
+}
+
+// reset OWN, close TICKET, frame IDENTIFIER | BYTES: the number.
+fn changed<T: Copy>(w: &mut World, c: After<T>) -> Answer {
+    w.bridge = c.bridge;
+    number(number_of(c.answer))
+}
+
+fn reset_to(w: &mut World, own: u8) -> Answer {
+    w.turns = 0;
+    changed(w, reset(w.bridge, own))
+}
+
+fn taken(w: &mut World, id: u32, bytes: &[u8]) -> Answer {
+    let second = &w.second;
+    let memory = room(&mut w.memory, 0, 512);
+    let s = frame(w.bridge, memory, second, frame_of(id, bytes));
+    changed(w, s)
 }
 
 // turn: the number, which turn it is, and the frame that it sends.
-fn turn(w: World, memory: &[u8]) -> Ran {
-    let second = w.second;
-    let s = bridge::turning::turn(w.bridge, memory, &second);
-    let x = s.answer;
-    let f = x.frame;
-    let turns = w.turns % 1000000 + 1;
-    with_bridge(
-        w,
-        s.bridge,
-        turns,
-        with_frame(pair(x.number, turns), x.frames, f),
-    )
-}
-
-// Whether a turn sent, or a ticket's status is another than it was.
-fn happened(r: Ran, ticket: u32, before: u8) -> bool {
-    let a = r.answer;
-    if a.hex != NONE {
-        return true;
+fn turn(w: &mut World) -> Answer {
+    let s = bridge::turning::turn(w.bridge, &w.memory[..512], &w.second);
+    w.bridge = s.bridge;
+    w.turns = w.turns % 1000000 + 1;
+    let a = numbers(&[u64::from(number_of(s.answer)), w.turns]);
+    match s.answer {
+        Ok(Some(f)) => with_frame(a, f),
+        _ => a,
     }
-    let w = r.world;
-    status(w.bridge, ticket) != before
 }
 
 // turns MOST TICKET: turns, until one sends or the ticket's status changes; the last one's answer.
-fn turns(w: World, memory: &[u8], most: u64, ticket: u32) -> Ran {
+fn turns(w: &mut World, most: u64, ticket: u32) -> Answer {
     let before = status(w.bridge, ticket);
-    let mut left = most;
-    let mut r = turn(w, memory);
-    while 1 < left {
-        if happened(r, ticket, before) {
-            return r;
+    let mut answer = turn(w);
+    for _ in 1..most {
+        if answer.has_hex() || status(w.bridge, ticket) != before {
+            break;
         }
-        let next = r.world;
-        r = turn(next, memory);
-        left -= 1;
+        answer = turn(w);
     }
-    r
+    answer
 }
 
 // bytes TICKET: the number and the part of the buffer.
-fn bytes(b: Bridge, memory: &[u8], ticket: u32) -> Answer {
-    let p = span(b, memory, ticket);
-    with_bytes(number(p.number), part(memory, p.start as u64, p.len as u64))
-}
-
-const RESET: u64 = 0x7265736574;
-
-const OPEN_READ: u64 = 0x6f70656e5f726561;
-
-const OPEN_WRITE: u64 = 0x6f70656e5f777269;
-
-const OPEN_CHECK: u64 = 0x6f70656e5f636865;
-
-const TURN: u64 = 0x7475726e;
-
-const TURNS: u64 = 0x7475726e73;
-
-const FRAME: u64 = 0x6672616d65;
-
-const STATUS: u64 = 0x737461747573;
-
-const BYTES: u64 = 0x6279746573;
-
-const CLOSE: u64 = 0x636c6f7365;
-
-const SECOND: u64 = 0x7365636f6e64;
-
-const RESTS: u64 = 0x7265737473;
-
-fn rests_of(b: Bridge) -> Answer {
-    let rests = b.rests;
-    with_bytes(number(0), part(&rests, 0, 4))
+fn bytes_of(w: &World, ticket: u32) -> Answer {
+    match bytes(w.bridge, &w.memory[..512], ticket) {
+        Ok(s) => number(0).with_bytes(s),
+        Err(e) => refused(e),
+    }
 }
 
 // What leaves the bridge as it is.
-fn look(w: World, memory: &[u8], a: Words) -> Answer {
-    let n = a.n;
-    let x = a.n32;
-    let second = w.second;
-    match n[2] {
+fn look(w: &World, a: &Words) -> Answer {
+    match a.call() {
         // status TICKET: the number.
-        STATUS => number(status(w.bridge, x[3])),
-        BYTES => bytes(w.bridge, memory, x[3]),
+        b"status" => number(number_of(status(w.bridge, a.u32(3)))),
+        b"bytes" => bytes_of(w, a.u32(3)),
         // second PLACE LENGTH: bytes of the second buffer.
-        SECOND => with_bytes(number(0), part(&second, n[3], n[4])),
+        b"second" => number(0).with_bytes(part(&w.second, a.u64(3), a.u64(4))),
         // rests: each slot's turns left to rest.
-        RESTS => rests_of(w.bridge),
+        b"rests" => number(0).with_bytes(&w.bridge.rests),
         _ => unknown(),
     }
 }
 
-fn step(w: World, memory: &[u8], a: Words) -> Ran {
-    let n = a.n;
-    let b = a.n8;
-    let x = a.n32;
-    match n[2] {
-        RESET => changed(w, reset(w.bridge, b[3]), 0),
-        CLOSE => changed(w, close(w.bridge, x[3]), w.turns),
-        TURN => turn(w, memory),
-        TURNS => turns(w, memory, n[3], x[4]),
-        _ => kept(w, look(w, memory, a)),
+pub(crate) fn call(w: &mut World, a: &Words, bytes: &[u8]) -> Answer {
+    match a.call() {
+        b"open_rea" => opened_read(w, a),
+        b"open_wri" => opened_write(w, a, bytes),
+        b"open_che" => opened_check(w, a, bytes),
+        b"frame" => taken(w, a.u32(3), bytes),
+        b"reset" => reset_to(w, a.u8(3)),
+        b"close" => changed(w, close(w.bridge, a.u32(3))),
+        b"turn" => turn(w),
+        b"turns" => turns(w, a.u64(3), a.u32(4)),
+        _ => look(w, a),
     }
-}
-
-fn buffer_call(w: World, memory: &mut [u8], a: Words, bytes: &[u8]) -> Ran {
-    let n = a.n;
-    let b = a.n8;
-    let h = a.n16;
-    let x = a.n32;
-    let second = w.second;
-    match n[2] {
-        OPEN_READ => opened(
-            w,
-            open_read(w.bridge, memory, &second, b[3], b[4], h[5], n[6] as usize),
-        ),
-        OPEN_WRITE => opened(
-            w,
-            open_write(w.bridge, memory, &second, b[3], b[4], h[5], bytes),
-        ),
-        OPEN_CHECK => open_checked(w, memory, a, bytes),
-        FRAME => taken(w, frame(w.bridge, memory, &second, frame_of(x[3], bytes))),
-        _ => step(w, memory, a),
-    }
-}
-
-// The first buffer is the first 512 bytes.
-pub(crate) fn call(w: World, memory: &mut [u8], a: Words, bytes: &[u8]) -> Ran {
-    buffer_call(w, room(memory, 0, 512), a, bytes)
 }

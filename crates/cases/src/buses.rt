@@ -1,46 +1,37 @@
 // Identifiers, request bytes and the table holder.
-use crate::answers::{Answer, nothing, number, numbers, pair, unknown, with_bytes, with_hex};
-use crate::lines::{NONE, Words, part, room};
-use crate::{Ran, World, kept};
-use bus::{Directory, Frame, HolderState, Packed, Parts, Request, Unpacked};
+use crate::World;
+use crate::answers::{Answer, nothing, number, numbers, pair, refused, unknown};
+use crate::lines::{Words, part, room};
+use bus::{Directory, Frame, HolderState, Parts, Request};
+use wire::views::number_of;
 
 // pack OFFSET TYPE FROM TO TABLE: the number and the identifier.
-fn pack(p: Parts) -> Answer {
-    let packed = bus::ident::pack(p);
+fn pack(a: &Words) -> Answer {
+    let packed = bus::ident::pack(Parts {
+        offset: a.u16(3),
+        kind: a.u8(4),
+        from: a.u8(5),
+        to: a.u8(6),
+        table: a.u8(7),
+    });
     match packed {
-        Packed::Is(id) => with_hex(number(0), id as u64),
-        Packed::Refused(x) => number(x),
-    }
-}
-
-fn parts(h: [u16; 16], b: [u8; 16]) -> Parts {
-    Parts {
-        offset: h[3],
-        kind: b[4],
-        from: b[5],
-        to: b[6],
-        table: b[7],
+        Ok(id) => number(0).with_hex(id),
+        Err(e) => refused(e),
     }
 }
 
 // unpack IDENTIFIER: the number, offset, type, from, to, table.
 fn unpack(id: u32) -> Answer {
-    let unpacked = bus::ident::unpack(id);
-    match unpacked {
-        Unpacked::Is(p) => numbers(
-            6,
-            [
-                0,
-                p.offset as u64,
-                p.kind as u64,
-                p.from as u64,
-                p.to as u64,
-                p.table as u64,
-                0,
-                0,
-            ],
-        ),
-        Unpacked::Refused(x) => number(x),
+    match bus::ident::unpack(id) {
+        Ok(p) => numbers(&[
+            0,
+            u64::from(p.offset),
+            u64::from(p.kind),
+            u64::from(p.from),
+            u64::from(p.to),
+            u64::from(p.table),
+        ]),
+        Err(e) => refused(e),
     }
 }
 
@@ -48,66 +39,65 @@ fn unpack(id: u32) -> Answer {
 fn read_request(b: [u8; 8]) -> Answer {
     let r = bus::requests::read_request(b[0], b[1], b[2]);
     let q = r.request;
-    numbers(
-        4,
-        [
-            q.table as u64,
-            q.offset as u64,
-            q.count as u64,
-            r.clear as u64,
-            0,
-            0,
-            0,
-            0,
-        ],
-    )
+    numbers(&[
+        u64::from(q.table),
+        u64::from(q.offset),
+        u64::from(q.count),
+        u64::from(r.clear),
+    ])
 }
 
-// request_bytes TABLE OFFSET COUNT: the number and the bytes.
+// request_bytes TABLE OFFSET COUNT: the number and the bytes, zeros in a refusal.
 fn request_bytes(table: u8, offset: u16, count: u8) -> Answer {
     let r = bus::requests::request_bytes(Request {
         table,
         offset,
         count,
     });
-    let bytes = r.bytes;
-    with_bytes(number(r.number), &bytes)
+    number(number_of(r)).with_bytes(&r.unwrap_or([0; 3]))
 }
 
 // The frame of an identifier and bytes.
 pub(crate) fn frame_of(id: u32, bytes: &[u8]) -> Frame {
-    let len = (bytes.len() % 256) as u8;
-    let bytes = bus::frames::padded(bytes);
-    Frame { id, len, bytes }
-}
-
-// An answer, with a frame where there is one.
-pub(crate) fn with_frame(a: Answer, frames: u8, f: Frame) -> Answer {
-    if frames == 0 {
-        return a;
+    Frame {
+        id,
+        len: (bytes.len() % 256) as u8,
+        bytes: bus::frames::padded(bytes),
     }
-    let bytes = f.bytes;
-    with_hex(with_bytes(a, part(&bytes, 0, f.len as u64)), f.id as u64)
 }
 
-// The length of a flash: that of the memory where a line gives none.
-fn flash_len(memory: u64, flash: u64) -> u64 {
-    if flash == NONE { memory } else { flash }
+// An answer with a frame.
+pub(crate) fn with_frame(a: Answer, f: Frame) -> Answer {
+    a.with_bytes(part(&f.bytes, 0, u64::from(f.len)))
+        .with_hex(f.id)
 }
 
-// serve LENGTH IDENTIFIER FLASH | BYTES: the number, the mark, and the frame answered; the state is then the one handed back.
-fn serve(w: World, memory: &mut [u8], flash: &mut [u8], id: u32, bytes: &[u8]) -> Ran {
-    let a = bus::holder::serve(w.directory, w.state, memory, flash, frame_of(id, bytes));
-    let s = a.served;
-    let f = s.frame;
-    let answer = with_frame(pair(s.number, s.clear as u64), s.frames, f);
-    with_state(w, a.state, answer)
+// serve LENGTH IDENTIFIER FLASH | BYTES: the number, the mark, and the frame answered; the state is then the one handed back. A flash is as
+// long as the memory where a line gives no length.
+fn serve(w: &mut World, a: &Words, bytes: &[u8]) -> Answer {
+    let len = a.u64(3);
+    let memory = room(&mut w.memory, 0, len);
+    let flash = room(&mut w.flash, 0, a.given(5).unwrap_or(len));
+    let answered = bus::holder::serve(
+        w.directory,
+        w.state,
+        memory,
+        flash,
+        frame_of(a.u32(4), bytes),
+    );
+    w.state = answered.state;
+    match answered.served {
+        Ok(Some(reply)) => with_frame(pair(Ok(u64::from(reply.clear))), reply.frame),
+        Ok(None) => pair(Ok(0)),
+        Err(e) => pair(Err(e)),
+    }
 }
 
-// first FAMILY: the number; the state is then that family's first.
-fn first(w: World, family: u8) -> Ran {
+// first FAMILY: the number; the state is then that family's first, zeros in a refusal.
+fn first(w: &mut World, family: u8) -> Answer {
     let r = bus::holder::first_state(family);
-    with_state(w, r.state, number(r.number))
+    w.state = r.unwrap_or(state(0, 0, 0));
+    number(number_of(r))
 }
 
 // state FAMILY HAS_CURRENT CURRENT
@@ -119,21 +109,18 @@ pub(crate) fn state(family: u8, has_current: u8, current: u8) -> HolderState {
     }
 }
 
+fn set_state(w: &mut World, a: &Words) -> Answer {
+    w.state = state(a.u8(3), a.u8(4), a.u8(5));
+    nothing()
+}
+
 // current: the state's family, 1 where a table is current, and that table.
 fn state_numbers(s: HolderState) -> Answer {
-    numbers(
-        3,
-        [
-            s.family as u64,
-            s.has_current as u64,
-            s.current as u64,
-            0,
-            0,
-            0,
-            0,
-            0,
-        ],
-    )
+    numbers(&[
+        u64::from(s.family),
+        u64::from(s.has_current),
+        u64::from(s.current),
+    ])
 }
 
 // device OWN: a directory without tables.
@@ -147,101 +134,35 @@ pub(crate) fn device(own: u8) -> Directory {
     }
 }
 
+// It begins with the first state of family 3.
+fn set_device(w: &mut World, own: u8) -> Answer {
+    w.directory = device(own);
+    w.state = state(3, 0, 0);
+    nothing()
+}
+
 // table TABLE SIZE RIGHT
-fn with_table(d: Directory, k: u64, size: u16, right: u8) -> Directory {
+fn set_table(w: &mut World, k: u64, size: u16, right: u8) -> Answer {
     let k = k as usize;
-    let mut d = d;
     if k < 32 {
-        d.sizes[k] = size;
-        d.rights[k] = right;
+        w.directory.sizes[k] = size;
+        w.directory.rights[k] = right;
     }
-    d
+    nothing()
 }
 
-fn with_holder(w: World, directory: Directory, state: HolderState, answer: Answer) -> Ran {
-    let bridge = w.bridge;
-    let second = w.second;
-    kept(
-        World {
-            directory,
-            state,
-            bridge,
-            second,
-            turns: w.turns,
-        },
-        answer,
-    )
-}
-
-fn with_state(w: World, state: HolderState, answer: Answer) -> Ran {
-    with_holder(w, w.directory, state, answer)
-}
-
-const PACK: u64 = 0x7061636b;
-
-const UNPACK: u64 = 0x756e7061636b;
-
-const READ_REQUEST: u64 = 0x726561645f726571;
-
-const REQUEST_BYTES: u64 = 0x726571756573745f;
-
-const SERVE: u64 = 0x7365727665;
-
-const FIRST: u64 = 0x6669727374;
-
-const STATE: u64 = 0x7374617465;
-
-const CURRENT: u64 = 0x63757272656e74;
-
-const DEVICE: u64 = 0x646576696365;
-
-const TABLE: u64 = 0x7461626c65;
-
-fn number_call(a: Words, bytes: &[u8]) -> Answer {
-    let n = a.n;
-    let b = a.n8;
-    let h = a.n16;
-    let x = a.n32;
-    match n[2] {
-        PACK => pack(parts(h, b)),
-        UNPACK => unpack(x[3]),
-        READ_REQUEST => read_request(bus::frames::padded(bytes)),
-        REQUEST_BYTES => request_bytes(b[3], h[4], b[5]),
+pub(crate) fn call(w: &mut World, a: &Words, bytes: &[u8]) -> Answer {
+    match a.call() {
+        b"pack" => pack(a),
+        b"unpack" => unpack(a.u32(3)),
+        b"read_req" => read_request(bus::frames::padded(bytes)),
+        b"request_" => request_bytes(a.u8(3), a.u16(4), a.u8(5)),
+        b"device" => set_device(w, a.u8(3)),
+        b"table" => set_table(w, a.u64(3), a.u16(4), a.u8(5)),
+        b"serve" => serve(w, a, bytes),
+        b"first" => first(w, a.u8(3)),
+        b"state" => set_state(w, a),
+        b"current" => state_numbers(w.state),
         _ => unknown(),
-    }
-}
-
-// The calls on directory and state, `device` with the first state of family 3, and those that need neither.
-fn holder_call(w: World, a: Words, bytes: &[u8]) -> Ran {
-    let n = a.n;
-    let b = a.n8;
-    let h = a.n16;
-    match n[2] {
-        DEVICE => with_holder(w, device(b[3]), state(3, 0, 0), nothing()),
-        TABLE => with_holder(
-            w,
-            with_table(w.directory, n[3], h[4], b[5]),
-            w.state,
-            nothing(),
-        ),
-        FIRST => first(w, b[3]),
-        STATE => with_state(w, state(b[3], b[4], b[5]), nothing()),
-        CURRENT => kept(w, state_numbers(w.state)),
-        _ => kept(w, number_call(a, bytes)),
-    }
-}
-
-pub(crate) fn call(w: World, memory: &mut [u8], flash: &mut [u8], a: Words, bytes: &[u8]) -> Ran {
-    let n = a.n;
-    let x = a.n32;
-    match n[2] {
-        SERVE => serve(
-            w,
-            room(memory, 0, n[3]),
-            room(flash, 0, flash_len(n[3], n[5])),
-            x[4],
-            bytes,
-        ),
-        _ => holder_call(w, a, bytes),
     }
 }

@@ -1,122 +1,133 @@
 // The words of a line: layer, call, numbers, changes in brackets.
-ghost use Rattle.std.specs.Prelude.{◌≤◌, length};
+ghost use Rattle.std.specs.Prelude.{◌≤◌, ◌<◌, IfSome};
 
-// Word 1 is the layer and word 2 the call, each as the number that its first eight letters make. The numbers stand from 3 on, and those of
-// changes from 12 on, at four widths; where there is none, all bits are set.
+use arrayvec::ArrayVec;
+
+// Word 1 is the layer and word 2 the call. The numbers stand from 3 on, and those of changes from 12 on.
 #[derive(Clone, Copy)]
 pub(crate) struct Words {
-    pub(crate) n: [u64; 16],
-    pub(crate) n8: [u8; 16],
-    pub(crate) n16: [u16; 16],
-    pub(crate) n32: [u32; 16],
+    layer: [u8; 8],
+    call: [u8; 8],
+    numbers: [Option<u64>; 16],
 }
 
-pub(crate) const NONE: u64 = 0xffffffffffffffff;
-
-// Where one of two bytes stands first, from a place on, or the length.
-pub(crate) fn find(s: &[u8], at: usize, b: u8, other: u8) -> usize
-    requires { at ≤ length s.now }
-    ensures { (at ≤ result) × (result ≤ length s.now) }
-{
-    let mut i = at;
-    while i < s.len() {
-        if s[i] == b {
-            return i;
-        }
-        if s[i] == other {
-            return i;
-        }
-        i += 1;
+impl Words {
+    // The first eight letters of the layer's name.
+    pub(crate) fn layer(&self) -> &[u8] {
+        letters(&self.layer)
     }
-    i
+
+    // The first eight letters of the call's name.
+    pub(crate) fn call(&self) -> &[u8] {
+        letters(&self.call)
+    }
+
+    // Number k, where there is one.
+    pub(crate) fn given(&self, k: usize) -> Option<u64> {
+        self.numbers.get(k).copied().flatten()
+    }
+
+    // Number k; all bits are set where there is none. The other widths have its low bits.
+    pub(crate) fn u64(&self, k: usize) -> u64 {
+        self.given(k).unwrap_or(u64::MAX)
+    }
+
+    pub(crate) fn u32(&self, k: usize) -> u32 {
+        (self.u64(k) % (1 << 32)) as u32
+    }
+
+    pub(crate) fn u16(&self, k: usize) -> u16 {
+        (self.u64(k) % (1 << 16)) as u16
+    }
+
+    pub(crate) fn u8(&self, k: usize) -> u8 {
+        (self.u64(k) % (1 << 8)) as u8
+    }
 }
 
 // A number at most another.
 fn within(x: u64, most: usize) -> usize
     ensures { result ≤ most }
 {
-    let x = x as usize;
-    if x < most { x } else { most }
+    most.min(x as usize)
 }
 
 // A part of bytes, as much of it as there is.
-pub(crate) fn part<'a>(s: &'a [u8], start: u64, len: u64) -> &'a [u8] {
-    let from = within(start, s.len());
-    let end = from + within(len, s.len() - from);
-    &s[from..end]
+pub(crate) fn part(s: &[u8], start: u64, len: u64) -> &[u8] {
+    let s = &s[within(start, s.len())..];
+    &s[..within(len, s.len())]
 }
 
 // The same to be written.
-pub(crate) fn room<'a>(s: &'a mut [u8], start: u64, len: u64) -> &'a mut [u8] {
+pub(crate) fn room(s: &mut [u8], start: u64, len: u64) -> &mut [u8] {
     let from = within(start, s.len());
     let end = from + within(len, s.len() - from);
     &mut s[from..end]
 }
 
-// A byte as a digit; 16 where it is none.
-fn digit(b: u8) -> u8
-    ensures { result ≤ 16 }
+// The letters after the zeros.
+fn letters(word: &[u8; 8]) -> &[u8] {
+    let zeros = word.iter().position(|b| *b != 0).unwrap_or(8);
+    &word[zeros..]
+}
+
+// A byte as a digit.
+fn digit(b: u8) -> Option<u8>
+    ensures { IfSome result (λ d. d < 16) }
 {
     match b {
-        48..=57 => b - 48,
-        97..=102 => b - 87,
-        _ => 16,
+        b'0'..=b'9' => Some(b - b'0'),
+        b'a'..=b'f' => Some(b - b'a' + 10),
+        _ => None,
     }
+}
+
+// A number of which all bits are set is as none.
+fn some(x: u64) -> Option<u64> {
+    (x != u64::MAX).then_some(x)
 }
 
 // A name and one more letter, at most eight.
-fn with_letter(x: u64, b: u8) -> u64 {
-    if x == NONE {
-        return b as u64;
+fn with_letter(name: Option<u64>, b: u8) -> Option<u64> {
+    match name {
+        None => Some(u64::from(b)),
+        Some(x) if x < 1 << 56 => some(x * 256 + u64::from(b)),
+        full => full,
     }
-    if 72057594037927935 < x {
-        return x;
-    }
-    x * 256 + b as u64
 }
 
 // A number and one more digit, in base 10 or 16.
-fn with_digit(x: u64, d: u8, hex: bool) -> u64 {
-    if 15 < d {
-        return x;
+fn with_digit(number: Option<u64>, d: u8, hex: bool) -> Option<u64>
+    requires { d < 16 }
+{
+    match number {
+        None => Some(u64::from(d)),
+        Some(x) if x < 1 << 60 => some(if hex { x * 16 } else { x * 10 } + u64::from(d)),
+        full => full,
     }
-    if x == NONE {
-        return d as u64;
-    }
-    if 1152921504606846975 < x {
-        return x;
-    }
-    if hex {
-        return x * 16 + d as u64;
-    }
-    x * 10 + d as u64
 }
 
-// Lengthens word k by a byte.
-fn put_byte(all: &mut [u64; 16], k: usize, b: u8, hex: bool) {
+// Word k and one more byte of it.
+fn longer(word: Option<u64>, k: usize, b: u8, hex: bool) -> Option<u64> {
     if b == b' ' {
-        return;
+        return word;
     }
     if k < 3 {
-        all[k] = with_letter(all[k], b);
-        return;
+        return with_letter(word, b);
     }
-    if k < 16 {
-        all[k] = with_digit(all[k], digit(b), hex);
+    match digit(b) {
+        Some(d) => with_digit(word, d, hex),
+        None => word,
     }
 }
 
 // Which word a byte belongs to: a space begins the next, and a bracket the changes.
 fn word_at(k: usize, b: u8) -> usize {
-    if b == b' ' {
-        return k % 64 + 1;
+    match b {
+        b' ' => k % 64 + 1,
+        b'[' => k.max(12),
+        _ => k,
     }
-    if b == b'[' {
-        if k < 12 {
-            return 12;
-        }
-    }
-    k
 }
 
 // A number is hexadecimal after its `x`.
@@ -128,72 +139,56 @@ fn is_hex(hex: bool, b: u8) -> bool {
     }
 }
 
-// The words of a text.
-fn numbers(s: &[u8]) -> [u64; 16] {
-    let mut all = [NONE; 16];
+// The words of a text that begins with a space, names as the numbers that their letters make.
+fn numbers(s: &[u8]) -> [Option<u64>; 16] {
+    let mut all = [None; 16];
     let mut k: usize = 0;
     let mut hex = false;
-    let mut i: usize = 0;
-    while i < s.len() {
-        let b = s[i];
-        k = word_at(k, b);
-        hex = is_hex(hex, b);
-        put_byte(&mut all, k, b, hex);
-        i += 1;
+    for b in s {
+        k = word_at(k, *b);
+        hex = is_hex(hex, *b);
+        if k < 16 {
+            all[k] = longer(all[k], k, *b, hex);
+        }
     }
     all
 }
 
-// The words of a text that begins with a space.
 pub(crate) fn words_of(s: &[u8]) -> Words {
-    let n = numbers(s);
-    let mut n8 = [0u8; 16];
-    let mut n16 = [0u16; 16];
-    let mut n32 = [0u32; 16];
-    let mut i: usize = 0;
-    while i < 16 {
-        let x = n[i];
-        n8[i] = (x % 256) as u8;
-        n16[i] = (x % 65536) as u16;
-        n32[i] = (x % 4294967296) as u32;
-        i += 1;
+    let numbers = numbers(s);
+    Words {
+        layer: numbers[1].unwrap_or(0).to_be_bytes(),
+        call: numbers[2].unwrap_or(0).to_be_bytes(),
+        numbers,
     }
-    Words { n, n8, n16, n32 }
 }
 
-// Puts a digit as half of a byte, and hands back how many halves there are.
-fn put_half(out: &mut [u8], n: usize, d: u8) -> usize {
-    let i = n / 2;
-    if 15 < d {
-        return n;
+// The bytes that hexadecimal digits make; what does not fit is left out.
+fn from_hex(s: &[u8]) -> ArrayVec<u8, 64> {
+    let mut bytes = ArrayVec::new();
+    let mut high = None;
+    for b in s {
+        let Some(d) = digit(*b) else {
+            continue;
+        };
+        match high {
+            None => high = Some(d),
+            Some(h) => {
+                let _ = bytes.try_push(h * 16 + d);
+                high = None;
+            }
+        }
     }
-    if i < out.len() {
-        out[i] = out[i] % 16 * 16 + d;
-        return n + 1;
-    }
-    n
+    bytes
 }
 
-// Puts the bytes that hexadecimal digits make, and hands back how many.
-fn put_hex(out: &mut [u8], s: &[u8]) -> usize {
-    let mut n: usize = 0;
-    let mut i: usize = 0;
-    while i < s.len() {
-        n = put_half(out, n, digit(s[i]));
-        i += 1;
+// The bytes after a bar or the text in quotes; a text that does not fit is as many zeros.
+pub(crate) fn bytes_of(s: &[u8]) -> ArrayVec<u8, 64> {
+    match s {
+        [b'"', text @ ..] => {
+            let end = text.iter().position(|b| *b == b'"').unwrap_or(text.len());
+            ArrayVec::try_from(&text[..end]).unwrap_or(ArrayVec::from([0; 64]))
+        }
+        _ => from_hex(s),
     }
-    n / 2
-}
-
-// Puts the bytes after a bar or the text in quotes, and hands back how many.
-pub(crate) fn put_bytes(out: &mut [u8], s: &[u8]) -> usize {
-    if s.len() == 0 {
-        return 0;
-    }
-    if s[0] == b'|' {
-        return put_hex(out, s);
-    }
-    let end = find(s, 1, b'"', b'"');
-    wire::put(out, 0, &s[1..end]);
-    end - 1
 }

@@ -11,18 +11,21 @@ mod memories;
 mod mlgs;
 mod values;
 
-ghost use Rattle.std.specs.Prelude.{◌≤◌, length};
 ghost use Rattle.reckonings.specs.Reckonings.{Reckonings};
 
-use answers::{Answer, nothing, put_answer, unknown};
+use answers::{Answer, nothing, unknown};
 use bridge::Bridge;
 use bus::{Directory, HolderState};
-use lines::{Words, find, part, put_bytes, words_of};
-use std::io::Read;
+use input::read_full;
+use lines::{Words, bytes_of, words_of};
+use print::Page;
 
-// What the calls change beside the memory that they are lent: a device's directory and state, a bridge, its second buffer, how many turns it has had.
+// What the calls change: the memory and the flash that they are lent, a device's directory and state, a bridge, its second buffer, how many
+// turns it has had.
 #[derive(Clone, Copy)]
 struct World {
+    memory: [u8; 4096],
+    flash: [u8; 4096],
     directory: Directory,
     state: HolderState,
     bridge: Bridge,
@@ -30,80 +33,48 @@ struct World {
     turns: u64,
 }
 
-// The world after a call, and what the call answers.
-#[derive(Clone, Copy)]
-struct Ran {
-    world: World,
-    answer: Answer,
-}
-
-fn kept(world: World, answer: Answer) -> Ran {
-    Ran { world, answer }
-}
-
-const BUS: u64 = 0x627573;
-
-const BRIDGE: u64 = 0x627269646765;
-
-const MLG: u64 = 0x6d6c67;
-
-const FRD: u64 = 0x667264;
-
-const VALUE: u64 = 0x76616c7565;
-
-const MEMORY: u64 = 0x6d656d6f7279;
-
-const FLASH: u64 = 0x666c617368;
-
-fn call(w: World, memory: &mut [u8; 4096], flash: &mut [u8; 4096], a: Words, bytes: &[u8]) -> Ran {
-    let n = a.n;
-    match n[1] {
-        BUS => buses::call(w, memory, flash, a, bytes),
-        BRIDGE => bridges::call(w, memory, a, bytes),
-        MLG => kept(w, mlgs::call(memory, a, bytes)),
-        FRD => kept(w, frds::call(memory, a, bytes)),
-        VALUE => kept(w, values::call(a, bytes)),
-        MEMORY => kept(w, memories::call(memory, a, bytes)),
-        FLASH => kept(w, memories::call(flash, a, bytes)),
-        _ => kept(w, unknown()),
+// A layer and a call go by the first eight letters of their names.
+fn call(w: &mut World, a: &Words, bytes: &[u8]) -> Answer {
+    match a.layer() {
+        b"bus" => buses::call(w, a, bytes),
+        b"bridge" => bridges::call(w, a, bytes),
+        b"mlg" => mlgs::call(&mut w.memory, a, bytes),
+        b"frd" => frds::call(&mut w.memory, a, bytes),
+        b"value" => values::call(a, bytes),
+        b"memory" => memories::call(&mut w.memory, a, bytes),
+        b"flash" => memories::call(&mut w.flash, a, bytes),
+        _ => unknown(),
     }
 }
 
 // What a line answers: nothing for a heading.
-fn case(w: World, memory: &mut [u8; 4096], flash: &mut [u8; 4096], line: &[u8]) -> Ran {
-    let colon = find(line, 0, b':', b':');
-    if line.len() == colon {
-        return kept(w, nothing());
-    }
-    let bar = find(line, colon, b'|', b'"');
-    let mut bytes = [0u8; 64];
-    let len = put_bytes(&mut bytes, &line[bar..]);
-    call(
-        w,
-        memory,
-        flash,
-        words_of(&line[colon..bar]),
-        part(&bytes, 0, len as u64),
-    )
+fn case(w: &mut World, line: &[u8]) -> Answer {
+    let Some(colon) = line.iter().position(|b| *b == b':') else {
+        return nothing();
+    };
+    let text = &line[colon..];
+    let bar = text.iter().position(|b| matches!(*b, b'|' | b'"'));
+    let (words, bytes) = text.split_at(bar.unwrap_or(text.len()));
+    call(w, &words_of(words), bytes_of(bytes).as_slice())
 }
 
-// Puts every line with its answer into the output, and hands back how many bytes it put.
-fn cases(out: &mut [u8], s: &[u8]) -> usize {
-    let mut memory = [0u8; 4096];
-    let mut flash = [0u8; 4096];
-    let mut w = bridges::fresh();
-    let mut at: usize = 0;
-    let mut put: usize = 0;
-    while at < s.len() {
-        let end = find(s, at, b'\n', b'\n');
-        let line = &s[at..end];
-        at = end + 1;
-        let r = case(w, &mut memory, &mut flash, line);
-        w = r.world;
-        let next = print::text(out, put, line);
-        put = put_answer(out, next, r.answer);
+// Puts every line with its answer.
+fn cases(page: &mut Page, s: &[u8]) {
+    let mut w = World {
+        memory: [0; 4096],
+        flash: [0; 4096],
+        directory: buses::device(0),
+        state: buses::state(3, 0, 0),
+        bridge: bridges::unmade(),
+        second: [0; 512],
+        turns: 0,
+    };
+    for line in s.split_inclusive(|b| *b == b'\n') {
+        let line = line.strip_suffix(b"\n").unwrap_or(line);
+        let answer = case(&mut w, line);
+        page.text(line);
+        answer.put(page);
     }
-    put
 }
 
 // The cases that 01 marks * are proved of the definitions, as one table.
@@ -111,29 +82,16 @@ fn run(rt: &impl Print, s: &[u8])
     ensures reckoned { Reckonings }
 {
     let mut out = [0u8; 65536];
-    let n = cases(&mut out, s);
-    print::flush(rt, &out, n);
-}
-
-// Reads until the buffer is full, the input ends or a read fails, and hands back how many bytes it read.
-fn read_full<R: Read>(input: &mut R, buffer: &mut [u8]) -> usize
-    ensures { result ≤ length buffer.new }
-{
-    let mut len: usize = 0;
-    while len < buffer.len() {
-        let Ok(n) = input.read(&mut buffer[len..]) else {
-            return len;
-        };
-        if n == 0 {
-            return len;
-        }
-        len += n;
-    }
-    len
+    let mut page = Page {
+        out: &mut out,
+        at: 0,
+    };
+    cases(&mut page, s);
+    page.flush(rt);
 }
 
 fn main(rt: HostRuntime) {
     let mut input = [0u8; 65536];
-    let n = read_full(&mut rt.reader(), &mut input);
+    let (n, _) = read_full(&mut rt.reader(), &mut input);
     run(&rt, &input[..n]);
 }

@@ -1,22 +1,19 @@
 // The memory and the flash that are lent to the calls.
-use crate::answers::{Answer, nothing, number, unknown, with_bytes};
+use crate::answers::{Answer, nothing, number, unknown};
 use crate::lines::{Words, part, room};
 
 // Sets a byte, where there is one.
 fn set(s: &mut [u8], at: u64, b: u8) {
-    let at = at as usize;
-    if at < s.len() {
-        s[at] = b;
+    if let Some(x) = s.get_mut(at as usize) {
+        *x = b;
     }
 }
 
 // The memory with the changes of a line.
-pub(crate) fn changed(memory: [u8; 4096], a: Words) -> [u8; 4096] {
-    let n = a.n;
-    let b = a.n8;
+pub(crate) fn changed(memory: [u8; 4096], a: &Words) -> [u8; 4096] {
     let mut memory = memory;
-    set(&mut memory, n[12], b[13]);
-    set(&mut memory, n[14], b[15]);
+    set(&mut memory, a.u64(12), a.u8(13));
+    set(&mut memory, a.u64(14), a.u8(15));
     memory
 }
 
@@ -28,28 +25,16 @@ fn put(memory: &mut [u8], at: u64, bytes: &[u8]) -> Answer {
 
 // fill PLACE LENGTH BYTE
 fn fill(s: &mut [u8], b: u8) -> Answer {
-    let mut i: usize = 0;
-    while i < s.len() {
-        s[i] = b;
-        i += 1;
-    }
+    s.fill(b);
     nothing()
 }
 
-const PUT: u64 = 0x707574;
-
-const FILL: u64 = 0x66696c6c;
-
-const SHOW: u64 = 0x73686f77;
-
-pub(crate) fn call(memory: &mut [u8], a: Words, bytes: &[u8]) -> Answer {
-    let n = a.n;
-    let b = a.n8;
-    match n[2] {
-        PUT => put(memory, n[3], bytes),
-        FILL => fill(room(memory, n[3], n[4]), b[5]),
+pub(crate) fn call(memory: &mut [u8], a: &Words, bytes: &[u8]) -> Answer {
+    match a.call() {
+        b"put" => put(memory, a.u64(3), bytes),
+        b"fill" => fill(room(memory, a.u64(3), a.u64(4)), a.u8(5)),
         // show PLACE LENGTH
-        SHOW => with_bytes(number(0), part(memory, n[3], n[4])),
+        b"show" => number(0).with_bytes(part(memory, a.u64(3), a.u64(4))),
         _ => unknown(),
     }
 }

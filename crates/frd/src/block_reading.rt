@@ -1,47 +1,45 @@
 // Reading a block.
 ghost use Rattle.std.specs.Prelude.{◌≡◌, ◌<◌, ◌^◌, length};
-ghost use Rattle.frd_rules.specs.Block.{block_len, rest_number, found_of, block_of, read_block_of, block_answer, block_result, length_of};
-ghost use Rattle.frd_rules.specs.Kinds.{NoData};
+ghost use Rattle.wire.specs.Refusals.{number_of};
+ghost use Rattle.frd_rules.specs.Block.{block_len, some_len, rest_number, found_of, read_block_number, read_block_of, block_answer, block_result, length_of};
 ghost use Rattle.frd_rules.specs.RoundTrip.{BlockAlone};
 
 use crate::Block;
+use wire::Refusal;
 
-// The length of a block by its type, here `kind`; 0 for an unknown type.
-fn block_len(size: u16, kind: u8) -> usize
-    ensures { result ≡ block_len size kind }
+// The length of a block by its type, here `kind`.
+fn block_len(size: u16, kind: u8) -> Option<usize>
+    ensures { result ≡ some_len (block_len size kind) }
 {
-    if kind == 1 {
-        return (size as usize) + 2;
+    match kind {
+        1 => Some(usize::from(size) + 2),
+        2 => Some(6),
+        _ => None,
     }
-    if kind == 2 {
-        return 6;
-    }
-    0
 }
 
-// The number that refuses what the rest of a file begins with, or 0.
-fn rest_number(t: &[u8], size: u16) -> u8
-    ensures { result ≡ rest_number size t.now }
+// Whether the rest of a file is its end, or begins with a whole block of a known type.
+fn check_rest(t: &[u8], size: u16) -> Result<(), Refusal>
+    ensures { number_of result ≡ rest_number size t.now }
 {
-    if t.len() == 0 {
-        return 0;
+    if t.is_empty() {
+        return Ok(());
     }
-    let len = block_len(size, t[0]);
-    if len == 0 {
-        return 25;
-    }
+    let Some(len) = block_len(size, t[0]) else {
+        return Err(Refusal::BlockType);
+    };
     if t.len() < len {
-        return 20;
+        return Err(Refusal::CutShort);
     }
-    0
+    Ok(())
 }
 
-// What the rest of a file begins with, where no number refuses it.
+// What the rest of a file begins with, where nothing refuses it.
 fn found(t: &[u8], expected: u8, at: usize) -> Block
     requires { (length t.now ≡ 1 → ⊥) × (at < 2 ^ 63) }
     ensures { result ≡ found_of expected at t.now }
 {
-    if t.len() == 0 {
+    if t.is_empty() {
         return Block::End;
     }
     let counter = t[1];
@@ -61,16 +59,14 @@ fn found(t: &[u8], expected: u8, at: usize) -> Block
     }
 }
 
-// What the rest of a file begins with.
-fn block_of(t: &[u8], size: u16, expected: u8, at: usize) -> Block
-    requires { at < 2 ^ 63 }
-    ensures { result ≡ block_of size expected at t.now }
+// Whether what stands at a place is a file's end, or a whole block of a known type.
+pub(crate) fn check_block(file: &[u8], size: u16, at: usize) -> Result<(), Refusal>
+    ensures { number_of result ≡ read_block_number size file.now at }
 {
-    let number = rest_number(t, size);
-    if number != 0 {
-        return Block::Refused { number, place: at };
+    if file.len() < at {
+        return Err(Refusal::Disagree);
     }
-    found(t, expected, at)
+    check_rest(&file[at..], size)
 }
 
 // The block at a place of a log of the given output length, after the given number of blocks.
@@ -78,32 +74,24 @@ pub fn read_block(file: &[u8], size: u16, earlier: u64, at: usize) -> Block
     ensures value { (result ≡ read_block_of size earlier file.now at) × (block_answer result ≡ block_result size earlier file.now at) }
     ensures alone { BlockAlone }
 {
-    if file.len() < at {
-        return Block::Refused {
-            number: 23,
+    match check_block(file, size, at) {
+        Ok(()) => found(&file[at..], wire::counter_after(earlier), at),
+        Err(e) => Block::Refused {
+            number: e.number(),
             place: at,
-        };
+        },
     }
-    block_of(&file[at..], size, wire::counter_after(earlier), at)
-}
-
-// How many bytes a time block takes; none for the end and for a refusal.
-fn time_length(b: Block, size: u16) -> usize
-    requires { NoData b }
-    ensures { result ≡ length_of size b }
-{
-    let Block::Time { .. } = b else {
-        return 0;
-    };
-    block_len(size, 2)
 }
 
 // How many bytes of the log a block takes; none for the end and for a refusal.
 pub fn length_of(b: Block, size: u16) -> usize
     ensures { result ≡ length_of size b }
 {
-    let Block::Data { .. } = b else {
-        return time_length(b, size);
+    let (Block::Data { .. } | Block::Time { .. }) = b else {
+        return 0;
     };
-    block_len(size, 1)
+    let Block::Time { .. } = b else {
+        return usize::from(size) + 2;
+    };
+    6
 }

@@ -8,7 +8,7 @@ mod writing;
 
 pub use block_counting::count_blocks;
 pub use block_reading::{length_of, read_block};
-pub use frd_rules::{Block, Head, Header};
+pub use frd_rules::{Block, Header};
 pub use header_reading::{read_header, read_signature};
-pub use wire::{Span, Tally};
+pub use wire::{Blocks, Extent, Refusal};
 pub use writing::{write_data, write_header, write_time};

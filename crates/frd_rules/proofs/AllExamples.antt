@@ -1,7 +1,7 @@
 -- The examples, by computing them.
 use mathlib.Core.Path.{refl}
 use Rattle.wire.specs.Order.{◌if◌else◌}
-use Rattle.wire.specs.Answer.{answer}
+use Rattle.wire.specs.Refusals.{refusal_of, checked}
 use Rattle.wire.specs.Log.{counter_after, judged, span_with}
 use Rattle.frd_rules.specs.Header.{numbers_of, read_header_number, read_header_of, head_answer, read_signature_of}
 use Rattle.frd_rules.specs.Block.{block_len, rest_number, found_of, read_block_number, read_block_of, block_answer, length_of}
@@ -12,7 +12,7 @@ use Rattle.frd_rules.specs.Examples.{Examples}
 
 -- the definitions, opened
 unfoldable reading : Unit {0}
-unfolding ◌if◌else◌ answer counter_after judged span_with numbers_of read_header_number read_header_of head_answer read_signature_of
+unfolding ◌if◌else◌ refusal_of checked counter_after judged span_with numbers_of read_header_number read_header_of head_answer read_signature_of
     block_len rest_number found_of read_block_number read_block_of block_answer length_of followed_by log_from log_of tally_head count_blocks_of
 reading = tt
 

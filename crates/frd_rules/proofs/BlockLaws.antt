@@ -6,10 +6,11 @@ use mathlib.Core.List.{List}
 use native.Mathlib.Omega.{arith}
 use borrow.Author.Tests.{eq-eqb, ne_eqb, eqb-true, eqb-false, lt-ltb, le-ltb, ltb-true, ltb-false}
 use lib.Dec.{eqb, ltb}
+use Rattle.std.proofs.Common.{Option, Some, None}
 use lib.ListN.{length, drop, length-drop}
 use Rattle.wire.specs.Log.{judged, end_kind, refused_kind}
 use Rattle.wire.proofs.Orders.{order, if_yes, if_no, if_zero, if_skip}
-use Rattle.frd_rules.specs.Block.{counter_after, block_len, type_in, counter_in, time_in, record_place}
+use Rattle.frd_rules.specs.Block.{counter_after, block_len, some_len, type_in, counter_in, time_in, record_place}
 use Rattle.frd_rules.specs.Block.{rest_number, found_of, block_of, read_block_number, read_block_of}
 use Rattle.frd_rules.specs.Block.{BlockAnswer, no_block, block_answer, data_values, time_values, found_values, block_result}
 use Rattle.frd_rules.specs.declared.Block.{Block}
@@ -38,6 +39,22 @@ time_len l k e = sym (if_no (l + 2) (eqb k 1) _ 6 (ne_eqb k 1 (λ z. omega arith
 pub no_len : (l k : ℕ) → (k ≡ 1 → ⊥) → (k ≡ 2 → ⊥) → block_len l k ≡ 0
 unfolding block_len
 no_len l k a b = sym (if_no (l + 2) (eqb k 1) _ 0 (ne_eqb k 1 a) (if_no 6 (eqb k 2) 0 0 (ne_eqb k 2 b) refl))
+
+-- as options
+pub len_known : (l k n : ℕ) → n ≡ block_len l k → 0 < n → Some n ≡ some_len (block_len l k)
+len_known l k zero e h = absurd (omega arith)
+len_known l k (suc n) e h = rw (← e)
+
+pub len_unknown : (l k : ℕ) → (k ≡ 1 → ⊥) → (k ≡ 2 → ⊥) → None ≡ some_len (block_len l k)
+len_unknown l k a b = rw (no_len l k a b)
+
+pub len_none : (n : ℕ) → None ≡ some_len n → n ≡ 0
+len_none zero e = refl
+len_none (suc n) e = absurd (let z : ◌≡◌ {A = Option ℕ} None (Some (suc n)) = e in cc)
+
+pub len_some : (n m : ℕ) → Some m ≡ some_len n → (n ≡ m) × (n ≡ 0 → ⊥)
+len_some zero m e = absurd (let z : ◌≡◌ {A = Option ℕ} (Some m) None = e in cc)
+len_some (suc n) m e = (cc, λ z. omega arith)
 
 -- the type of a block that has a length
 pub data BlockType (k : ℕ) : Type 0 where
@@ -108,9 +125,18 @@ rest_two l t e h = let k = rest_known l t (λ z. omega arith) e in omega (arith,
 
 -- a place of a file
 module _ (l n : ℕ) (f : List ℕ) (at : ℕ) where
-  pub at_past : length f < at → Refused 23 at ≡ read_block_of l n f at
+  at_past : length f < at → Refused 23 at ≡ read_block_of l n f at
   unfolding read_block_of read_block_number
   at_past h = block_refused _ at _ 23 (if_yes 23 _ _ (lt-ltb _ _ h)) (λ z. omega arith)
+
+  -- a number that is 0 refuses nothing, any other the block
+  pub at_found : read_block_number l f at ≡ 0 → found_of (counter_after n) at (drop at f) ≡ read_block_of l n f at
+  unfolding read_block_of
+  at_found h = sym (block_stands _ at _ h)
+
+  pub at_refused : (x : ℕ) → x ≡ read_block_number l f at → (x ≡ 0 → ⊥) → Refused x at ≡ read_block_of l n f at
+  unfolding read_block_of
+  at_refused x h k = block_refused _ at _ x h k
 
   pub at_within : at ≤ length f → read_block_of l n f at ≡ block_of l (counter_after n) at (drop at f)
   unfolding read_block_of block_of read_block_number
@@ -121,6 +147,11 @@ module _ (l n : ℕ) (f : List ℕ) (at : ℕ) where
   -- the end of the file
   pub at_end_of : at ≡ length f → read_block_of l n f at ≡ End
   at_end_of h = at_within (omega arith) ∙ block_end l _ at (drop at f) (omega (arith, length-drop at f))
+
+-- a place whose number is 0 lies within the file, and nothing refuses the rest from there on
+pub at_good : (l : ℕ) (f : List ℕ) (at : ℕ) → read_block_number l f at ≡ 0 → (at ≤ length f) × (rest_number l (drop at f) ≡ 0)
+unfolding read_block_number
+at_good l f at e = let a = if_zero 22 _ _ e in (ltb-false _ _ a.0, a.1)
 
 -- what a block's answer says
 judged_values : (n at : ℕ) (b : Block) (v : BlockAnswer) → block_answer b ≡ v → block_answer (judged Refused n at b) ≡ judged (no_block refused_kind) n at v
@@ -133,7 +164,9 @@ unfolding found_of found_values block_answer
 found_values_lem c at t = by (eqb (length t) 0) (eqb (type_in t) 1)
   where
     by : (a b : Bool)
-        → block_answer (cond a End (cond b (Data (counter_in t) (record_place at) (eqb (counter_in t) c)) (Time (counter_in t) (time_in t) (eqb (counter_in t) c))))
+        → block_answer
+        (cond a End
+        (cond b (Data (counter_in t) (record_place at) (eqb (counter_in t) c)) (Time (counter_in t) (time_in t) (eqb (counter_in t) c))))
         ≡ cond a (no_block end_kind 0 0) (cond b (data_values c at t) (time_values c t))
     by true b = refl
     by false true = refl
@@ -144,6 +177,28 @@ pub block_means : (l n : ℕ) (f : List ℕ) (at : ℕ) (r : Block) → r ≡ re
 unfolding read_block_of block_result
 block_means l n f at r e =
     (e, ap block_answer e ∙ judged_values (read_block_number l f at) at _ _ (found_values_lem (counter_after n) at (drop at f)))
+
+-- its number is that of the place
+judged_number : (n at : ℕ) (b : Block) → (block_answer b).number ≡ 0 → (block_answer (judged Refused n at b)).number ≡ n
+unfolding judged block_answer
+judged_number zero at b e = e
+judged_number (suc n) at b e = refl
+
+found_number : (c at : ℕ) (t : List ℕ) → (block_answer (found_of c at t)).number ≡ 0
+unfolding found_of block_answer
+found_number c at t = by_test (eqb (length t) 0) (eqb (type_in t) 1)
+  where
+    by_test : (x y : Bool)
+        → (block_answer (cond x End (cond y (Data (counter_in t) (record_place at) (eqb (counter_in t) c))
+        (Time (counter_in t) (time_in t) (eqb (counter_in t) c))))).number
+        ≡ 0
+    by_test true y = refl
+    by_test false true = refl
+    by_test false false = refl
+
+pub number_there : (l n : ℕ) (f : List ℕ) (at : ℕ) → (block_answer (read_block_of l n f at)).number ≡ read_block_number l f at
+unfolding read_block_of
+number_there l n f at = judged_number _ at _ (found_number (counter_after n) at (drop at f))
 
 -- what stands at a place of a file after n blocks, and the facts of each case; t is the rest of the file from there on
 pub data View (l n : ℕ) (f : List ℕ) (at : ℕ) (t : List ℕ) : Type 0 where

@@ -6,15 +6,15 @@ use native.Mathlib.Omega.{arith}
 use borrow.Author.Tests.{eq-eqb, le-ltb}
 use lib.ListN.{length, take, drop, length-append}
 use lib.Seq.{take_at, drop_at, drop-drop}
+use Rattle.std.proofs.Common.{Ok}
 use Rattle.wire.specs.BigEndian.{be_of, be_at, be_bytes}
 use Rattle.wire.specs.Log.{Holds}
 use Rattle.wire.proofs.Numbers.{be_back}
 use Rattle.wire.proofs.Orders.{if_no, not_no}
-use Rattle.wire.proofs.Answers.{stands}
+use Rattle.wire.proofs.RefusalLaws.{stands}
 use Rattle.frd_rules.specs.Header.{header_len, signature_len, name, version, numbers_of, signature_in, read_header_number, read_header_of, read_signature_of}
 use Rattle.frd_rules.specs.Writing.{header_bytes, write_header_number}
 use Rattle.frd_rules.specs.RoundTrip.{header_for, HeaderBack}
-use Rattle.frd_rules.specs.declared.Head.TheVariants.{Is, Refused}
 use Rattle.frd_rules.proofs.HeaderLaws.{signature_holds}
 use Rattle.frd_rules.proofs.WritingLaws.{room_left}
 
@@ -63,16 +63,16 @@ module _ (time : ℕ) (signature : List ℕ) (l : ℕ) (small : time < 2 ^ 32) (
       (if_no 22 _ _ 0 (not_no _ (eq-eqb version version refl))
       (if_no 23 _ _ 0 (not_no _ (eq-eqb header_len header_len refl)) refl))))
 
-  head_is : read_header_of file ≡ Is (header_for time l)
+  head_is : read_header_of file ≡ Ok (header_for time l)
   unfolding read_header_of
-  head_is = sym (stands Is Refused _ _ _ (sym none) (sym numbers_back))
+  head_is = sym (stands _ _ _ (sym none) (sym numbers_back))
 
   signature_is : signature_in file ≡ signature
   unfolding signature_in
   signature_is = take_at signature (be_bytes 4 header_len ++ (be_bytes 2 l ++ rest)) signature_len whole
 
   header_read : let f = header_bytes time signature l ++ rest in
-      (read_header_of f ≡ Is (header_for time l)) × Holds f (read_signature_of f) signature
+      (read_header_of f ≡ Ok (header_for time l)) × Holds f (read_signature_of f) signature
   header_read = rw (header_list time signature l rest) (head_is, signature_holds file signature (sym none) signature_is)
 
 pub header_back : (time : ℕ) (signature : List ℕ) (l : ℕ) → time < 2 ^ 32 → l < 2 ^ 16 → HeaderBack time signature l

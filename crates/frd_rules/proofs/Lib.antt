@@ -3,7 +3,6 @@ pub mod HeaderLaws
 pub mod BlockLaws
 pub mod WritingLaws
 pub mod LogLaws
-pub mod KindLaws
 pub mod TallyLaws
 pub mod BlockAlone
 pub mod HeaderBack

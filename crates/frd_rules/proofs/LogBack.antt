@@ -5,6 +5,7 @@ use mathlib.Core.Bool.{true}
 use mathlib.Core.List.{List, [], ◌∷◌, ◌++◌, append_assoc}
 use native.Mathlib.Omega.{arith}
 use lib.ListN.{length, length-append}
+use Rattle.std.proofs.Common.{Ok}
 use Rattle.frd_rules.specs.Header.{header_len, read_header_of}
 use Rattle.frd_rules.specs.Block.{counter_after, record_place, read_block_of, block_answer, length_of}
 use Rattle.frd_rules.specs.Log.{Log, log_from, log_of, tally_head, count_blocks_of}
@@ -12,7 +13,6 @@ use Rattle.frd_rules.specs.Writing.{header_bytes, data_bytes, time_bytes}
 use Rattle.frd_rules.specs.RoundTrip.{header_for, HeaderBack, DataBack, TimeBack, LogBack}
 use Rattle.frd_rules.specs.RoundTrip.{Entry, a_record, a_time, Writable, entries_bytes, log_bytes, entry_in, entries_in, AsExpected, AllAsExpected}
 use Rattle.frd_rules.specs.declared.Header.{Header}
-use Rattle.frd_rules.specs.declared.Head.TheVariants.{Is}
 use Rattle.frd_rules.specs.declared.Block.{Block}
 use Rattle.frd_rules.specs.declared.Block.TheVariants.{Data, Time}
 use Rattle.frd_rules.proofs.BlockLaws.{data_len, time_len, at_end_of}
@@ -114,7 +114,7 @@ module _ (l : ℕ) (f : List ℕ) where
   entries_back (a_time time ∷ es) (suc k) n before q h i = entry_more k n (a_time time) es _ (entries_back es k (n + 1)) before q h i
 
 -- what is counted
-count_log : (f : List ℕ) (h : Header) (es : List Entry) → read_header_of f ≡ Is h → Whole h.size f es (log_of h.size f h.begin)
+count_log : (f : List ℕ) (h : Header) (es : List Entry) → read_header_of f ≡ Ok h → Whole h.size f es (log_of h.size f h.begin)
     → count_blocks_of f ≡ record { blocks = length es; ending = 0; place = length f }
 unfolding count_blocks_of tally_head
 count_log f h es e y = rw (e, y.many, y.ending, y.place)

@@ -2,35 +2,47 @@
 use Prim.Native.Nat.{ℕ, suc, ◌+◌}
 use mathlib.Core.Path.{◌≡◌, refl, sym, ap, ◌∙◌}
 use mathlib.Core.List.{List}
+use mathlib.Core.Logic.{◌⊎◌, inl, inr}
 use native.Mathlib.Omega.{arith}
 use native.Mathlib.Nat.{zero-add}
 use lib.ListN.{length}
-use Rattle.wire.specs.declared.Tally.{Tally}
-use Rattle.frd_rules.specs.Header.{read_header_of, head_answer}
-use Rattle.frd_rules.specs.Block.{read_block_of, block_answer, length_of}
+use Rattle.std.proofs.Common.{Bool, Ok, Err}
+use Rattle.wire.specs.declared.views.Tally.{Tally}
+use Rattle.wire.specs.Refusals.{code}
+use Rattle.wire.specs.declared.refusal.Refusal.{Refusal}
+use Rattle.frd_rules.specs.Header.{read_header_of}
+use Rattle.frd_rules.specs.Block.{block_len, read_block_of, block_answer, length_of}
 use Rattle.frd_rules.specs.Log.{Log, more, log_from, log_of, tally_of, tally_head, count_blocks_of}
 use Rattle.frd_rules.specs.declared.Header.{Header}
-use Rattle.frd_rules.specs.declared.Head.{Head}
-use Rattle.frd_rules.specs.declared.Head.TheVariants.{Is, Refused as HeadRefused}
 use Rattle.frd_rules.specs.declared.Block.{Block}
 use Rattle.frd_rules.specs.declared.Block.TheVariants.{Data, Time, End, Refused}
-use Rattle.frd_rules.proofs.BlockLaws.{data_len, time_len}
 use Rattle.frd_rules.proofs.LogLaws.{IsBlock, block_fits, log_more, log_ends, log_enough}
 
--- what has a length is a block
-pub length_block : (l : ℕ) (b : Block) → (length_of l b ≡ 0 → ⊥) → IsBlock b
-unfolding length_of
-length_block l (Data c s r) k = tt
-length_block l (Time c m r) k = tt
-length_block l End k = k refl
-length_block l (Refused n p) k = k refl
+-- what is neither data nor a time is no block, and takes no bytes
+pub no_block : (b : Block) → ((c s : ℕ) (r : Bool) → b ≡ Data c s r → ⊥) → ((c m : ℕ) (r : Bool) → b ≡ Time c m r → ⊥) → IsBlock b → ⊥
+no_block (Data c s r) h k g = h c s r refl
+no_block (Time c m r) h k g = k c m r refl
+no_block End h k g = g
+no_block (Refused n p) h k g = g
 
-pub no_length : (l : ℕ) (b : Block) → length_of l b ≡ 0 → IsBlock b → ⊥
+pub some_block : (b : Block) → ((c : ℕ) × (s : ℕ) × (r : Bool) × (b ≡ Data c s r)) ⊎ ((c : ℕ) × (m : ℕ) × (r : Bool) × (b ≡ Time c m r)) → IsBlock b
+some_block b (inl h) = rw h.3 tt
+some_block b (inr h) = rw h.3 tt
+
+-- a block that is no time has a data block's length
+pub data_length : (l : ℕ) (b : Block) → IsBlock b → ((c m : ℕ) (r : Bool) → b ≡ Time c m r → ⊥) → block_len l 1 ≡ length_of l b
 unfolding length_of
-no_length l (Data c s r) e g = omega (arith, data_len l 1 refl)
-no_length l (Time c m r) e g = omega (arith, time_len l 2 refl)
-no_length l End e g = g
-no_length l (Refused n p) e g = g
+data_length l (Data c s r) g k = refl
+data_length l (Time c m r) g k = absurd (k c m r refl)
+data_length l End g k = absurd g
+data_length l (Refused n p) g k = absurd g
+
+pub nothing : (l : ℕ) (b : Block) → (IsBlock b → ⊥) → 0 ≡ length_of l b
+unfolding length_of
+nothing l (Data c s r) g = absurd (g tt)
+nothing l (Time c m r) g = absurd (g tt)
+nothing l End g = refl
+nothing l (Refused n p) g = refl
 
 -- the tally of the blocks from a place on, after n blocks
 abbrev tally_after : ℕ → Log → Tally
@@ -61,11 +73,10 @@ tally_ends l n f at b e k =
     sym (ap (tally_after n) (log_ends (length f) l n f at b e k) ∙ rw q)
 
 -- by the header
-pub count_is : (f : List ℕ) (h : Header) → read_header_of f ≡ Is h → tally_of (log_of h.size f h.begin) ≡ count_blocks_of f
+pub count_is : (f : List ℕ) (h : Header) → read_header_of f ≡ Ok h → tally_of (log_of h.size f h.begin) ≡ count_blocks_of f
 unfolding count_blocks_of tally_head
 count_is f h e = rw e
 
-pub count_none : (f : List ℕ) (b : Head) (m : ℕ) → b ≡ read_header_of f → b ≡ HeadRefused m
-    → record { blocks = 0; ending = (head_answer b).0; place = 0 } ≡ count_blocks_of f
-unfolding count_blocks_of head_answer tally_head
-count_none f b m e k = rw (← e, k)
+pub count_none : (f : List ℕ) (e : Refusal) → Err e ≡ read_header_of f → record { blocks = 0; ending = code e; place = 0 } ≡ count_blocks_of f
+unfolding count_blocks_of tally_head
+count_none f e h = rw (← h)

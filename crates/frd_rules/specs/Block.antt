@@ -1,7 +1,7 @@
 -- 01, "FRD": "Block 1: type, counter, L bytes. Block 2: type, counter, time (32)" .. "The counter is the number of earlier blocks, modulo 256, a
 -- wrong one reported." Below, l is the output length L, n the number of earlier blocks, c the expected counter, f a file, at a place in it, and
 -- t the rest of the file from that place on.
-use Rattle.std.specs.Prelude.{ℕ, ◌+◌, Bool, false, cond, List, eqb, ltb, length, get_or, drop}
+use Rattle.std.specs.Prelude.{ℕ, zero, suc, ◌+◌, Bool, false, cond, List, eqb, ltb, length, get_or, drop, Option, Some, None}
 use Rattle.wire.specs.Order.{◌if◌else◌}
 use Rattle.wire.specs.BigEndian.{be_at}
 use Rattle.wire.specs.Log.{judged, data_kind, time_kind, end_kind, refused_kind}
@@ -13,6 +13,11 @@ use Rattle.frd_rules.specs.declared.Block.TheVariants.{Data, Time, End, Refused}
 -- the length of a block by its type, 0 for an unknown type
 unfoldable pub block_len : (l type : ℕ) → ℕ
 block_len l type = (l + 2) if eqb type 1 else 6 if eqb type 2 else 0
+
+-- the same as an option
+abbrev pub some_len : ℕ → Option ℕ
+some_len zero = None
+some_len (suc n) = Some (suc n)
 
 -- type, counter and time of the block that t begins with
 abbrev pub type_in : List ℕ → ℕ

@@ -1,14 +1,13 @@
 -- 01, "FRD": "Header 81 bytes: `46 52 44 00 00 00`, version 1 (16), time (32), signature (63 bytes, free), data begin (32, must be 81), output
 -- length L (16)." Below, f is a file.
-use Rattle.std.specs.Prelude.{ℕ, not, List, [], ◌∷◌, eqb, ltb, length, take, drop}
+use Rattle.std.specs.Prelude.{ℕ, not, List, [], ◌∷◌, eqb, ltb, length, take, drop, Result}
 use Rattle.wire.specs.Order.{◌if◌else◌}
-use Rattle.wire.specs.Answer.{answer}
+use Rattle.wire.specs.Refusals.{given, checked}
 use Rattle.wire.specs.BigEndian.{be_of, be_at}
 use Rattle.wire.specs.Log.{span_with}
-use Rattle.wire.specs.declared.Span.{Span}
+use Rattle.wire.specs.declared.refusal.Refusal.{Refusal}
+use Rattle.wire.specs.declared.views.Span.{Span}
 use Rattle.frd_rules.specs.declared.Header.{Header}
-use Rattle.frd_rules.specs.declared.Head.{Head}
-use Rattle.frd_rules.specs.declared.Head.TheVariants.{Is, Refused}
 
 -- the header's length, at which the data begin
 abbrev pub header_len : ℕ
@@ -52,17 +51,16 @@ read_header_number f =
     else 23 if not (eqb (numbers_of f).begin header_len)
     else 0
 
--- the header, or the number that refuses it
-unfoldable pub read_header_of : List ℕ → Head
-read_header_of f = answer Is Refused (read_header_number f) (numbers_of f)
+-- the header, or what refuses it
+unfoldable pub read_header_of : List ℕ → Result Header Refusal
+read_header_of f = checked (read_header_number f) (numbers_of f)
 
--- the paper's number and values of each case: in a refusal every other number is 0
+-- the paper's number and values of it: in a refusal every other number is 0
 abbrev pub no_header : Header
 no_header = record { version = 0; time = 0; begin = 0; size = 0 }
 
-unfoldable pub head_answer : Head → ℕ × Header
-head_answer (Is h) = (0, h)
-head_answer (Refused n) = (n, no_header)
+unfoldable pub head_answer : Result Header Refusal → ℕ × Header
+head_answer r = given no_header r
 
 -- where the signature stands, in a file whose header is not refused
 unfoldable pub read_signature_of : List ℕ → Span

@@ -1,11 +1,12 @@
 -- What a whole log says: its blocks with their places, and how they ended. Below, l is the output length, n the number of earlier blocks, f a file
 -- and at a place in it.
-use Rattle.std.specs.Prelude.{ℕ, zero, suc, ◌+◌, List, [], ◌∷◌, length}
-use Rattle.wire.specs.declared.Tally.{Tally}
+use Rattle.std.specs.Prelude.{ℕ, zero, suc, ◌+◌, List, [], ◌∷◌, length, Result, Ok, Err}
+use Rattle.wire.specs.Refusals.{code}
+use Rattle.wire.specs.declared.refusal.Refusal.{Refusal}
+use Rattle.wire.specs.declared.views.Tally.{Tally}
 use Rattle.frd_rules.specs.Header.{read_header_of}
 use Rattle.frd_rules.specs.Block.{read_block_of, length_of}
-use Rattle.frd_rules.specs.declared.Head.{Head}
-use Rattle.frd_rules.specs.declared.Head.TheVariants.{Is, Refused as HeadRefused}
+use Rattle.frd_rules.specs.declared.Header.{Header}
 use Rattle.frd_rules.specs.declared.Block.{Block}
 use Rattle.frd_rules.specs.declared.Block.TheVariants.{Data, Time, End, Refused}
 
@@ -47,9 +48,9 @@ abbrev pub tally_of : Log → Tally
 tally_of g = record { blocks = length g.blocks; ending = g.ending; place = g.place }
 
 -- of a whole file: from data begin on; a refused header gives no blocks, its number, and place 0
-unfoldable pub tally_head : List ℕ → Head → Tally
-tally_head f (Is h) = tally_of (log_of h.size f h.begin)
-tally_head f (HeadRefused m) = record { blocks = 0; ending = m; place = 0 }
+unfoldable pub tally_head : List ℕ → Result Header Refusal → Tally
+tally_head f (Ok h) = tally_of (log_of h.size f h.begin)
+tally_head f (Err e) = record { blocks = 0; ending = code e; place = 0 }
 
 unfoldable pub count_blocks_of : List ℕ → Tally
 count_blocks_of f = tally_head f (read_header_of f)

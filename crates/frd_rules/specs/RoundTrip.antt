@@ -1,13 +1,12 @@
 -- What the writers write, the readers read back as given; and a file that was read, written again, is the same bytes. Below, l is the output
 -- length, n the number of earlier blocks, f a file, at a place in it, es what a log's writer is given, and g a log.
-use Rattle.std.specs.Prelude.{ℕ, ◌+◌, ◌<◌, ◌≤◌, ◌^◌, ◌≡◌, true, List, [], ◌∷◌, ◌++◌, length, get_or, take, drop}
+use Rattle.std.specs.Prelude.{ℕ, ◌+◌, ◌<◌, ◌≤◌, ◌^◌, ◌≡◌, true, List, [], ◌∷◌, ◌++◌, length, get_or, take, drop, Ok}
 use Rattle.wire.specs.Log.{judged, part_of, Holds}
 use Rattle.frd_rules.specs.Header.{header_len, signature_len, version, read_header_of, read_signature_of}
 use Rattle.frd_rules.specs.Block.{counter_after, block_len, type_in, record_place, block_of, read_block_of, length_of}
 use Rattle.frd_rules.specs.Log.{Placed, Log, log_of, count_blocks_of}
 use Rattle.frd_rules.specs.Writing.{header_bytes, write_header_number, data_bytes, write_data_number, time_bytes, write_time_number}
 use Rattle.frd_rules.specs.declared.Header.{Header}
-use Rattle.frd_rules.specs.declared.Head.TheVariants.{Is}
 use Rattle.frd_rules.specs.declared.Block.{Block}
 use Rattle.frd_rules.specs.declared.Block.TheVariants.{Data, Time, End, Refused}
 
@@ -24,7 +23,7 @@ HeaderBack time signature l =
     → ((room : ℕ) → length (header_bytes time signature l) ≤ room → write_header_number time signature l room ≡ 0)
     × ((rest : List ℕ)
     → let f = header_bytes time signature l ++ rest in
-    (read_header_of f ≡ Is (header_for time l)) × Holds f (read_signature_of f) signature)
+    (read_header_of f ≡ Ok (header_for time l)) × Holds f (read_signature_of f) signature)
 
 -- a data block with the counter c of n earlier blocks, likewise, whatever bytes stand before it and follow: its counter is as expected, and its
 -- bytes are where it says
@@ -99,7 +98,7 @@ AllAsExpected (p ∷ ps) = AsExpected p.block × AllAsExpected ps
 
 -- reading what was written gives what was given, to the file's end, with the expected counters
 pub record LogReads (time : ℕ) (signature : List ℕ) (l : ℕ) (es : List Entry) (f : List ℕ) (g : Log) : Type 0 where
-  pub header : read_header_of f ≡ Is (header_for time l)
+  pub header : read_header_of f ≡ Ok (header_for time l)
   pub same_signature : Holds f (read_signature_of f) signature
   pub entries : entries_in l f g.blocks ≡ es
   pub as_expected : AllAsExpected g.blocks
@@ -131,12 +130,12 @@ abbrev pub log_in : Header → List ℕ → Log
 log_in h f = log_of h.size f h.begin
 
 unfoldable pub LogPlaced : List ℕ → Type 0
-LogPlaced f = (h : Header) → read_header_of f ≡ Is h → InPlace h.size h.begin f (log_in h f)
+LogPlaced f = (h : Header) → read_header_of f ≡ Ok h → InPlace h.size h.begin f (log_in h f)
 
 -- a file in this layout: bytes that are a header and blocks back to back, to the file's end
 pub record InLayout (f : List ℕ) (h : Header) : Type 0 where
   pub bytes : (i : ℕ) → get_or f i 0 < 256
-  pub header : read_header_of f ≡ Is h
+  pub header : read_header_of f ≡ Ok h
   pub blocks : (log_in h f).ending ≡ 0
 
 -- with the expected counters, what was read of it is writable, and written gives the same bytes

@@ -2,7 +2,7 @@
 #![tactic(auto)]
 
 // A header's numbers: version, time, data begin and output length.
-#[derive(Clone, Copy)]
+#[derive(Clone, Copy, Debug, PartialEq, Eq)]
 pub struct Header {
     pub version: u16,
     pub time: u32,
@@ -10,16 +10,9 @@ pub struct Header {
     pub size: u16,
 }
 
-// A header, or the number that refuses it.
-#[derive(Clone, Copy)]
-pub enum Head {
-    Is(Header),
-    Refused(u8),
-}
-
 // What stands at a place of a log: a data block, whose bytes begin at `start`, a time block, the end, or a refusal. `as_expected` says
-// whether a block's counter is the number of earlier blocks, modulo 256.
-#[derive(Clone, Copy)]
+// whether a block's counter is the number of earlier blocks, modulo 256. A refusal holds its number, and not a `Refusal`: `length_of` takes any block.
+#[derive(Clone, Copy, Debug, PartialEq, Eq)]
 pub enum Block {
     Data {
         counter: u8,

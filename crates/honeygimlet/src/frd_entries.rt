@@ -1,31 +1,29 @@
 // FRD files.
-ghost use Rattle.std.specs.Prelude.{◌≡◌, ℕ, length, take, drop};
+ghost use Rattle.std.specs.Prelude.{◌≡◌, length, take, drop};
 ghost use Rattle.wire.specs.Writer.{wrote, leaves};
 ghost use Rattle.frd_rules.specs.Header.{read_header_of, signature_in, read_signature_of};
 ghost use Rattle.frd_rules.specs.Block.{counter_after, read_block_of};
-ghost use Rattle.frd_rules.specs.Kinds.{NoData, Ending};
 ghost use Rattle.frd_rules.specs.Log.{count_blocks_of};
 ghost use Rattle.frd_rules.specs.Writing.{header_bytes, write_header_number, data_bytes, write_data_number, time_bytes, write_time_number};
 ghost use Rattle.honeygimlet.specs.Answers.{frd_header, no_frd_block, found_frd_block, frd_block};
 
-use crate::{DATA, END, FrdBlock, FrdHeader, REFUSED, TIME, flag};
-use frd::{Block, Head};
+use crate::{DATA, END, FrdBlock, FrdHeader, REFUSED, TIME};
+use frd::Block;
 
 #[unsafe(no_mangle)]
 pub extern "C" fn hg_frd_read_header(file: &[u8]) -> FrdHeader
     ensures { result ≡ frd_header (read_header_of file.now) }
 {
-    let head = frd::read_header(file);
-    match head {
-        Head::Is(h) => FrdHeader {
+    match frd::read_header(file) {
+        Ok(h) => FrdHeader {
             time: h.time,
             size: h.size,
             number: 0,
         },
-        Head::Refused(number) => FrdHeader {
+        Err(e) => FrdHeader {
             time: 0,
             size: 0,
-            number,
+            number: e.number(),
         },
     }
 }
@@ -58,35 +56,8 @@ fn found(kind: u8, counter: u8, time: u32, start: usize, len: usize, as_expected
         number: 0,
         kind,
         counter,
-        as_expected: flag(as_expected),
+        as_expected: u8::from(as_expected),
     }
-}
-
-// The end or a refusal as a struct.
-fn ending_out(b: Block) -> FrdBlock
-    requires { Ending b }
-    ensures { (l : ℕ) → result ≡ frd_block l b }
-{
-    let Block::Refused { number, place } = b else {
-        return no_block(END, 0, 0);
-    };
-    no_block(REFUSED, number, place)
-}
-
-// A time block as a struct, or what ends a log.
-fn time_out(b: Block) -> FrdBlock
-    requires { NoData b }
-    ensures { (l : ℕ) → result ≡ frd_block l b }
-{
-    let Block::Time {
-        counter,
-        time,
-        as_expected,
-    } = b
-    else {
-        return ending_out(b);
-    };
-    found(TIME, counter, time, 0, 0, as_expected)
 }
 
 // A block as a struct, where records have the given length.
@@ -99,9 +70,20 @@ fn block_out(b: Block, size: u16) -> FrdBlock
         as_expected,
     } = b
     else {
-        return time_out(b);
+        let Block::Time {
+            counter,
+            time,
+            as_expected,
+        } = b
+        else {
+            let Block::Refused { number, place } = b else {
+                return no_block(END, 0, 0);
+            };
+            return no_block(REFUSED, number, place);
+        };
+        return found(TIME, counter, time, 0, 0, as_expected);
     };
-    found(DATA, counter, 0, start, size as usize, as_expected)
+    found(DATA, counter, 0, start, usize::from(size), as_expected)
 }
 
 #[unsafe(no_mangle)]
@@ -113,18 +95,18 @@ pub extern "C" fn hg_frd_read_block(file: &[u8], size: u16, earlier: u64, place:
 }
 
 #[unsafe(no_mangle)]
-pub extern "C" fn hg_frd_count_blocks(file: &[u8]) -> frd::Tally
+pub extern "C" fn hg_frd_count_blocks(file: &[u8]) -> wire::Tally
     ensures { result ≡ count_blocks_of file.now }
 {
-    frd::count_blocks(file)
+    frd::count_blocks(file).into()
 }
 
 #[unsafe(no_mangle)]
-pub extern "C" fn hg_frd_read_signature(file: &[u8]) -> frd::Span
+pub extern "C" fn hg_frd_read_signature(file: &[u8]) -> wire::Span
     ensures value { result ≡ read_signature_of file.now }
     ensures part { result.number ≡ 0 → take result.len (drop result.start file.now) ≡ signature_in file.now }
 {
-    frd::read_signature(file)
+    frd::read_signature(file).into()
 }
 
 #[unsafe(no_mangle)]
@@ -139,7 +121,7 @@ pub extern "C" fn hg_frd_write_header(
         × (out.new ≡ leaves (write_header_number time signature.now size (length out.old))
         (header_bytes time signature.now size) out.old) }
 {
-    frd::write_header(out, time, signature, size)
+    frd::write_header(out, time, signature, size).into()
 }
 
 #[unsafe(no_mangle)]
@@ -154,7 +136,7 @@ pub extern "C" fn hg_frd_write_data(
         × (out.new ≡ leaves (write_data_number size (counter_after earlier) bytes.now (length out.old))
         (data_bytes (counter_after earlier) bytes.now) out.old) }
 {
-    frd::write_data(out, size, earlier, bytes)
+    frd::write_data(out, size, earlier, bytes).into()
 }
 
 #[unsafe(no_mangle)]
@@ -163,5 +145,5 @@ pub extern "C" fn hg_frd_write_time(out: &mut [u8], earlier: u64, time: u32) -> 
         × (out.new ≡ leaves (write_time_number (counter_after earlier) time (length out.old))
         (time_bytes (counter_after earlier) time) out.old) }
 {
-    frd::write_time(out, earlier, time)
+    frd::write_time(out, earlier, time).into()
 }

@@ -1,5 +1,5 @@
 // The C library: each entry is one call of the crates below it, and promises that its answer, and what it leaves in lent memory, are the
-// definition's of that call. What else the call's promise says is not said again. An answer enum goes out as a struct.
+// definition's of that call. What else the call's promise says is not said again. A result or an enum goes out as a struct.
 #![tactic(auto)]
 
 pub mod bridge_entries;
@@ -8,9 +8,6 @@ pub mod bus_entries;
 pub mod frd_entries;
 pub mod mlg_entries;
 pub mod value_entries;
-
-ghost use Rattle.std.specs.Prelude.{◌≡◌};
-ghost use Rattle.honeygimlet.specs.Answers.{flag_of};
 
 // An identifier, and the number that refuses its parts.
 #[repr(C)]
@@ -41,7 +38,7 @@ pub struct MlgHeader {
     pub number: u8,
 }
 
-// Kinds of blocks.
+// Kinds of blocks, which C sees as numbers.
 pub const DATA: u8 = 0;
 
 pub const MARK: u8 = 1;
@@ -104,11 +101,4 @@ pub struct FrdBlock {
     pub kind: u8,
     pub counter: u8,
     pub as_expected: u8,
-}
-
-// 1 for true, 0 for false.
-pub(crate) fn flag(b: bool) -> u8
-    ensures { result ≡ flag_of b }
-{
-    if b { 1 } else { 0 }
 }

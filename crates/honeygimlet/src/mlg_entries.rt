@@ -1,9 +1,8 @@
 // MLG files.
-ghost use Rattle.std.specs.Prelude.{◌≡◌, ℕ, ◌+◌, ◌≤◌, length};
+ghost use Rattle.std.specs.Prelude.{◌≡◌, ◌+◌, ◌≤◌, length};
 ghost use Rattle.wire.specs.Writer.{wrote, leaves};
 ghost use Rattle.mlg_rules.specs.Header.{read_header_of};
 ghost use Rattle.mlg_rules.specs.Block.{counter_after, read_block_of};
-ghost use Rattle.mlg_rules.specs.Kinds.{NoData, Ending};
 ghost use Rattle.mlg_rules.specs.Log.{count_blocks_of};
 ghost use Rattle.mlg_rules.specs.Parts.{fields_span_of, field_span_of, names_span_of, info_span_of};
 ghost use Rattle.mlg_rules.specs.Writing.{header_bytes, write_header_number, data_bytes, mark_bytes, write_data_number, write_mark_number};
@@ -11,16 +10,15 @@ ghost use Rattle.listing_rules.specs.Listing.{list_of, list_number};
 ghost use Rattle.listing_rules.specs.Longest.{longest};
 ghost use Rattle.honeygimlet.specs.Answers.{mlg_header, no_mlg_block, found_mlg_block, mlg_block};
 
-use crate::{DATA, END, MARK, MlgBlock, MlgHeader, REFUSED, flag};
-use mlg::{Block, Head};
+use crate::{DATA, END, MARK, MlgBlock, MlgHeader, REFUSED};
+use mlg::Block;
 
 #[unsafe(no_mangle)]
 pub extern "C" fn hg_mlg_read_header(file: &[u8]) -> MlgHeader
     ensures { result ≡ mlg_header (read_header_of file.now) }
 {
-    let head = mlg::read_header(file);
-    match head {
-        Head::Is(h) => MlgHeader {
+    match mlg::read_header(file) {
+        Ok(h) => MlgHeader {
             time: h.time,
             info: h.info,
             begin: h.begin,
@@ -29,19 +27,19 @@ pub extern "C" fn hg_mlg_read_header(file: &[u8]) -> MlgHeader
             version: h.version,
             number: 0,
         },
-        Head::Refused(number) => MlgHeader {
+        Err(e) => MlgHeader {
             time: 0,
             info: 0,
             begin: 0,
             size: 0,
             count: 0,
             version: 0,
-            number,
+            number: e.number(),
         },
     }
 }
 
-// The end or a refusal.
+// The end or a refusal. (This and the next two have a twin for FRD, since C's two structs differ in the width of the time.)
 fn no_block(kind: u8, number: u8, place: usize) -> MlgBlock
     ensures { result ≡ no_mlg_block kind number place }
 {
@@ -69,37 +67,8 @@ fn found(kind: u8, counter: u8, time: u16, start: usize, len: usize, as_expected
         number: 0,
         kind,
         counter,
-        as_expected: flag(as_expected),
+        as_expected: u8::from(as_expected),
     }
-}
-
-// The end or a refusal as a struct.
-fn ending_out(b: Block) -> MlgBlock
-    requires { Ending b }
-    ensures { (l : ℕ) → result ≡ mlg_block l b }
-{
-    let Block::Refused { number, place } = b else {
-        return no_block(END, 0, 0);
-    };
-    no_block(REFUSED, number, place)
-}
-
-// A mark as a struct, or what ends a log.
-fn mark_out(b: Block) -> MlgBlock
-    requires { NoData b }
-    ensures { (l : ℕ) → result ≡ mlg_block l b }
-{
-    let Block::Mark {
-        counter,
-        time,
-        start,
-        len,
-        as_expected,
-    } = b
-    else {
-        return ending_out(b);
-    };
-    found(MARK, counter, time, start, len, as_expected)
 }
 
 // A block as a struct, where records have the given length.
@@ -113,9 +82,22 @@ fn block_out(b: Block, size: u16) -> MlgBlock
         as_expected,
     } = b
     else {
-        return mark_out(b);
+        let Block::Mark {
+            counter,
+            time,
+            start,
+            len,
+            as_expected,
+        } = b
+        else {
+            let Block::Refused { number, place } = b else {
+                return no_block(END, 0, 0);
+            };
+            return no_block(REFUSED, number, place);
+        };
+        return found(MARK, counter, time, start, len, as_expected);
     };
-    found(DATA, counter, time, start, size as usize, as_expected)
+    found(DATA, counter, time, start, usize::from(size), as_expected)
 }
 
 #[unsafe(no_mangle)]
@@ -127,38 +109,38 @@ pub extern "C" fn hg_mlg_read_block(file: &[u8], size: u16, earlier: u64, place:
 }
 
 #[unsafe(no_mangle)]
-pub extern "C" fn hg_mlg_count_blocks(file: &[u8]) -> mlg::Tally
+pub extern "C" fn hg_mlg_count_blocks(file: &[u8]) -> wire::Tally
     ensures { result ≡ count_blocks_of file.now }
 {
-    mlg::count_blocks(file)
+    mlg::count_blocks(file).into()
 }
 
 #[unsafe(no_mangle)]
-pub extern "C" fn hg_mlg_fields_span(file: &[u8]) -> mlg::Span
+pub extern "C" fn hg_mlg_fields_span(file: &[u8]) -> wire::Span
     ensures { (result ≡ fields_span_of file.now) × (result.start + result.len ≤ length file.now) }
 {
-    mlg::fields_span(file)
+    mlg::fields_span(file).into()
 }
 
 #[unsafe(no_mangle)]
-pub extern "C" fn hg_mlg_field_span(file: &[u8], index: u16) -> mlg::Span
+pub extern "C" fn hg_mlg_field_span(file: &[u8], index: u16) -> wire::Span
     ensures { (result ≡ field_span_of file.now index) × (result.start + result.len ≤ length file.now) }
 {
-    mlg::field_span(file, index)
+    mlg::field_span(file, index).into()
 }
 
 #[unsafe(no_mangle)]
-pub extern "C" fn hg_mlg_names_span(file: &[u8]) -> mlg::Span
+pub extern "C" fn hg_mlg_names_span(file: &[u8]) -> wire::Span
     ensures { (result ≡ names_span_of file.now) × (result.start + result.len ≤ length file.now) }
 {
-    mlg::names_span(file)
+    mlg::names_span(file).into()
 }
 
 #[unsafe(no_mangle)]
-pub extern "C" fn hg_mlg_info_span(file: &[u8]) -> mlg::Span
+pub extern "C" fn hg_mlg_info_span(file: &[u8]) -> wire::Span
     ensures { (result ≡ info_span_of file.now) × (result.start + result.len ≤ length file.now) }
 {
-    mlg::info_span(file)
+    mlg::info_span(file).into()
 }
 
 #[unsafe(no_mangle)]
@@ -174,7 +156,7 @@ pub extern "C" fn hg_mlg_write_header(
         × (out.new ≡ leaves (write_header_number 2 time fields.now names.now info.now (length out.old))
         (header_bytes 2 time fields.now names.now info.now) out.old) }
 {
-    mlg::write_header(out, time, fields, names, info)
+    mlg::write_header(out, time, fields, names, info).into()
 }
 
 #[unsafe(no_mangle)]
@@ -190,7 +172,7 @@ pub extern "C" fn hg_mlg_write_data(
         × (out.new ≡ leaves (write_data_number size bytes.now (length out.old))
         (data_bytes (counter_after earlier) time bytes.now) out.old) }
 {
-    mlg::write_data(out, size, earlier, time, bytes)
+    mlg::write_data(out, size, earlier, time, bytes).into()
 }
 
 #[unsafe(no_mangle)]
@@ -204,7 +186,7 @@ pub extern "C" fn hg_mlg_write_mark(
         × (out.new ≡ leaves (write_mark_number text.now (length out.old))
         (mark_bytes (counter_after earlier) time text.now) out.old) }
 {
-    mlg::write_mark(out, earlier, time, text)
+    mlg::write_mark(out, earlier, time, text).into()
 }
 
 // The listing of a file.
@@ -214,5 +196,5 @@ pub extern "C" fn hg_mlg_list(out: &mut [u8], file: &[u8]) -> wire::Written
         × (out.new ≡ leaves (list_number file.now (length out.old)) (list_of file.now) out.old) }
     ensures file_len_bound { length (list_of file.now) ≤ longest }
 {
-    listing::list(out, file)
+    listing::list(out, file).into()
 }

@@ -4,7 +4,7 @@ use mathlib.Core.Path.{◌≡◌}
 use mathlib.Core.List.{List}
 use lib.ListN.{length, replicate, length-replicate}
 use Rattle.wire.specs.Writer.{wrote, leaves}
-use Rattle.wire.specs.declared.Written.{Written}
+use Rattle.wire.specs.declared.views.Written.{Written}
 use Rattle.listing_rules.specs.Listing.{list_of, list_number}
 use Rattle.listing_rules.proofs.ListWritten.{list_fits}
 

@@ -2,11 +2,9 @@
 // the length and a sum.
 #![tactic(auto)]
 
-ghost use Rattle.std.specs.Prelude.{◌<◌, ◌≤◌, length};
-
+use input::read_full;
 use std::env::{Env, FillError};
 use std::fs::File;
-use std::io::Read;
 use std::rt::Files;
 
 // What can't be printed is left out.
@@ -18,21 +16,11 @@ fn decimal(rt: &impl Print, x: u64) {
     let _ = rt.print(x);
 }
 
-fn wide(b: u8) -> u64
-    ensures { result < 256 }
-{
-    b as u64
-}
-
 // A number that tells texts apart.
-fn sum_of(s: &[u8]) -> u64
-    ensures { result < 1000003 }
-{
-    let mut sum: u64 = 0;
-    let mut i: usize = 0;
-    while i < s.len() {
-        sum = (sum * 31 + wide(s[i])) % 1000003;
-        i += 1;
+fn sum_of(s: &[u8]) -> u64 {
+    let mut sum = 0;
+    for b in s {
+        sum = (sum * 31 + u64::from(*b)) % 1000003;
     }
     sum
 }
@@ -45,7 +33,7 @@ fn show(rt: &impl Print, s: &[u8]) {
     }
     text(rt, &s[0..200]);
     text(rt, b"\n..\n");
-    text(rt, &s[len - 200..len]);
+    text(rt, &s[len - 200..]);
     decimal(rt, len as u64);
     text(rt, b" bytes, sum ");
     decimal(rt, sum_of(s));
@@ -57,9 +45,9 @@ fn list(rt: &impl Print, file: &[u8]) {
     decimal(rt, file.len() as u64);
     text(rt, b" bytes\n");
     let mut out = [0u8; 327680];
-    let w = listing::list(&mut out, file);
-    let len = w.len;
-    show(rt, &out[0..len]);
+    if let Ok(len) = listing::list(&mut out, file) {
+        show(rt, &out[0..len]);
+    }
 }
 
 // A file to be read, where its name is text and there is one.
@@ -68,23 +56,6 @@ fn open<R: Files>(rt: &R, name: &[u8]) -> Option<R::File> {
         return None;
     };
     File::open(rt, path).ok()
-}
-
-// Reads until the buffer is full, the file ends or a read fails, and hands back how many bytes it read.
-fn read_full<R: Read>(file: &mut R, buffer: &mut [u8]) -> usize
-    ensures { result ≤ length buffer.new }
-{
-    let mut len: usize = 0;
-    while len < buffer.len() {
-        let Ok(n) = file.read(&mut buffer[len..]) else {
-            return len;
-        };
-        if n == 0 {
-            return len;
-        }
-        len += n;
-    }
-    len
 }
 
 fn case<R: Files + Print>(rt: &R, name: &[u8]) {
@@ -96,8 +67,8 @@ fn case<R: Files + Print>(rt: &R, name: &[u8]) {
         return;
     };
     let mut file = [0u8; 65537];
-    let n = read_full(&mut input, &mut file);
-    list(rt, &file[0..n]);
+    let (n, _) = read_full(&mut input, &mut file);
+    list(rt, &file[..n]);
 }
 
 // Argument i and its case: whether there is one. A name longer than any path is as an empty one.
@@ -105,7 +76,7 @@ fn argument<R: Env + Files + Print>(rt: &R, i: usize) -> bool {
     let mut name = [0u8; 4096];
     let given = rt.arg(i, &mut name);
     match given {
-        Ok(len) => case(rt, &name[0..len]),
+        Ok(len) => case(rt, &name[..len]),
         Err(FillError::TooLong) => case(rt, b""),
         Err(FillError::NotPresent) => return false,
     }

@@ -12,7 +12,7 @@ use Rattle.mlg_rules.specs.Header.{read_header_of}
 use Rattle.mlg_rules.specs.Block.{counter_after, block_len, type_in, text_in, parts_of, read_block_of}
 use Rattle.mlg_rules.specs.Log.{length_of}
 use Rattle.mlg_rules.specs.declared.Header.{Header}
-use Rattle.mlg_rules.specs.declared.Head.TheVariants.{Is}
+use Rattle.std.proofs.Common.{Ok}
 use Rattle.mlg_rules.specs.declared.Block.{Block}
 use Rattle.mlg_rules.proofs.LogLaws.{IsBlock, Stands, a_block, the_end, refused, stands_at, parts_block}
 use Rattle.mlg_rules.proofs.TallyLaws.{at_fits}
@@ -21,7 +21,7 @@ use Rattle.listing_rules.proofs.FieldsInFile.{fields_in}
 use Rattle.listing_rules.proofs.ValuesNotRefused.{record_not_refused}
 
 module _ (h : Header) (f : List ℕ) where
-  parts_in_file : read_header_of f ≡ Is h → (k c at : ℕ) (t : List ℕ) → at + length_of h.size (parts_of k c at t) ≤ length f
+  parts_in_file : read_header_of f ≡ Ok h → (k c at : ℕ) (t : List ℕ) → at + length_of h.size (parts_of k c at t) ≤ length f
       → BlockInFile h f (parts_of k c at t)
   unfolding parts_of length_of block_len
   parts_in_file e zero c at t i =
@@ -31,12 +31,12 @@ module _ (h : Header) (f : List ℕ) where
       let s : text_len (text_in t) ≤ 50 = omega (arith, text_most (text_in t), take_length_le 50 (drop 4 t)) in
       (omega arith, s)
 
-  in_file_by : read_header_of f ≡ Is h → (n at : ℕ) (b : Block) → Stands h.size n f at b → read_block_of h.size n f at ≡ b → BlockInFile h f b
+  in_file_by : read_header_of f ≡ Ok h → (n at : ℕ) (b : Block) → Stands h.size n f at b → read_block_of h.size n f at ≡ b → BlockInFile h f b
   in_file_by e n at b (a_block p some num q) i =
       let go : IsBlock b = rw q (parts_block (type_in (drop at f)) (counter_after n) at (drop at f)) in
       rw q (parts_in_file e _ _ at _ (rw q at (at_fits h.size n f at b i go)))
   in_file_by e n at b (the_end p q) i = rw q tt
   in_file_by e n at b (refused m q) i = rw q tt
 
-  pub block_in_file : read_header_of f ≡ Is h → (n at : ℕ) (b : Block) → read_block_of h.size n f at ≡ b → BlockInFile h f b
+  pub block_in_file : read_header_of f ≡ Ok h → (n at : ℕ) (b : Block) → read_block_of h.size n f at ≡ b → BlockInFile h f b
   block_in_file e n at b q = in_file_by e n at b (rw q at (stands_at h.size n f at)) q

@@ -1,12 +1,9 @@
 -- Decimal digits, one by one from the last.
-use Prim.Native.Nat.{ℕ, zero, suc, ◌+◌, ◌-◌, ◌/◌, ◌%◌, ◌^◌, ◌≤◌, ◌<◌}
-use mathlib.Core.Path.{◌≡◌, refl, sym, ap, ◌∙◌}
-use mathlib.Core.List.{List, [], ◌∷◌, ◌++◌, append_assoc}
+use Prim.Native.Nat.{ℕ, zero, suc, ◌-◌, ◌/◌, ◌%◌, ◌^◌, ◌≤◌, ◌<◌}
+use mathlib.Core.Path.{◌≡◌, refl, ap}
+use mathlib.Core.List.{List, [], ◌∷◌, ◌++◌}
 use native.Mathlib.Omega.{arith}
 use native.Mathlib.Nat.{pow-suc, pow-zero}
-use Rattle.wire.proofs.Parts.{tail_part}
-use lib.ListN.{length, take, drop, set, length-set}
-use lib.Seq.{drop-cons, drop-set-lt, get_or-set_same}
 use Rattle.listing_rules.specs.Text.{digit, digits, decimal}
 
 -- digits that are there do not depend on how many may be
@@ -31,13 +28,6 @@ pub decimal_all : (x : ℕ) → decimal x ≡ all_of (x / 10) ++ (digit (x % 10)
 unfolding decimal
 decimal_all x = ap (λ (l : List ℕ). l ++ (digit (x % 10) ∷ [])) (enough x (x / 10) (x / 10) (omega arith) (omega arith))
 
--- a digit set before those that stand in d from i on
-pub digit_set : (d : List ℕ) (i j v : ℕ) → j + 1 ≡ i → i ≤ length d → drop j (set d j v) ≡ v ∷ drop i d
-digit_set d i j v e h =
-    let l : j < length (set d j v) = rw (length-set d j v) (omega arith) in
-    let k : suc j ≡ i = omega arith in
-    drop-cons (set d j v) j 0 l ∙ rw (get_or-set_same d j v 0 (omega arith), drop-set-lt (suc j) d j v (omega arith), k)
-
 -- i digits hold what is left
 pub fewer : (rest i : ℕ) → rest < 10 ^ i → (rest ≡ 0 → ⊥) → (1 ≤ i) × (rest / 10 < 10 ^ (i - 1))
 fewer zero zero h z = absurd (z refl)
@@ -45,14 +35,3 @@ fewer (suc rest) zero h z = absurd (omega (arith, pow-zero 10))
 fewer rest (suc i) h z =
     let e : suc i - 1 ≡ i = omega arith in
     (omega arith, rw e (omega (arith, pow-suc 10 i)))
-
--- one digit more
-pub more : (x rest : ℕ) (d : List ℕ) (i : ℕ) → decimal x ≡ all_of rest ++ drop i d → (rest ≡ 0 → ⊥) → rest < 10 ^ i → i ≤ length d
-    → decimal x ≡ all_of (rest / 10) ++ drop (i - 1) (set d (i - 1) (digit (rest % 10)))
-more x rest d i e z k h =
-    let n : i - 1 + 1 ≡ i = omega (arith, fewer rest i k z) in
-    e ∙ rw (last_digit rest z, append_assoc, digit_set d i (i - 1) (digit (rest % 10)) n h)
-
--- no digits are left
-pub done : (x rest : ℕ) (d : List ℕ) (i : ℕ) → length d ≡ 20 → decimal x ≡ all_of rest ++ drop i d → rest ≡ 0 → take (20 - i) (drop i d) ≡ decimal x
-done x rest d i l e z = rw l at (tail_part d i) ∙ sym (rw z at e)

@@ -4,27 +4,26 @@ use mathlib.Core.Path.{◌≡◌, refl, ◌∙◌}
 use mathlib.Core.List.{List, [], ◌++◌}
 use native.Mathlib.Omega.{arith}
 use lib.ListN.{length, take, drop}
-use lib.Seq.{drop-drop}
-use Rattle.wire.proofs.Parts.{part_is, tail_part}
+use lib.Seq.{take_at, drop_at}
+use Rattle.wire.proofs.Parts.{tail_part}
 use Rattle.mlg_rules.specs.Layout.{layout_of, header_len, field_len}
 use Rattle.listing_rules.specs.Lines.{field_line, field_lines}
 
 -- the next field's line
-field_next : (v i n : ℕ) (t : List ℕ) → i < n
+pub field_next : (v i n : ℕ) (t : List ℕ) → i < n
     → field_lines v i (n - i) t ≡ field_line i (take (field_len v) t) ++ field_lines v (i + 1) (n - (i + 1)) (drop (field_len v) t)
 field_next v i n t h = let e : n - i ≡ suc (n - (i + 1)) = omega arith in rw e
 
-pub field_next_at : (v i n : ℕ) (fields : List ℕ) (place len : ℕ) → i < n → len ≡ field_len v
-    → field_lines v i (n - i) (drop place fields)
-    ≡ field_line i (take (place + len - place) (drop place fields)) ++ field_lines v (i + 1) (n - (i + 1)) (drop (place + len) fields)
-field_next_at v i n fields place len h e =
-    field_next v i n (drop place fields) h
-    ∙ rw (← part_is fields place len (field_len v) e, ← e, drop-drop len place fields)
+-- of a field that is cut off
+pub field_cut : (v i n : ℕ) (t field rest : List ℕ) → i < n → t ≡ field ++ rest → length field ≡ 89
+    → field_lines v i (n - i) t ≡ field_line i field ++ field_lines v (i + 1) (n - (i + 1)) rest
+unfolding layout_of
+field_cut v i n t field rest h e l = rw e (field_next v i n (field ++ rest) h ∙ rw (take_at field rest 89 l, drop_at field rest 89 l))
 
 pub field_none : (v i n : ℕ) (t : List ℕ) → n ≤ i → field_lines v i (n - i) t ≡ []
 field_none v i n t h = let e : n - i ≡ 0 = omega arith in rw e
 
-pub fields_all : (v n : ℕ) (t : List ℕ) → field_lines v 0 (n - 0) (drop 0 t) ≡ field_lines v 0 n t
+pub fields_all : (v n : ℕ) (t : List ℕ) → field_lines v 0 (n - 0) t ≡ field_lines v 0 n t
 fields_all v n t = let e : n - 0 ≡ n = omega arith in rw e
 
 -- the fields' bytes, as the code cuts them

@@ -23,6 +23,3 @@ unfolding name_of to_zero
 name_part d n e =
     let k : 1 + n - 1 ≡ text_len (take 34 (drop 1 d)) = omega arith in
     rw k (sym (take-take (text_len (take 34 (drop 1 d))) 34 (drop 1 d) (name_short d)))
-
-pub name_fits : (d : List ℕ) (n : ℕ) → n ≡ text_len (take 34 (drop 1 d)) → length (take (1 + n - 1) (drop 1 d)) ≤ 50
-name_fits d n e = omega (arith, take_length_le (1 + n - 1) (drop 1 d), name_short d)

@@ -1,12 +1,11 @@
 -- The lines of a log, block by block.
-use Prim.Native.Nat.{ℕ, zero, suc, ◌+◌, ◌-◌}
+use Prim.Native.Nat.{ℕ, zero, suc, ◌+◌, ◌-◌, ◌≤◌}
 use mathlib.Core.Path.{◌≡◌, refl}
 use mathlib.Core.List.{List, [], ◌++◌, append_assoc}
 use native.Mathlib.Omega.{arith}
 use lib.ListN.{length}
 use Rattle.mlg_rules.specs.Block.{read_block_of}
 use Rattle.mlg_rules.specs.Log.{Log, length_of, log_from, log_of}
-use Rattle.mlg_rules.specs.Kinds.{Ending}
 use Rattle.mlg_rules.specs.declared.Header.{Header}
 use Rattle.mlg_rules.specs.declared.Block.{Block}
 use Rattle.mlg_rules.specs.declared.Block.TheVariants.{Data, Mark, End, Refused}
@@ -40,17 +39,29 @@ module _ (h : Header) (f : List ℕ) where
       → log_lines h f n (log_from (suc k) h.size n f at) ≡ block_line h f n (Refused m p)
   block_refused k n at m p e = lines_stop n at (Refused m p) _ (log_refused k h.size n f at m p e)
 
-  pub block_last : (k n at : ℕ) (b : Block) → (k ≡ 0 → ⊥) → read_block_of h.size n f at ≡ b → Ending b
+  pub block_last : (k n at : ℕ) (b : Block) → (k ≡ 0 → ⊥) → read_block_of h.size n f at ≡ b → (IsBlock b → ⊥)
       → log_lines h f n (log_from k h.size n f at) ≡ block_line h f n b
   block_last zero n at b z e g = absurd (z refl)
-  block_last (suc k) n at (Data c m s r) z e g = absurd g
-  block_last (suc k) n at (Mark c m s j r) z e g = absurd g
+  block_last (suc k) n at (Data c m s r) z e g = absurd (g tt)
+  block_last (suc k) n at (Mark c m s j r) z e g = absurd (g tt)
   block_last (suc k) n at End z e g = block_end k n at e
   block_last (suc k) n at (Refused m p) z e g = block_refused k n at m p e
+
+  -- the same of a log of which n blocks are read, where no more blocks than bytes are
+  pub more_lines : (n at : ℕ) (b : Block) → n ≤ length f → read_block_of h.size n f at ≡ b → IsBlock b
+      → log_lines h f n (log_from (length f + 1 - n) h.size n f at)
+      ≡ block_line h f n b ++ log_lines h f (n + 1) (log_from (length f + 1 - (n + 1)) h.size (n + 1) f (at + length_of h.size b))
+  more_lines n at b w e g =
+      let q : length f + 1 - (n + 1) ≡ length f + 1 - n - 1 = omega arith in
+      rw q (block_next (length f + 1 - n) n at b (λ z. omega arith) e g)
+
+  pub last_lines : (n at : ℕ) (b : Block) → n ≤ length f → read_block_of h.size n f at ≡ b → (IsBlock b → ⊥)
+      → log_lines h f n (log_from (length f + 1 - n) h.size n f at) ≡ block_line h f n b
+  last_lines n at b w e g = block_last (length f + 1 - n) n at b (λ z. omega arith) e g
 
   pub block_none : (k n at : ℕ) → k ≡ 0 → log_lines h f n (log_from k h.size n f at) ≡ block_line h f n End
   block_none k n at e = rw e (lines_stop n at End (log_from 0 h.size n f at) refl)
 
-  pub log_all : (k : ℕ) → k ≡ length f + 1 → log_lines h f 0 (log_from k h.size 0 f h.begin) ≡ log_lines h f 0 (log_of h.size f h.begin)
+  pub log_all : log_lines h f 0 (log_from (length f + 1 - 0) h.size 0 f h.begin) ≡ log_lines h f 0 (log_of h.size f h.begin)
   unfolding log_of
-  log_all k e = let q : k ≡ suc (length f) = omega arith in rw q
+  log_all = let q : length f + 1 - 0 ≡ suc (length f) = omega arith in rw q

@@ -13,8 +13,9 @@ use Rattle.mlg_rules.specs.Header.{numbers_of, fields_from, no_header, read_head
 use Rattle.mlg_rules.specs.Block.{counter_after, type_in, read_block_of}
 use Rattle.mlg_rules.specs.Log.{length_of, log_from, log_of}
 use Rattle.mlg_rules.specs.declared.Header.{Header}
-use Rattle.mlg_rules.specs.declared.Head.{Head}
-use Rattle.mlg_rules.specs.declared.Head.TheVariants as head
+use Rattle.std.proofs.Common.{Result, Ok, Err}
+use Rattle.wire.specs.Refusals.{code}
+use Rattle.wire.specs.declared.refusal.Refusal.{Refusal}
 use Rattle.mlg_rules.specs.declared.Block.{Block}
 use Rattle.mlg_rules.proofs.LogLaws.{IsBlock, Stands, a_block, the_end, refused, stands_at, parts_block}
 use Rattle.mlg_rules.proofs.TallyLaws.{at_fits}
@@ -36,7 +37,7 @@ size_in : (f : List ℕ) → Bytes f → (numbers_of f).size < 65536
 unfolding numbers_of layout_of
 size_in f g = two_bytes f 20 g
 
-module _ (h : Header) (f : List ℕ) (e : read_header_of f ≡ head.Is h) (g : Bytes f) (short : length f ≤ 65536) where
+module _ (h : Header) (f : List ℕ) (e : read_header_of f ≡ Ok h) (g : Bytes f) (short : length f ≤ 65536) where
   -- the lines of a log from a place on, where k blocks may be left
   abbrev Within : ℕ → ℕ → ℕ → Type 0
   Within k n at = length (log_lines h f n (log_from k h.size n f at)) + 5 * at ≤ 5 * length f + 53
@@ -80,10 +81,10 @@ module _ (h : Header) (f : List ℕ) (e : read_header_of f ≡ head.Is h) (g : B
       simp length-append (omega (arith, header_line_length h count_small size_small, fields, log, begin_after f h e, short))
 
 module _ (f : List ℕ) (g : Bytes f) where
-  by_head : length f ≤ 65536 → (r : Head) → read_header_of f ≡ r → length (head_lines f r) ≤ longest
+  by_head : length f ≤ 65536 → (r : Result Header Refusal) → read_header_of f ≡ r → length (head_lines f r) ≤ longest
   unfolding head_lines
-  by_head s (head.Is h) e = headed_length h f e g s
-  by_head s (head.Refused x) e = omega (arith, refusal_line_length no_header f 0 (omega arith) x 0 (header_number f x e) (omega arith))
+  by_head s (Ok h) e = headed_length h f e g s
+  by_head s (Err x) e = omega (arith, refusal_line_length no_header f 0 (omega arith) (code x) 0 (header_number f x e) (omega arith))
 
   by_length : (b : Bool) → ltb 65536 (length f) ≡ b → length (list_of f) ≤ longest
   unfolding LongInput

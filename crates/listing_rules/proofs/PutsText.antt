@@ -26,9 +26,8 @@ put_put out at s t h =
     rw (take_at (take at out ++ s) (drop (at + length s) out) (at + length s) p, d, append_assoc (take at out) s t)
 
 -- putting a text, then another
-infixl 20 ◌then◌
-pub ◌then◌ : {out mid after : List ℕ} {at m r : ℕ} {s t : List ℕ} → PutsText out at s mid m → PutsText mid m t after r → PutsText out at (s ++ t) after r
-◌then◌ {out} {mid} {after} {at} {m} {r} {s} {t} p q =
+pub both : {out mid after : List ℕ} {at m r : ℕ} {s t : List ℕ} → PutsText out at s mid m → PutsText mid m t after r → PutsText out at (s ++ t) after r
+both {out} {mid} {after} {at} {m} {r} {s} {t} p q =
     let l : length (s ++ t) ≡ length s + length t = length-append s t in
     record {
       counted = omega (arith, p.counted, q.counted);
@@ -52,21 +51,3 @@ puts_nothing out at = record { counted = omega arith; same_length = refl; writte
 pub puts_bytes : (out : List ℕ) (at : ℕ) (bs after : List ℕ) (r : ℕ) → after ≡ put_of out at bs → length after ≡ length out → r ≡ at + length bs
     → PutsText out at bs after r
 puts_bytes out at bs after r e l n = record { counted = n; same_length = l; written = λ h. e ∙ put_fits out at bs h }
-
--- the same text under another name
-pub puts_as : {out after : List ℕ} {at r : ℕ} {s : List ℕ} (t : List ℕ) → s ≡ t → PutsText out at s after r → PutsText out at t after r
-puts_as t e p = rw e at p
-
--- what is left of a text: whoever puts the rest has put all
-abbrev pub Completes : List ℕ → ℕ → List ℕ → List ℕ → ℕ → List ℕ → Type 0
-Completes out₀ at₀ all out at rest = (after : List ℕ) (r : ℕ) → PutsText out at rest after r → PutsText out₀ at₀ all after r
-
-pub completes_all : (out : List ℕ) (at : ℕ) (all rest : List ℕ) → rest ≡ all → Completes out at all out at rest
-completes_all out at all rest e = λ after r p. rw e at p
-
-pub completes_next : {out₀ all out mid s t u : List ℕ} {at₀ at m : ℕ} → Completes out₀ at₀ all out at u → u ≡ s ++ t → PutsText out at s mid m
-    → Completes out₀ at₀ all mid m t
-completes_next {t = t} k e q = λ after r p. k after r (rw e (q then p))
-
-pub completed : {out₀ all out rest : List ℕ} {at₀ at : ℕ} → Completes out₀ at₀ all out at rest → rest ≡ [] → PutsText out₀ at₀ all out at
-completed {out = out} {at = at} k e = k out at (rw e (puts_nothing out at))

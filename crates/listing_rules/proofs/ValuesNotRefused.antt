@@ -13,7 +13,7 @@ use Rattle.mlg_rules.specs.Raw.{value_field_number, value_number}
 use Rattle.mlg_rules.specs.Fields.{field_number, fields_number, sizes}
 use Rattle.mlg_rules.specs.Header.{last_number, body_number, fields_from, read_header_number, read_header_of}
 use Rattle.mlg_rules.specs.declared.Header.{Header}
-use Rattle.mlg_rules.specs.declared.Head.TheVariants.{Is}
+use Rattle.std.proofs.Common.{Ok}
 use Rattle.listing_rules.specs.BlockInFile.{ValuesNotRefused}
 use Rattle.listing_rules.proofs.RawValues.{equal}
 use Rattle.listing_rules.proofs.FieldsInFile.{header_is, fields_in}
@@ -36,7 +36,7 @@ values_not_refused v base area (suc n) t b h k s =
     let m : sizes v n (drop 89 t) ≡ length (drop (field_size (take 89 t)) b) = simp length-drop (omega arith) in
     (value_not_refused _ _ l (else_zero _ _ z.0).0 r, values_not_refused v base area n (drop 89 t) (drop (field_size (take 89 t)) b) i z.1 m)
 
-pub record_not_refused : (f : List ℕ) (h : Header) (b : List ℕ) → read_header_of f ≡ Is h → length b ≡ h.size
+pub record_not_refused : (f : List ℕ) (h : Header) (b : List ℕ) → read_header_of f ≡ Ok h → length b ≡ h.size
     → ValuesNotRefused h.version h.count (fields_from f h) b
 unfolding read_header_number body_number last_number
 record_not_refused f h b e l =

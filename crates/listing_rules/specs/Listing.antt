@@ -1,11 +1,11 @@
 -- The listing of a file. 01: "The program `loglist` reads an MLG of at most 65,536 bytes from standard input (longer: it prints `too long`)."
-use Rattle.std.specs.Prelude.{ℕ, ◌+◌, ◌≤◌, ◌<◌, ◌≡◌, cond, List, ◌++◌, ltb, length}
+use Rattle.std.specs.Prelude.{ℕ, ◌+◌, ◌≤◌, ◌<◌, ◌≡◌, cond, List, ◌++◌, ltb, length, Result, Ok, Err}
 use Rattle.wire.specs.Order.{◌if◌else◌}
 use Rattle.mlg_rules.specs.Header.{read_header_of, fields_from, no_header}
 use Rattle.mlg_rules.specs.Log.{Log, log_of}
 use Rattle.mlg_rules.specs.declared.Header.{Header}
-use Rattle.mlg_rules.specs.declared.Head.{Head}
-use Rattle.mlg_rules.specs.declared.Head.TheVariants.{Is, Refused}
+use Rattle.wire.specs.Refusals.{code}
+use Rattle.wire.specs.declared.refusal.Refusal.{Refusal}
 use Rattle.mlg_rules.specs.declared.Block.TheVariants as block
 use Rattle.listing_rules.specs.Text.{ascii}
 use Rattle.listing_rules.specs.Lines.{header_line, field_lines, block_line, block_lines, too_long}
@@ -22,9 +22,9 @@ headed_lines h f =
     ++ log_lines h f 0 (log_of h.size f h.begin)
 
 -- what a whole file lists; a header's refusal stands at place 0, alone
-unfoldable pub head_lines : List ℕ → Head → List ℕ
-head_lines f (Is h) = headed_lines h f
-head_lines f (Refused x) = block_line no_header f 0 (block.Refused x 0)
+unfoldable pub head_lines : List ℕ → Result Header Refusal → List ℕ
+head_lines f (Ok h) = headed_lines h f
+head_lines f (Err e) = block_line no_header f 0 (block.Refused (code e) 0)
 
 unfoldable pub list_of : List ℕ → List ℕ
 list_of f = cond (ltb 65536 (length f)) too_long (head_lines f (read_header_of f))

@@ -1,8 +1,6 @@
 -- What reading promises: the bytes read lie within the buffer. No contract can say which bytes a call of the system reads.
-use Rattle.std.specs.Prelude.{ℕ, ◌≤◌, List, length}
-use Rattle.loglist.specs.declared.Input.{Input}
-use Rattle.loglist.specs.declared.Input.TheVariants.{Bytes, Failed}
+use Rattle.std.specs.Prelude.{ℕ, ◌≤◌, List, length, Result, Ok, Err}
 
-abbrev pub Within : Input → List ℕ → Type 0
-Within (Bytes n) buffer = n ≤ length buffer
-Within Failed buffer = Unit
+abbrev pub Within : {E : Type 0} → Result ℕ E → List ℕ → Type 0
+Within (Ok n) buffer = n ≤ length buffer
+Within (Err _) buffer = Unit

@@ -6,43 +6,18 @@ ghost use Rattle.listing_rules.specs.Listing.{list_of, LongInput};
 ghost use Rattle.listing_rules.specs.Examples.{Examples};
 ghost use Rattle.loglist.specs.Input.{Within};
 
+use input::read_full;
 use std::env::{Env, FillError};
 use std::io;
 use std::io::Read;
 
-// How many bytes standard input gave, or that a read failed.
-#[derive(Clone, Copy)]
-enum Input {
-    Bytes(usize),
-    Failed,
-}
-
-// One read: it puts bytes at the start of the buffer, none at the end of the input.
-fn read_some<R: Read>(input: &mut R, buffer: &mut [u8]) -> Input
+// Reads an input to its end, or until the buffer is full: how many bytes it read.
+fn read_input<R: Read>(input: &mut R, buffer: &mut [u8]) -> io::Result<usize>
     ensures { Within result buffer.new }
 {
-    match input.read(buffer) {
-        Ok(n) => Input::Bytes(n),
-        Err(_) => Input::Failed,
-    }
-}
-
-// Reads an input to its end, or until the buffer is full.
-fn read_input<R: Read>(input: &mut R, buffer: &mut [u8]) -> Input
-    ensures { Within result buffer.new }
-{
-    let mut len: usize = 0;
-    while len < buffer.len() {
-        let some = read_some(input, &mut buffer[len..]);
-        let Input::Bytes(n) = some else {
-            return Input::Failed;
-        };
-        if n == 0 {
-            return Input::Bytes(len);
-        }
-        len += n;
-    }
-    Input::Bytes(len)
+    let (len, read) = read_full(input, buffer);
+    read?;
+    Ok(len)
 }
 
 // Writes the listing of a file, and hands back its length: no listing is longer than this buffer. With it stand 01's example, others, and
@@ -52,8 +27,7 @@ fn listing_of(out: &mut [u8; 327680], file: &[u8]) -> usize
     ensures examples { Examples }
     ensures long { LongInput }
 {
-    let w = listing::list(out, file);
-    w.len
+    listing::list(out, file).unwrap_or(0)
 }
 
 // Says what went wrong, on standard error; that this can't be written either, nobody is told.
@@ -64,8 +38,7 @@ fn say(rt: &impl Eprint, message: &str) {
 // Lists standard input.
 fn list_input(rt: &(impl io::Input + Print + Eprint)) {
     let mut file = [0u8; 65537];
-    let input = read_input(&mut rt.reader(), &mut file);
-    let Input::Bytes(n) = input else {
+    let Ok(n) = read_input(&mut rt.reader(), &mut file) else {
         say(rt, "loglist: standard input can't be read\n");
         return;
     };

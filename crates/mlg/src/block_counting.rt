@@ -1,67 +1,46 @@
-// The blocks of a log, one after the other.
-ghost use Rattle.std.specs.Prelude.{◌≡◌, ℕ};
-ghost use Rattle.mlg_rules.specs.Header.{head_answer};
-ghost use Rattle.mlg_rules.specs.Block.{block_answer};
-ghost use Rattle.mlg_rules.specs.Kinds.{NoData};
-ghost use Rattle.mlg_rules.specs.Log.{length_of, log_of, tally_of};
+// Counting the blocks of a file.
+ghost use Rattle.std.specs.Prelude.{◌≡◌};
+ghost use Rattle.wire.specs.Log.{as_tally};
+ghost use Rattle.mlg_rules.specs.Log.{log_of, tally_of, count_blocks_of};
+ghost use Rattle.mlg_rules.specs.RoundTrip.{LogPlaced};
 
-use crate::block_reading::block_len;
-use crate::{Block, Head, Tally, length_of, read_block};
+use crate::Block;
+use crate::block_reading::{check_block, length_of, read_block};
+use crate::header_reading::read_header;
+use wire::Blocks;
 
-// How many bytes a mark takes; none for the end and for a refusal.
-pub(crate) fn mark_length(b: Block, size: u16) -> usize
-    requires { NoData b }
-    ensures { result ≡ length_of size b }
+// Counts the blocks from a place on; FRD's walks another list of blocks, by another definition. (No `for`: each step is as long as the block that stands there. What ends them is judged once more,
+// for a block holds the number of its refusal, and the count the refusal.)
+fn count_from(file: &[u8], size: u16, begin: usize) -> Blocks
+    ensures { as_tally result ≡ tally_of size (log_of size file.now begin) }
 {
-    let Block::Mark { .. } = b else {
-        return 0;
-    };
-    block_len(1, size)
-}
-
-// The number of what ends a log: 0 for the end.
-fn stop_number(b: Block) -> u8
-    ensures { (l : ℕ) → result ≡ (block_answer l b).number }
-{
-    let Block::Refused { number, .. } = b else {
-        return 0;
-    };
-    number
-}
-
-// Counts the blocks from a place on.
-pub(crate) fn count_from(file: &[u8], size: u16, begin: usize) -> Tally
-    ensures { result ≡ tally_of size (log_of size file.now begin) }
-{
-    let mut left = file.len() + 1;
     let mut at = begin;
-    let mut n: u64 = 0;
-    while left != 0 {
-        let b = read_block(file, size, n, at);
-        let len = length_of(b, size);
-        if len == 0 {
-            return Tally {
-                blocks: n,
-                ending: stop_number(b),
+    let mut count: u64 = 0;
+    loop {
+        let b = read_block(file, size, count, at);
+        let (Block::Data { .. } | Block::Mark { .. }) = b else {
+            return Blocks {
+                count,
+                ending: check_block(file, size, at),
                 place: at,
             };
-        }
-        at += len;
-        n += 1;
-        left -= 1;
-    }
-    Tally {
-        blocks: n,
-        ending: 0,
-        place: at,
+        };
+        at += length_of(b, size);
+        count += 1;
     }
 }
 
-pub(crate) fn refusal(head: Head) -> u8
-    ensures { result ≡ (head_answer head).0 }
+// How many blocks a file has, and how they ended; a refused header gives no blocks, its refusal, and place 0.
+pub fn count_blocks(file: &[u8]) -> Blocks
+    ensures value { as_tally result ≡ count_blocks_of file.now }
+    ensures placed { LogPlaced }
 {
-    match head {
-        Head::Is(_) => 0,
-        Head::Refused(number) => number,
+    match read_header(file) {
+        Ok(h) => count_from(file, h.size, h.begin as usize),
+        Err(e) => Blocks {
+            count: 0,
+            ending: Err(e),
+            place: 0,
+        },
     }
 }

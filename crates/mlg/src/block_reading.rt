@@ -1,32 +1,36 @@
-// A block's number and parts.
-ghost use Rattle.std.specs.Prelude.{◌≡◌, ◌+◌, ◌<◌, ◌≤◌, ◌^◌, length, get_or};
+// Reading a block.
+ghost use Rattle.std.specs.Prelude.{◌≡◌, ℕ, ◌+◌, ◌<◌, ◌≤◌, ◌^◌, length, get_or};
+ghost use Rattle.wire.specs.Refusals.{number_of};
 ghost use Rattle.wire.specs.Text.{text_len};
-ghost use Rattle.mlg_rules.specs.Block.{block_len, text_in, last_of, rest_number, parts_of, block_of};
+ghost use Rattle.mlg_rules.specs.Block.{block_len, some_len, text_in, last_of, rest_number, parts_of};
+ghost use Rattle.mlg_rules.specs.Block.{read_block_of, block_answer, block_result};
+ghost use Rattle.mlg_rules.specs.Log.{length_of};
+ghost use Rattle.mlg_rules.specs.Numbers.{BlockNumber};
+ghost use Rattle.mlg_rules.specs.RoundTrip.{BlockAlone};
 
 use crate::Block;
+use wire::Refusal;
 
-// Bytes of a block by its type, here `kind`; 0 for a type that is unknown.
-pub(crate) fn block_len(kind: u8, size: u16) -> usize
-    ensures { result ≡ block_len size kind }
+// Bytes of a block by its type, here `kind`.
+fn block_len(kind: u8, size: u16) -> Option<usize>
+    ensures { result ≡ some_len (block_len size kind) }
 {
-    if kind == 0 {
-        return (size as usize) + 5;
+    match kind {
+        0 => Some(usize::from(size) + 5),
+        1 => Some(54),
+        _ => None,
     }
-    if kind == 1 {
-        return 54;
-    }
-    0
 }
 
-pub(crate) fn sum_number(t: &[u8], size: u16) -> u8
+fn check_sum(t: &[u8], size: u16) -> Result<(), Refusal>
     requires { size + 5 ≤ length t.now }
-    ensures { result ≡ last_of 0 size t.now }
+    ensures { number_of result ≡ last_of 0 size t.now }
 {
-    let len = size as usize;
+    let len = usize::from(size);
     if wire::sum_of(&t[4..len + 4]) != t[len + 4] {
-        return 26;
+        return Err(Refusal::WrongSum);
     }
-    0
+    Ok(())
 }
 
 // The length of a mark's text, before its zero. One function for both of its callers: the search is unrolled, and a block reader
@@ -38,73 +42,103 @@ fn mark_len(t: &[u8]) -> usize
     wire::text_len(&t[4..54])
 }
 
-pub(crate) fn text_number(t: &[u8], size: u16) -> u8
+fn check_text(t: &[u8], size: u16) -> Result<(), Refusal>
     requires { 54 ≤ length t.now }
-    ensures { result ≡ last_of 1 size t.now }
+    ensures { number_of result ≡ last_of 1 size t.now }
 {
     if 50 <= mark_len(t) {
-        return 28;
+        return Err(Refusal::WrongText);
     }
-    0
+    Ok(())
 }
 
-// The number that refuses the block at the start of t, or 0.
-pub(crate) fn rest_number(t: &[u8], size: u16) -> u8
+// The block at the start of t is whole, of a known type, and ends as it should.
+fn check_rest(t: &[u8], size: u16) -> Result<(), Refusal>
     requires { 0 < length t.now }
-    ensures { result ≡ rest_number size t.now }
+    ensures { number_of result ≡ rest_number size t.now }
 {
     let kind = t[0];
-    let len = block_len(kind, size);
-    if len == 0 {
-        return 25;
-    }
+    let Some(len) = block_len(kind, size) else {
+        return Err(Refusal::BlockType);
+    };
     if t.len() < len {
-        return 20;
+        return Err(Refusal::CutShort);
     }
     if kind == 0 {
-        return sum_number(t, size);
+        check_sum(t, size)
+    } else {
+        check_text(t, size)
     }
-    text_number(t, size)
 }
 
 // The parts of the block at the start of t, which stands at a place of its file.
-pub(crate) fn block_parts(t: &[u8], size: u16, counter: u8, at: usize) -> Block
+fn block_parts(t: &[u8], size: u16, expected: u8, at: usize) -> Block
     requires { (0 < length t.now) × (rest_number size t.now ≡ 0) × (at < 2 ^ 63) }
-    ensures { result ≡ parts_of (get_or t.now 0 0) counter at t.now }
+    ensures { result ≡ parts_of (get_or t.now 0 0) expected at t.now }
 {
-    let own = t[1];
+    let counter = t[1];
     let time = wire::be16(t, 2);
-    let as_expected = own == counter;
-    let kind = t[0];
-    if kind == 0 {
-        return Block::Data {
-            counter: own,
+    let start = at + 4;
+    let as_expected = counter == expected;
+    if t[0] == 0 {
+        Block::Data {
+            counter,
             time,
-            start: at + 4,
+            start,
             as_expected,
-        };
-    }
-    let len = mark_len(t);
-    Block::Mark {
-        counter: own,
-        time,
-        start: at + 4,
-        len,
-        as_expected,
+        }
+    } else {
+        Block::Mark {
+            counter,
+            time,
+            start,
+            len: mark_len(t),
+            as_expected,
+        }
     }
 }
 
-// What stands at the start of t, the rest of a file from a place on.
-pub(crate) fn block_of(t: &[u8], size: u16, counter: u8, at: usize) -> Block
-    requires { at < 2 ^ 63 }
-    ensures { result ≡ block_of size counter at t.now }
+// Whether what stands at a place of a file is its end, or a block that nothing refuses.
+pub(crate) fn check_block(file: &[u8], size: u16, at: usize) -> Result<(), Refusal>
+    ensures { (n : ℕ) → number_of result ≡ (block_answer size (read_block_of size n file.now at)).number }
 {
-    if t.len() == 0 {
+    if file.len() < at {
+        return Err(Refusal::Disagree);
+    }
+    if file.len() == at {
+        return Ok(());
+    }
+    check_rest(&file[at..], size)
+}
+
+// The block at a place of a log whose records have the given length, after the given number of earlier blocks.
+pub fn read_block(file: &[u8], size: u16, earlier: u64, at: usize) -> Block
+    ensures fact { (result ≡ read_block_of size earlier file.now at)
+        × (block_answer size result ≡ block_result size earlier file.now at)
+        × BlockNumber size file.now at (block_answer size result).number }
+    ensures alone { BlockAlone }
+{
+    if let Err(e) = check_block(file, size, at) {
+        return Block::Refused {
+            number: e.number(),
+            place: at,
+        };
+    }
+    if file.len() == at {
         return Block::End;
     }
-    let number = rest_number(t, size);
-    if number != 0 {
-        return Block::Refused { number, place: at };
-    }
-    block_parts(t, size, counter, at)
+    block_parts(&file[at..], size, wire::counter_after(earlier), at)
+}
+
+// How many bytes of the log a block takes; none for the end and for a refusal.
+pub fn length_of(b: Block, size: u16) -> usize
+    ensures { result ≡ length_of size b }
+{
+    let (Block::Data { .. } | Block::Mark { .. }) = b else {
+        return 0;
+    };
+    let Block::Mark { .. } = b else {
+        return usize::from(size) + 5;
+    };
+    54
 }

@@ -1,29 +1,34 @@
-// The bytes of blocks.
+// Writing blocks.
 ghost use Rattle.std.specs.Prelude.{◌≡◌, ◌+◌, ◌≤◌, length};
-ghost use Rattle.wire.specs.Writer.{leaves};
+ghost use Rattle.wire.specs.Refusals.{number_of};
+ghost use Rattle.wire.specs.Writer.{as_written, wrote, leaves};
+ghost use Rattle.mlg_rules.specs.Block.{counter_after};
 ghost use Rattle.mlg_rules.specs.Writing.{start_bytes, data_bytes, padded_text, mark_bytes, write_data_number, write_mark_number};
+ghost use Rattle.mlg_rules.specs.RoundTrip.{DataBack, MarkBack, BlockSame};
+
+use wire::Refusal;
 
 // The first four bytes of a block.
-pub(crate) fn start_bytes(kind: u8, counter: u8, time: u16) -> [u8; 4]
+fn start_bytes(kind: u8, counter: u8, time: u16) -> [u8; 4]
     ensures { result ≡ start_bytes kind counter time }
 {
     let t = wire::two_bytes(time);
     [kind, counter, t[0], t[1]]
 }
 
-pub(crate) fn write_data_number(size: u16, bytes: &[u8], room: usize) -> u8
-    ensures { result ≡ write_data_number size bytes.now room }
+fn check_data(size: u16, bytes: &[u8], room: usize) -> Result<(), Refusal>
+    ensures { number_of result ≡ write_data_number size bytes.now room }
 {
-    if bytes.len() != size as usize {
-        return 23;
+    if bytes.len() != usize::from(size) {
+        return Err(Refusal::Disagree);
     }
     if room < bytes.len() + 5 {
-        return 27;
+        return Err(Refusal::NoRoom);
     }
-    0
+    Ok(())
 }
 
-pub(crate) fn put_data(out: &mut [u8], counter: u8, time: u16, bytes: &[u8])
+fn put_data(out: &mut [u8], counter: u8, time: u16, bytes: &[u8])
     requires { length bytes.now + 5 ≤ length out.old }
     ensures { out.new ≡ leaves 0 (data_bytes counter time bytes.now) out.old }
 {
@@ -35,7 +40,7 @@ pub(crate) fn put_data(out: &mut [u8], counter: u8, time: u16, bytes: &[u8])
 }
 
 // A mark's 50 bytes of text, zero-padded.
-pub(crate) fn padded_text(text: &[u8]) -> [u8; 50]
+fn padded_text(text: &[u8]) -> [u8; 50]
     requires { length text.now ≤ 50 }
     ensures { result ≡ padded_text text.now }
 {
@@ -44,22 +49,22 @@ pub(crate) fn padded_text(text: &[u8]) -> [u8; 50]
     pad
 }
 
-pub(crate) fn write_mark_number(text: &[u8], room: usize) -> u8
-    ensures { result ≡ write_mark_number text.now room }
+fn check_mark(text: &[u8], room: usize) -> Result<(), Refusal>
+    ensures { number_of result ≡ write_mark_number text.now room }
 {
     if 49 < text.len() {
-        return 28;
+        return Err(Refusal::WrongText);
     }
     if wire::text_len(text) < text.len() {
-        return 28;
+        return Err(Refusal::WrongText);
     }
     if room < 54 {
-        return 27;
+        return Err(Refusal::NoRoom);
     }
-    0
+    Ok(())
 }
 
-pub(crate) fn put_mark(out: &mut [u8], counter: u8, time: u16, text: &[u8])
+fn put_mark(out: &mut [u8], counter: u8, time: u16, text: &[u8])
     requires { (length text.now ≤ 49) × (54 ≤ length out.old) }
     ensures { out.new ≡ leaves 0 (mark_bytes counter time text.now) out.old }
 {
@@ -67,4 +72,41 @@ pub(crate) fn put_mark(out: &mut [u8], counter: u8, time: u16, text: &[u8])
     let pad = padded_text(text);
     wire::put(out, 0, &head);
     wire::put(out, 4, &pad);
+}
+
+// Writes a data block of the given record length after the given number of earlier blocks.
+pub fn write_data(
+    out: &mut [u8],
+    size: u16,
+    earlier: u64,
+    time: u16,
+    bytes: &[u8],
+) -> Result<usize, Refusal>
+    ensures fact { (as_written result ≡ wrote
+        (write_data_number size bytes.now (length out.old))
+        (data_bytes (counter_after earlier) time bytes.now))
+        × (out.new ≡ leaves
+        (write_data_number size bytes.now (length out.old))
+        (data_bytes (counter_after earlier) time bytes.now) out.old) }
+    ensures back { DataBack }
+{
+    check_data(size, bytes, out.len())?;
+    put_data(out, wire::counter_after(earlier), time, bytes);
+    Ok(bytes.len() + 5)
+}
+
+// Writes a mark after the given number of earlier blocks.
+pub fn write_mark(out: &mut [u8], earlier: u64, time: u16, text: &[u8]) -> Result<usize, Refusal>
+    ensures fact { (as_written result ≡ wrote
+        (write_mark_number text.now (length out.old))
+        (mark_bytes (counter_after earlier) time text.now))
+        × (out.new ≡ leaves
+        (write_mark_number text.now (length out.old))
+        (mark_bytes (counter_after earlier) time text.now) out.old) }
+    ensures back { MarkBack }
+    ensures same { BlockSame }
+{
+    check_mark(text, out.len())?;
+    put_mark(out, wire::counter_after(earlier), time, text);
+    Ok(54)
 }

@@ -1,152 +1,40 @@
-// The bytes of a header.
-ghost use Rattle.std.specs.Prelude.{◌≡◌, ◌+◌, ◌*◌, ◌≤◌, length};
-ghost use Rattle.mlg_rules.specs.Layout.{header_len, field_len};
-ghost use Rattle.mlg_rules.specs.Area.{ended, area_of, info_start};
-ghost use Rattle.mlg_rules.specs.Fields.{sizes};
+// Writing a header.
+ghost use Rattle.std.specs.Prelude.{◌≡◌, ◌+◌, ◌/◌, ◌≤◌, length};
 ghost use Rattle.wire.specs.Put.{put_of};
-ghost use Rattle.wire.specs.Writer.{leaves};
+ghost use Rattle.wire.specs.Refusals.{number_of};
+ghost use Rattle.wire.specs.Writer.{as_written, wrote, leaves};
+ghost use Rattle.mlg_rules.specs.Layout.{header_len, field_len};
+ghost use Rattle.mlg_rules.specs.Area.{ended, info_start};
+ghost use Rattle.mlg_rules.specs.Fields.{sizes};
 ghost use Rattle.mlg_rules.specs.Header.{body_number};
-ghost use Rattle.mlg_rules.specs.Writing.{number_bytes, header_for, header_bytes, lengths_number, write_header_number};
+ghost use Rattle.mlg_rules.specs.Writing.{number_bytes, header_bytes, write_header_number};
+ghost use Rattle.mlg_rules.specs.RoundTrip.{HeaderBack, LogBack, LogSame};
+ghost use Rattle.mlg_rules.specs.Examples.{Examples};
 
 use crate::Header;
-use crate::fields::{check_fields, last_zeros};
-use crate::layout::{field_len, header_len};
+use crate::fields::{Area, ended_len};
+use mlg_values::layout_of;
+use wire::Refusal;
 
-pub(crate) fn info_start(at: usize, info: &[u8]) -> usize
+fn info_start(at: usize, info: &[u8]) -> usize
     ensures { result ≡ info_start at info.now }
 {
-    if info.len() == 0 { 0 } else { at }
+    if info.is_empty() { 0 } else { at }
 }
 
-// Bytes of info with its zero, none where it is empty.
-pub(crate) fn ended_len(info: &[u8]) -> usize
-    ensures { result ≡ length (ended info.now) }
+// The sum of the sizes of whole fields; a bad type counts 0.
+fn sizes_of(version: u16, fields: &[u8]) -> usize
+    ensures { result ≡ sizes version (length fields.now / field_len version) fields.now }
 {
-    if info.len() == 0 {
-        return 0;
-    }
-    info.len() + 1
-}
-
-// The sum of the sizes of the first fields; a bad type counts 0.
-pub(crate) fn sizes_of(version: u16, fields: &[u8], count: u16) -> usize
-    requires { field_len version * count ≤ length fields.now }
-    ensures { result ≡ sizes version count fields.now }
-{
-    let len = field_len(version);
-    let mut at: usize = 0;
-    let mut left = count as usize;
-    let mut total: usize = 0;
-    while left != 0 {
-        total += mlg_values::size_of(fields[at]) as usize;
-        at += len;
-        left -= 1;
+    let mut total = 0;
+    for d in fields.chunks_exact(layout_of(version).field) {
+        total += usize::from(mlg_values::size_of(d[0]));
     }
     total
 }
 
-pub(crate) fn lengths_number(version: u16, fields: &[u8], names: &[u8], info: &[u8]) -> u8
-    ensures { result ≡ lengths_number version fields.now names.now info.now }
-{
-    let len = fields.len();
-    let each = field_len(version);
-    if len % each != 0 {
-        return 23;
-    }
-    let count = len / each;
-    if 65535 < count {
-        return 23;
-    }
-    let size = sizes_of(version, fields, count as u16);
-    if 65535 < size {
-        return 23;
-    }
-    let area = names.len() + ended_len(info);
-    if 4294967295 - (header_len(version) + len) < area {
-        return 23;
-    }
-    if wire::text_len(info) < info.len() {
-        return 28;
-    }
-    0
-}
-
-// "Then as the reader".
-pub(crate) fn body_number(version: u16, time: u32, fields: &[u8], names: &[u8], info: &[u8]) -> u8
-    requires { lengths_number version fields.now names.now info.now ≡ 0 }
-    ensures { result ≡ body_number
-        (header_for version time fields.now names.now info.now)
-        fields.now (area_of names.now info.now) }
-{
-    let len = fields.len();
-    let count = (len / field_len(version)) as u16;
-    let end = header_len(version) + len;
-    let last = last_zeros(names, info);
-    let area = names.len() + ended_len(info);
-    let f = check_fields(version, fields, count, end, area, &last);
-    f.number
-}
-
-// Bytes of the header with its fields, names and info.
-pub(crate) fn total_len(version: u16, fields: &[u8], names: &[u8], info: &[u8]) -> usize
-    requires { lengths_number version fields.now names.now info.now ≡ 0 }
-    ensures { (result ≡ header_len version + length fields.now + length (area_of names.now info.now)) × (result ≤ 4294967295) }
-{
-    header_len(version) + fields.len() + names.len() + ended_len(info)
-}
-
-pub(crate) fn write_header_number(
-    version: u16,
-    time: u32,
-    fields: &[u8],
-    names: &[u8],
-    info: &[u8],
-    room: usize,
-) -> u8
-    ensures { result ≡ write_header_number version time fields.now names.now info.now room }
-{
-    let a = lengths_number(version, fields, names, info);
-    if a != 0 {
-        return a;
-    }
-    let b = body_number(version, time, fields, names, info);
-    if b != 0 {
-        return b;
-    }
-    if room < total_len(version, fields, names, info) {
-        return 27;
-    }
-    0
-}
-
-// The numbers of the header with these fields, names and info.
-pub(crate) fn header_for(
-    version: u16,
-    time: u32,
-    fields: &[u8],
-    names: &[u8],
-    info: &[u8],
-) -> Header
-    requires { lengths_number version fields.now names.now info.now ≡ 0 }
-    ensures { result ≡ header_for version time fields.now names.now info.now }
-{
-    let count = (fields.len() / field_len(version)) as u16;
-    let size = sizes_of(version, fields, count) as u16;
-    let at = header_len(version) + fields.len() + names.len();
-    let begin = total_len(version, fields, names, info) as u32;
-    let start = info_start(at, info) as u32;
-    Header {
-        version,
-        time,
-        info: start,
-        begin,
-        size,
-        count,
-    }
-}
-
-// A header's numbers in bytes.
-pub(crate) fn number_bytes(h: Header) -> [u8; 24]
+// A header's numbers in bytes. (Each byte by its place: arrays are joined on a heap only.)
+fn number_bytes(h: Header) -> [u8; 24]
     ensures { result ≡ number_bytes h }
 {
     let v = wire::two_bytes(h.version);
@@ -162,7 +50,7 @@ pub(crate) fn number_bytes(h: Header) -> [u8; 24]
 }
 
 // Puts info with its zero at a place, and nothing where it is empty.
-pub(crate) fn put_ended(out: &mut [u8], at: usize, info: &[u8])
+fn put_ended(out: &mut [u8], at: usize, info: &[u8])
     requires { at + length (ended info.now) ≤ length out.old }
     ensures { out.new ≡ put_of out.old at (ended info.now) }
 {
@@ -174,23 +62,132 @@ pub(crate) fn put_ended(out: &mut [u8], at: usize, info: &[u8])
     }
 }
 
-pub(crate) fn put_header(
+// What a header is written from. What `check_lengths` found of it is a `requires` of those that follow, and no ghost field: a caller lends
+// any parts.
+#[derive(Clone, Copy)]
+pub(crate) struct Parts<'a> {
+    pub(crate) version: u16,
+    pub(crate) time: u32,
+    pub(crate) fields: &'a [u8],
+    pub(crate) names: &'a [u8],
+    pub(crate) info: &'a [u8],
+}
+
+impl Parts<'_> {
+    ghost use Rattle.mlg.specs.PartsOf.{lengths_of, number_of_parts, header_of, bytes_of, area_of_parts};
+
+    fn check_lengths(&self) -> Result<(), Refusal>
+        ensures { number_of result ≡ lengths_of self.now }
+    {
+        let layout = layout_of(self.version);
+        let len = self.fields.len();
+        if len % layout.field != 0 {
+            return Err(Refusal::Disagree);
+        }
+        if 65535 < len / layout.field {
+            return Err(Refusal::Disagree);
+        }
+        if 65535 < sizes_of(self.version, self.fields) {
+            return Err(Refusal::Disagree);
+        }
+        let area = self.names.len() + ended_len(self.info);
+        if 4294967295 - (layout.header + len) < area {
+            return Err(Refusal::Disagree);
+        }
+        if wire::text_len(self.info) < self.info.len() {
+            return Err(Refusal::WrongText);
+        }
+        Ok(())
+    }
+
+    // "Then as the reader".
+    fn check_body(&self) -> Result<(), Refusal>
+        requires { lengths_of self.now ≡ 0 }
+        ensures { number_of result ≡ body_number (header_of self.now) self.now.fields.now (area_of_parts self.now) }
+    {
+        let end = layout_of(self.version).header + self.fields.len();
+        let area = Area::of(end, self.names, self.info);
+        area.check_fields(self.version, self.fields)?;
+        Ok(())
+    }
+
+    // Bytes of the header with its fields, names and info.
+    fn total_len(&self) -> usize
+        requires { lengths_of self.now ≡ 0 }
+        ensures { (result ≡ header_len self.now.version + length self.now.fields.now + length (area_of_parts self.now)) × (result ≤ 4294967295) }
+    {
+        layout_of(self.version).header + self.fields.len() + self.names.len() + ended_len(self.info)
+    }
+
+    fn check(&self, room: usize) -> Result<(), Refusal>
+        ensures { number_of result ≡ number_of_parts self.now room }
+    {
+        self.check_lengths()?;
+        self.check_body()?;
+        if room < self.total_len() {
+            return Err(Refusal::NoRoom);
+        }
+        Ok(())
+    }
+
+    // The numbers of the header with these fields, names and info.
+    fn header(&self) -> Header
+        requires { lengths_of self.now ≡ 0 }
+        ensures { result ≡ header_of self.now }
+    {
+        let layout = layout_of(self.version);
+        let at = layout.header + self.fields.len() + self.names.len();
+        Header {
+            version: self.version,
+            time: self.time,
+            info: info_start(at, self.info) as u32,
+            begin: self.total_len() as u32,
+            size: sizes_of(self.version, self.fields) as u16,
+            count: (self.fields.len() / layout.field) as u16,
+        }
+    }
+
+    fn put(&self, out: &mut [u8])
+        requires { (lengths_of self.now ≡ 0) × (length (bytes_of self.now) ≤ length out.old) }
+        ensures { out.new ≡ leaves 0 (bytes_of self.now) out.old }
+    {
+        let first = number_bytes(self.header());
+        let start = layout_of(self.version).header;
+        let end = start + self.fields.len();
+        wire::put(out, 0, &first);
+        wire::put(out, start, self.fields);
+        wire::put(out, end, self.names);
+        put_ended(out, end + self.names.len(), self.info);
+    }
+}
+
+// Writes a header with its fields, names area and info.
+pub fn write_header(
     out: &mut [u8],
-    version: u16,
     time: u32,
     fields: &[u8],
     names: &[u8],
     info: &[u8],
-)
-    requires { (lengths_number version fields.now names.now info.now ≡ 0)
-        × (length (header_bytes version time fields.now names.now info.now) ≤ length out.old) }
-    ensures { out.new ≡ leaves 0 (header_bytes version time fields.now names.now info.now) out.old }
+) -> Result<usize, Refusal>
+    ensures fact { (as_written result ≡ wrote
+        (write_header_number 2 time fields.now names.now info.now (length out.old))
+        (header_bytes 2 time fields.now names.now info.now))
+        × (out.new ≡ leaves
+        (write_header_number 2 time fields.now names.now info.now (length out.old))
+        (header_bytes 2 time fields.now names.now info.now) out.old) }
+    ensures back { HeaderBack }
+    ensures log { LogBack }
+    ensures same { LogSame }
+    ensures examples { Examples }
 {
-    let first = number_bytes(header_for(version, time, fields, names, info));
-    let start = header_len(version);
-    let end = start + fields.len();
-    wire::put(out, 0, &first);
-    wire::put(out, start, fields);
-    wire::put(out, end, names);
-    put_ended(out, end + names.len(), info);
+    let parts = Parts {
+        version: 2,
+        time,
+        fields,
+        names,
+        info,
+    };
+    parts.check(out.len())?;
+    parts.put(out);
+    Ok(parts.total_len())
 }

@@ -3,13 +3,11 @@ use Prim.Native.Nat.{ℕ, zero, suc, ◌+◌, ◌-◌, ◌≤◌}
 use mathlib.Core.Path.{◌≡◌, refl, sym, ap, ◌∙◌}
 use mathlib.Core.List.{List, [], ◌∷◌, ◌++◌, append-nil}
 use native.Mathlib.Omega.{arith}
-use lib.ListN.{length, take, drop, length-append, length-drop}
-use lib.Seq.{drop-append-le, drop-append-add, drop-drop, take-nil, drop-nil, length-take-le}
+use lib.ListN.{length, take, drop, length-append}
+use lib.Seq.{drop-append-le, drop-append-add, drop-drop, take-nil, drop-nil}
 use Rattle.wire.specs.Text.{zeros}
-use Rattle.wire.proofs.Parts.{tail_part}
 use Rattle.wire.proofs.Texts.{zeros_append}
 use Rattle.mlg_rules.specs.Area.{ended, area_of}
-use Rattle.mlg_rules.specs.Fields.{fields_number}
 use Rattle.mlg_rules.specs.Header.{fields_end, area_in}
 use Rattle.mlg_rules.specs.declared.Header.{Header}
 
@@ -67,13 +65,3 @@ area_part f e b i h =
 pub file_area : (f : List ℕ) (h : Header) (e : ℕ) → e ≡ fields_end h → area_of (take (h.begin - e) (drop e f)) [] ≡ area_in f h
 unfolding area_in
 file_area f h e k = area_bare (take (h.begin - e) (drop e f)) ∙ rw k
-
-pub area_long : (f : List ℕ) (h : Header) (e : ℕ) → e ≡ fields_end h → h.begin ≤ length f → length (area_in f h) ≡ h.begin - e
-unfolding area_in
-area_long f h e k l = rw k (length-take-le (h.begin - fields_end h) (drop (fields_end h) f) (simp length-drop (omega arith)))
-
-pub file_rest : (f : List ℕ) (s t : ℕ) → s ≡ t → take (length f - s) (drop s f) ≡ drop t f
-file_rest f s t e = rw e (tail_part f t)
-
-pub same_fields : (v n : ℕ) {e k : ℕ} {a b t u : List ℕ} → e ≡ k → a ≡ b → t ≡ u → fields_number v e a n t ≡ fields_number v k b n u
-same_fields v n p q r = rw (p, q, r)

@@ -11,7 +11,8 @@ use Rattle.wire.specs.Sum.{sum_of}
 use Rattle.wire.specs.Text.{text_len}
 use Rattle.wire.proofs.Orders.{if_yes, if_no, if_zero, not_no, not-false}
 use Rattle.wire.specs.Log.{judged, refused_kind}
-use Rattle.mlg_rules.specs.Block.{counter_after, block_len, type_in, counter_in, time_in, record_in, sum_in, text_in, last_of}
+use Rattle.std.proofs.Common.{Option, Some, None}
+use Rattle.mlg_rules.specs.Block.{counter_after, block_len, some_len, type_in, counter_in, time_in, record_in, sum_in, text_in, last_of}
 use Rattle.mlg_rules.specs.Block.{rest_number, parts_of, block_of, place_number, read_block_of}
 use Rattle.mlg_rules.specs.Block.{BlockAnswer, no_block, block_answer, part_values, rest_result, block_result}
 use Rattle.mlg_rules.specs.declared.Block.{Block}
@@ -41,6 +42,22 @@ unfolding block_len
 known_mark l zero h e = absurd (e refl)
 known_mark l (suc zero) h e = refl
 known_mark l (suc (suc k)) h e = absurd (h refl)
+
+-- as options
+pub len_known : (l k n : ℕ) → n ≡ block_len l k → 0 < n → Some n ≡ some_len (block_len l k)
+len_known l k zero e h = absurd (omega arith)
+len_known l k (suc n) e h = rw (← e)
+
+pub len_unknown : (l k : ℕ) → (k ≡ 0 → ⊥) → (k ≡ 1 → ⊥) → None ≡ some_len (block_len l k)
+len_unknown l k a b = rw (len_none l k a b)
+
+pub none_len : (n : ℕ) → None ≡ some_len n → n ≡ 0
+none_len zero e = refl
+none_len (suc n) e = absurd (let z : ◌≡◌ {A = Option ℕ} None (Some (suc n)) = e in cc)
+
+pub known_len : (n m : ℕ) → Some m ≡ some_len n → (n ≡ m) × (n ≡ 0 → ⊥)
+known_len zero m e = absurd (let z : ◌≡◌ {A = Option ℕ} (Some m) None = e in cc)
+known_len (suc n) m e = (cc, λ z. omega arith)
 
 -- a block refused, and one that stands
 pub judged_no : (n at : ℕ) (b : Block) (x : ℕ) → x ≡ n → (x ≡ 0 → ⊥) → Refused x at ≡ judged Refused n at b

@@ -22,8 +22,8 @@ use Rattle.mlg_rules.specs.Block.{counter_after, block_len, type_in, record_in, 
 use Rattle.mlg_rules.specs.Block.{read_block_of, block_answer, block_result}
 use Rattle.mlg_rules.specs.Numbers.{HasZero, DataNumber, MarkNumber, TypeNumber, BlockNumber}
 use Rattle.mlg_rules.specs.declared.Block.{Block}
-use Rattle.mlg_rules.specs.declared.Block.TheVariants.{Refused}
-use Rattle.mlg_rules.proofs.BlockLaws.{at_past, at_within, block_end, block_here, len_none, block_means}
+use Rattle.mlg_rules.specs.declared.Block.TheVariants.{End, Refused}
+use Rattle.mlg_rules.proofs.BlockLaws.{at_past, at_within, block_end, block_here, len_none, judged_no, judged_yes, block_means}
 
 -- the n bytes from a place on
 module _ (s : List ℕ) (at n : ℕ) where
@@ -101,6 +101,58 @@ module _ (l n : ℕ) (f : List ℕ) (at : ℕ) where
   unfolding block_answer
   by_place true e = inl (ltb-true _ _ e, ap number (at_past l n f at (ltb-true _ _ e)))
   by_place false e = within (ltb-false _ _ e) _ refl
+
+  -- the number is 0 at the end, else that of the rest of the file from there on
+  pub number_past : length f < at → number (read_block_of l n f at) ≡ 23
+  unfolding block_answer
+  number_past h = ap number (at_past l n f at h)
+
+  pub number_end : at ≡ length f → number (read_block_of l n f at) ≡ 0
+  unfolding block_answer
+  number_end h = ap number (at_within l n f at (omega arith) ∙ block_end l (counter_after n) at (drop at f) (omega (arith, length-drop at f)))
+
+  -- what stands before the end
+  here : at < length f
+      → read_block_of l n f at ≡ judged Refused (rest_number l (drop at f)) at (parts_of (type_in (drop at f)) (counter_after n) at (drop at f))
+  here h = at_within l n f at (omega arith) ∙ block_here l (counter_after n) at (drop at f) (λ z. omega (arith, length-drop at f))
+
+  pub number_rest : at < length f → number (read_block_of l n f at) ≡ rest_number l (drop at f)
+  number_rest h = ap number (here h) ∙ judged_number l _ at _ (parts_number_lem (type_in (drop at f)) l (counter_after n) at (drop at f))
+
+  -- a place whose number is 0 lies within the file, and nothing refuses the block that begins there
+  pub good_within : number (read_block_of l n f at) ≡ 0 → at ≤ length f
+  good_within e = by_past (ltb (length f) at) refl
+    where
+      by_past : (b : Bool) → ltb (length f) at ≡ b → at ≤ length f
+      by_past true q = absurd (omega (arith, number_past (ltb-true _ _ q)))
+      by_past false q = ltb-false _ _ q
+
+  pub good_some : number (read_block_of l n f at) ≡ 0 → (length f ≡ at → ⊥) → at < length f
+  good_some e k = let h = good_within e in omega (arith, h, λ (z : at ≡ length f). k (sym z))
+
+  pub good_rest : at < length f → number (read_block_of l n f at) ≡ 0 → rest_number l (drop at f) ≡ 0
+  good_rest h e = sym (number_rest h) ∙ e
+
+  pub good_parts : at < length f → number (read_block_of l n f at) ≡ 0
+      → parts_of (type_in (drop at f)) (counter_after n) at (drop at f) ≡ read_block_of l n f at
+  good_parts h e = sym (here h ∙ judged_yes _ at _ (good_rest h e))
+
+  pub good_end : at ≡ length f → End ≡ read_block_of l n f at
+  good_end h = sym (at_within l n f at (omega arith) ∙ block_end l (counter_after n) at (drop at f) (omega (arith, length-drop at f)))
+
+  -- any other number refuses it
+  pub bad_there : (x : ℕ) → x ≡ number (read_block_of l n f at) → (x ≡ 0 → ⊥) → Refused x at ≡ read_block_of l n f at
+  bad_there x e k = by_past (ltb (length f) at) refl
+    where
+      by_end : at ≤ length f → (b : Bool) → eqb at (length f) ≡ b → Refused x at ≡ read_block_of l n f at
+      by_end h true q = absurd (k (e ∙ number_end (eqb-true _ _ q)))
+      by_end h false q =
+          let some : at < length f = let z = eqb-false _ _ q in omega arith in
+          judged_no _ at _ x (e ∙ number_rest some) k ∙ sym (here some)
+
+      by_past : (b : Bool) → ltb (length f) at ≡ b → Refused x at ≡ read_block_of l n f at
+      by_past true q = ap (λ (m : ℕ). Refused m at) (e ∙ number_past (ltb-true _ _ q)) ∙ sym (at_past l n f at (ltb-true _ _ q))
+      by_past false q = by_end (ltb-false _ _ q) _ refl
 
 pub block_number : (l n : ℕ) (f : List ℕ) (at : ℕ) → BlockNumber l f at (block_answer l (read_block_of l n f at)).number
 block_number l n f at = by_place l n f at _ refl

@@ -4,22 +4,16 @@ use mathlib.Core.Path.{◌≡◌, refl, sym, ◌∙◌}
 use mathlib.Core.Bool.{Bool, true, false, not, cond}
 use lib.Dec.{T, eqb}
 use borrow.Author.Tests.{not-true}
-use lib.Ieee.{Float, nan, inf, fin, binary32, add, mul, lt, odd, of_fields, of_bits, nan_bits}
+use lib.Ieee.{Float, nan, inf, fin, binary32, add, mul, odd, of_fields, of_bits, nan_bits}
+use Rattle.std.specs.Float.{float_is_finite}
 use Rattle.mlg_rules.specs.Shown.{finite}
 
--- below +infinity and above -infinity
-pub between : (x : Float) → lt x (inf false) ≡ true → lt (inf true) x ≡ finite x
-unfolding lt finite
-between nan h = refl
-between (inf true) h = refl
-between (inf false) h = sym h
-between (fin s m e) h = refl
-
-pub not_below : (x : Float) → lt x (inf false) ≡ false → false ≡ finite x
-unfolding lt finite
-not_below nan h = refl
-not_below (inf s) h = refl
-not_below (fin s m e) h = sym h
+-- as the library's test has it
+pub finite_is : (x : Float) → float_is_finite x ≡ finite x
+unfolding float_is_finite finite
+finite_is nan = refl
+finite_is (inf s) = refl
+finite_is (fin s m e) = refl
 
 finite_odd : (d : ℕ) (s : Bool) (q k l : ℕ) → finite (odd d s q k l) ≡ true
 unfolding odd finite

@@ -12,7 +12,7 @@ use Rattle.wire.specs.Order.{◌if◌else◌}
 use Rattle.wire.specs.Text.{text_len}
 use Rattle.wire.specs.Log.{Holds}
 use Rattle.wire.proofs.Numbers.{be_back}
-use Rattle.wire.proofs.Answers.{stands}
+use Rattle.wire.proofs.RefusalLaws.{stands}
 use Rattle.wire.proofs.Orders.{if_yes, if_no, not_no, else_none}
 use Rattle.wire.proofs.Parts.{part_append}
 use Rattle.wire.proofs.Texts.{text_back, text_most}
@@ -23,7 +23,7 @@ use Rattle.mlg_rules.specs.Writing.{number_bytes, header_for, header_bytes}
 use Rattle.mlg_rules.specs.Parts.{names_end, info_length, fields_span_of, field_span_of, names_span_of, info_span_of}
 use Rattle.mlg_rules.specs.RoundTrip.{HeaderBack}
 use Rattle.mlg_rules.specs.declared.Header.{Header}
-use Rattle.mlg_rules.specs.declared.Head.TheVariants.{Is, Refused}
+use Rattle.std.specs.Prelude.{Ok}
 use Rattle.mlg_rules.proofs.AreaLaws.{area_length, ended_some}
 use Rattle.mlg_rules.proofs.EachField.{fields_alone, sizes_alone}
 use Rattle.mlg_rules.proofs.Fits.{Fit, fit, fields_end_lem}
@@ -171,9 +171,9 @@ module _ (time : ℕ) (fields names info rest : List ℕ) where
       rw (numbers_of_lem t f) (else_none _ _ 0 0 name_of refl (else_none _ _ 0 0 places refl (sym (drop_head ∙ body_in f ∙ z))))
 
   -- the reader answers exactly the numbers written
-  header_read : time < 256 ^ 4 → Fit 2 fields names info → body_number head fields (area_of names info) ≡ 0 → read_header_of log ≡ Is head
+  header_read : time < 256 ^ 4 → Fit 2 fields names info → body_number head fields (area_of names info) ≡ 0 → read_header_of log ≡ Ok head
   unfolding read_header_of
-  header_read t f z = sym (stands Is Refused (read_header_number log) (numbers_of log) head (sym (number_of t f z)) (sym (numbers_of_lem t f)))
+  header_read t f z = sym (stands (read_header_number log) (numbers_of log) head (sym (number_of t f z)) (sym (numbers_of_lem t f)))
 
   names_part : take (length names) (area_of names info ++ rest) ≡ names
   unfolding area_of

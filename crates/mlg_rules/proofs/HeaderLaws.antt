@@ -1,14 +1,9 @@
 -- What a header's places keep to where no number refuses them.
 use Prim.Native.Nat.{ℕ, ◌≤◌, ◌<◌}
-use mathlib.Core.Path.{◌≡◌, refl}
-use mathlib.Core.List.{List}
+use mathlib.Core.Path.{◌≡◌}
 use borrow.Author.Tests.{ltb-false, leb-false, ne_eqb}
 use Rattle.mlg_rules.specs.declared.Header.{Header}
-use Rattle.mlg_rules.specs.Header.{places_number, fields_end, numbers_of, read_header_number, read_header_of, no_header, head_answer}
-use Rattle.wire.specs.Answer.{result_of}
-use Rattle.wire.proofs.Answers.{means}
-use Rattle.mlg_rules.specs.declared.Head.{Head}
-use Rattle.mlg_rules.specs.declared.Head.TheVariants.{Is, Refused}
+use Rattle.mlg_rules.specs.Header.{places_number, fields_end}
 use Rattle.wire.proofs.Orders.{if_zero, if_skip}
 
 -- what a header's places keep to in a file of n bytes
@@ -35,9 +30,3 @@ placed n h e =
           let i = if_zero 22 _ _ (if_skip 0 _ _ (ne_eqb _ _ k) d.1) in
           leb-false _ _ (if_zero 22 _ _ i.1).0;
     }
-
--- what a header's answer says
-pub head_means : (f : List ℕ) (r : Head) → r ≡ read_header_of f
-    → (r ≡ read_header_of f) × (head_answer r ≡ result_of no_header (read_header_number f) (numbers_of f))
-unfolding read_header_of head_answer
-head_means f r = means Is Refused no_header head_answer (λ h. refl) (λ n. refl) r _ _

@@ -24,10 +24,13 @@ use Rattle.mlg_rules.specs.Header.{numbers_of, fields_end, fields_from, area_in}
 use Rattle.mlg_rules.specs.Header.{name_number, places_number, last_number, body_number, read_header_number, read_header_of, no_header, head_answer}
 use Rattle.mlg_rules.specs.Numbers.{HasZero, Named, FieldNumber, InTurn, HeaderNumber}
 use Rattle.mlg_rules.specs.declared.Header.{Header}
-use Rattle.mlg_rules.specs.declared.Head.{Head}
+use Rattle.mlg_rules.specs.declared.Header.{Header}
+use Rattle.std.specs.Prelude.{Result}
+use Rattle.wire.specs.declared.refusal.Refusal.{Refusal}
+use Rattle.wire.specs.Refusals.{checked}
 use Rattle.mlg_rules.proofs.AreaLaws.{area_part}
 use Rattle.mlg_rules.proofs.BlockNumbers.{has_zero, no_zero}
-use Rattle.mlg_rules.proofs.HeaderLaws.{Placed, placed, head_means}
+use Rattle.mlg_rules.proofs.HeaderLaws.{Placed, placed}
 
 -- a test says P, or that P does not hold
 abbrev Says : Bool → Type 0 → Type 0
@@ -280,6 +283,8 @@ unfolding result_of
 given_number f zero h = h
 given_number f (suc n) h = h
 
-pub head_told : (f : List ℕ) (r : Head) → r ≡ read_header_of f
+pub head_told : (f : List ℕ) (r : Result Header Refusal)
+    → (r ≡ checked (read_header_number f) (numbers_of f)) × (head_answer r ≡ result_of no_header (read_header_number f) (numbers_of f))
     → (r ≡ read_header_of f) × (head_answer r ≡ result_of no_header (read_header_number f) (numbers_of f)) × HeaderNumber f (head_answer r).0
-head_told f r e = let m = head_means f r e in (m.0, m.1, rw m.1 (given_number f (read_header_number f) (header_number f)))
+unfolding read_header_of
+head_told f r m = (m.0, m.1, rw m.1 (given_number f (read_header_number f) (header_number f)))

@@ -11,7 +11,7 @@ use lib.Seq.{length-take-le, take-suc}
 use Rattle.wire.specs.BigEndian.{be_of, be_at, be_bytes}
 use Rattle.wire.specs.Text.{text_len}
 use Rattle.wire.specs.Log.{part_of}
-use Rattle.wire.proofs.Answers.{answered}
+use Rattle.wire.proofs.RefusalLaws.{answered}
 use Rattle.wire.proofs.Numbers.{Bytes, bytes_drop, part_back}
 use Rattle.wire.proofs.Orders.{if_zero, if_no, else_zero, else_none, not-false, not_no}
 use Rattle.wire.proofs.Parts.{part_in_two}
@@ -25,7 +25,7 @@ use Rattle.mlg_rules.specs.Writing.{number_bytes, header_for, header_bytes, leng
 use Rattle.mlg_rules.specs.Parts.{names_end, info_length, fields_span_of, names_span_of, info_span_of}
 use Rattle.mlg_rules.specs.RoundTrip.{InLayout}
 use Rattle.mlg_rules.specs.declared.Header.{Header}
-use Rattle.mlg_rules.specs.declared.Head.TheVariants.{Is, Refused}
+use Rattle.std.specs.Prelude.{Ok}
 use Rattle.mlg_rules.proofs.NotRefused.{two_below, four_below, text_whole}
 use Rattle.mlg_rules.proofs.AreaLaws.{ended_some}
 use Rattle.mlg_rules.proofs.EachField.{sizes_alone}
@@ -45,9 +45,9 @@ unfoldable pub info_in : List ℕ → Header → List ℕ
 info_in f h = take (info_length f h) (drop h.info f)
 
 -- what is known of a header that was read
-pub taken : (f : List ℕ) (h : Header) → read_header_of f ≡ Is h → (read_header_number f ≡ 0) × (numbers_of f ≡ h)
+pub taken : (f : List ℕ) (h : Header) → read_header_of f ≡ Ok h → (read_header_number f ≡ 0) × (numbers_of f ≡ h)
 unfolding read_header_of
-taken f h e = answered Is Refused (λ n y q. let v : ◌≡◌ {A = ℕ} 0 1 = cc in omega arith) (λ x y q. cc) (read_header_number f) (numbers_of f) h e
+taken f h e = answered (read_header_number f) (numbers_of f) h e
 
 pub record Accepted (f : List ℕ) (h : Header) : Type 0 where
   pub number : read_header_number f ≡ 0
@@ -75,7 +75,7 @@ sized : (h : Header) (fields area : List ℕ) → body_number h fields area ≡ 
 unfolding body_number last_number
 sized h fields area e = eqb-true _ _ (not-false _ (if_zero 22 _ _ (else_zero _ _ e).1).0)
 
-pub accepted : (f : List ℕ) (h : Header) → read_header_of f ≡ Is h → Accepted f h
+pub accepted : (f : List ℕ) (h : Header) → read_header_of f ≡ Ok h → Accepted f h
 unfolding read_header_number
 accepted f h e =
     let j = taken f h e in

@@ -1,9 +1,8 @@
 -- Laws of the layout, at every version.
-use Prim.Native.Nat.{ℕ, zero, suc, ◌+◌, ◌*◌, ◌-◌, ◌/◌, ◌%◌, ◌≤◌, ◌<◌}
+use Prim.Native.Nat.{ℕ, ◌*◌, ◌/◌, ◌%◌, ◌≤◌, ◌<◌}
 use mathlib.Core.Path.{◌≡◌, refl, ap}
 use native.Mathlib.Omega.{arith}
-use native.Mathlib.Nat.{mul-suc, add_comm, mul-le-mul_right}
-use native.Mathlib.Numerals.{sub-one}
+use native.Mathlib.Nat.{mul-le-mul_right}
 use Rattle.mlg_rules.specs.declared.Layout.{Layout}
 use Rattle.mlg_rules.specs.Layout.{layout_of, header_len, info_len, field_len}
 
@@ -20,7 +19,13 @@ pub info_most : (v : ℕ) → info_len v ≤ 4
 unfolding layout_of
 info_most v = omega arith
 
--- the field's length in the layout that a call handed back
+-- the lengths in the layout that a call handed back
+pub header_of : (v : ℕ) (l : Layout) → l ≡ layout_of v → l.header ≡ header_len v
+header_of v l e = ap (λ (k : Layout). k.header) e
+
+pub info_of : (v : ℕ) (l : Layout) → l ≡ layout_of v → l.info ≡ info_len v
+info_of v l e = ap (λ (k : Layout). k.info) e
+
 pub field_of : (v : ℕ) (l : Layout) → l ≡ layout_of v → l.field ≡ field_len v
 field_of v l e = ap (λ (k : Layout). k.field) e
 
@@ -41,11 +46,6 @@ header_most v = omega arith
 pub header_two : header_len 2 ≡ 24
 unfolding layout_of
 header_two = refl
-
--- one of several: what is left holds one more than what is left after it
-pub one_of : (len left : ℕ) → (left ≡ 0 → ⊥) → len * left ≡ len + len * (left - 1)
-one_of len zero h = absurd (h refl)
-one_of len (suc m) h = rw (sub-one, mul-suc) (add_comm (len * m) len)
 
 -- fields take at most 89 bytes each
 pub fields_most : (v n : ℕ) → field_len v * n ≤ 89 * n

@@ -20,7 +20,6 @@ pub mod BlockAlone
 pub mod BlockSame
 pub mod HeaderBack
 pub mod LogLaws
-pub mod KindLaws
 pub mod LogPlaced
 pub mod LogBack
 pub mod NotRefused
@@ -30,3 +29,4 @@ pub mod FieldsPlaced
 pub mod LogSame
 pub mod TallyLaws
 pub mod SpanLaws
+pub mod Told

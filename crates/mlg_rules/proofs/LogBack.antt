@@ -14,7 +14,7 @@ use Rattle.mlg_rules.specs.Entries.{Entry, a_record, a_mark, entries_bytes, entr
 use Rattle.mlg_rules.specs.RoundTrip.{DataBack, MarkBack, HeaderBack, LogBack, log_bytes}
 use Rattle.mlg_rules.specs.declared.Block.{Block}
 use Rattle.mlg_rules.specs.declared.Header.{Header}
-use Rattle.mlg_rules.specs.declared.Head.TheVariants.{Is}
+use Rattle.std.specs.Prelude.{Ok}
 use Rattle.mlg_rules.specs.declared.Block.TheVariants.{Data, Mark, End}
 use Rattle.mlg_rules.proofs.BlockBack.{data_back, mark_back}
 use Rattle.mlg_rules.proofs.BlockBytes.{data_fits, data_length, mark_fits, mark_length}
@@ -118,7 +118,7 @@ unfolding header_for
 begin_is time fields names info = header_length 2 time fields names info
 
 -- what is counted
-count_log : (f : List ℕ) (h : Header) (es : List Entry) → read_header_of f ≡ Is h → Reads h.size es f (log_of h.size f h.begin)
+count_log : (f : List ℕ) (h : Header) (es : List Entry) → read_header_of f ≡ Ok h → Reads h.size es f (log_of h.size f h.begin)
     → count_blocks_of f ≡ record { blocks = length es; ending = 0; place = length f }
 unfolding count_blocks_of tally_head tally_of block_answer
 count_log f h es e r = rw (e, r.many, r.ends, r.place)

@@ -18,12 +18,8 @@ use Rattle.wire.proofs.Numbers.{Bytes, be_below}
 use Rattle.wire.proofs.Signs.{twos_low, twos_high}
 use Rattle.wire.proofs.Orders.{if_zero, else_zero}
 use Rattle.mlg_rules.specs.Types.{size_of, S08, S16, S32, S64}
-use Rattle.mlg_rules.specs.Field.{type_of, field_size}
-use Rattle.mlg_rules.specs.Raw.{value_number, raw_of, raw_value_of, raw_answer, signed_type}
-use Rattle.wire.specs.Answer.{result_of}
-use Rattle.wire.proofs.Answers.{means}
-use Rattle.mlg_rules.specs.declared.RawValue.{RawValue}
-use Rattle.mlg_rules.specs.declared.RawValue.TheVariants as R
+use Rattle.mlg_rules.specs.Field.{field_size}
+use Rattle.mlg_rules.specs.Raw.{value_number, raw_of, signed_type}
 
 -- a signed type's whole number, by another reading x of its bytes
 pub raw_signed : (t k : ℕ) (b : List ℕ) (x : ℕ) → t ≡ k → signed_type k ≡ true → x ≡ be_of b → signed_of (8 * size_of k) x ≡ raw_of t b
@@ -49,11 +45,6 @@ single (x ∷ y ∷ b) h = absurd (omega arith)
 pub sized : (v : ℕ) (d b : List ℕ) → value_number v d b ≡ 0 → length b ≡ field_size d
 unfolding value_number
 sized v d b e = eqb-true _ _ (not-false _ (if_zero 22 _ _ (else_zero _ _ e).1).0)
-
-pub raw_means : (v : ℕ) (d b : List ℕ) (r : RawValue) → r ≡ raw_value_of v d b
-    → (r ≡ raw_value_of v d b) × (raw_answer r ≡ result_of (pos 0) (value_number v d b) (raw_of (type_of d) b))
-unfolding raw_value_of raw_answer
-raw_means v d b r = means R.Is R.Refused (pos 0) raw_answer (λ z. refl) (λ n. refl) r _ _
 
 twos_by : (half x : ℕ) → x < 2 * half → (t : Bool) → ltb x half ≡ t → mag (twos half x) < 2 * half
 twos_by half x h true k = rw (twos_low half x (ltb-true x half k)) h

@@ -1,6 +1,6 @@
 -- Laws of shown values.
 use Prim.Native.Nat.{ℕ, ◌<◌}
-use mathlib.Core.Path.{◌≡◌, refl, sym, ap}
+use mathlib.Core.Path.{◌≡◌, refl, ap, ◌∙◌}
 use mathlib.Core.Bool.{Bool, true, false}
 use mathlib.Core.List.{List}
 use native.Mathlib.Omega.{arith}
@@ -8,21 +8,16 @@ use lib.Dec.{ltb}
 use lib.Ieee.{Float, binary32, of_bits, of_int}
 use borrow.Author.Tests.{ltb-true, ltb-false, eq-eqb, ne_eqb, not-false}
 use Rattle.wire.specs.Order.{◌if◌else◌}
-use Rattle.wire.proofs.Orders.{if_yes, if_no, not_yes, not_no, else_none, if_zero, else_zero}
+use Rattle.wire.proofs.Orders.{if_yes, if_no, not_yes, not_no, else_none, if_zero}
 use Rattle.wire.specs.BigEndian.{be_of}
 use Rattle.mlg_rules.specs.Types.{F32}
 use Rattle.mlg_rules.specs.Field.{type_of}
 use Rattle.mlg_rules.specs.Raw.{value_number, raw_of}
-use Rattle.wire.specs.Answer.{answer, result_of}
-use Rattle.mlg_rules.specs.Shown.{shows, finite, raw_float, shifted, scaled, scaled_number, apply_of, shown_number, shown_of, shown_value_of}
-use Rattle.mlg_rules.specs.Shown.{scaling_in, parts_number, scaling_number, scaling_of, zero_float, zero_scaling, shown_answer, scaling_answer}
-use Rattle.wire.proofs.Answers.{means}
+use Rattle.wire.specs.Refusals.{checked}
+use Rattle.mlg_rules.specs.Shown.{shows, finite, raw_float, shifted, scaled, scaled_number, apply_of, shown_number, shown_value_of}
+use Rattle.mlg_rules.specs.Shown.{scaling_in, parts_number}
 use Rattle.mlg_rules.proofs.Finite.{sum_finite, product_finite}
 use Rattle.mlg_rules.specs.declared.Scaling.{Scaling}
-use Rattle.mlg_rules.specs.declared.FieldScaling.{FieldScaling}
-use Rattle.mlg_rules.specs.declared.FieldScaling.TheVariants as F
-use Rattle.mlg_rules.specs.declared.ShownValue.{ShownValue}
-use Rattle.mlg_rules.specs.declared.ShownValue.TheVariants as S
 
 -- the same number in any case
 pub either : (n : ℕ) (b : Bool) (r : ℕ) → n ≡ r → n ≡ (n if b else r)
@@ -62,20 +57,6 @@ module _ (s : Scaling) (x : Float) where
       (if_no 30 _ _ _ (not_no _ (product_finite (shifted s x) s.scale k))
       (if_no 30 _ _ _ (not_no _ k) refl))))
 
-  pub apply_means : (r : ShownValue) → r ≡ apply_of s x → (r ≡ apply_of s x) × (shown_answer r ≡ result_of zero_float (scaled_number s x) (scaled s x))
-  unfolding apply_of shown_answer
-  apply_means r = means S.Is S.Refused zero_float shown_answer (λ y. refl) (λ n. refl) r _ _
-
-pub shown_means : (v : ℕ) (d b : List ℕ) (r : ShownValue) → r ≡ shown_value_of v d b
-    → (r ≡ shown_value_of v d b) × (shown_answer r ≡ result_of zero_float (shown_number v d b) (shown_of d b))
-unfolding shown_value_of shown_answer
-shown_means v d b r = means S.Is S.Refused zero_float shown_answer (λ y. refl) (λ n. refl) r _ _
-
-pub scaling_means : (v : ℕ) (d : List ℕ) (r : FieldScaling) → r ≡ scaling_of v d
-    → (r ≡ scaling_of v d) × (scaling_answer r ≡ result_of zero_scaling (scaling_number v d) (scaling_in d))
-unfolding scaling_of scaling_answer
-scaling_means v d r = means F.Is F.Refused zero_scaling scaling_answer (λ s. refl) (λ n. refl) r _ _
-
 -- what holds where no number refuses
 pub parts_stand : (d : List ℕ) → parts_number d ≡ 0
     → (shows (type_of d) ≡ true) × ((finite (scaling_in d).transform ≡ true) × (finite (scaling_in d).scale ≡ true))
@@ -85,30 +66,27 @@ parts_stand d e =
     let q = if_zero 29 _ _ p.1 in
     (not-false _ p.0, (not-false _ q.0, not-false _ (if_zero 29 _ _ q.1).0))
 
-pub scaling_stands : (v : ℕ) (d : List ℕ) → scaling_number v d ≡ 0 → parts_number d ≡ 0
-unfolding scaling_number
-scaling_stands v d e = (else_zero _ _ e).1
-
 module _ (v : ℕ) (d b : List ℕ) (ok : value_number v d b ≡ 0) where
   -- a field that is refused alone has no shown value
   by_parts : (t u w : Bool) → shows (type_of d) ≡ t → finite (scaling_in d).transform ≡ u → finite (scaling_in d).scale ≡ w
-      → (parts_number d ≡ 0 → ⊥) → 30 ≡ shown_number v d b
-  unfolding shown_number parts_number
-  by_parts false u w p q r h = else_none _ _ _ _ refl ok (if_yes 30 _ _ (not_yes _ p))
-  by_parts true false w p q r h = else_none _ _ _ _ refl ok (if_no 30 _ _ _ (not_no _ p) (by_transform _ _ q))
-  by_parts true true false p q r h = else_none _ _ _ _ refl ok (if_no 30 _ _ _ (not_no _ p) (by_scale _ _ r))
-  by_parts true true true p q r h =
-      absurd (h (sym (if_no 30 _ _ _ (not_no _ p) (if_no 30 _ _ _ (not_no _ q) (if_no 30 _ _ _ (not_no _ r) refl)))))
+      → (n : ℕ) → n ≡ parts_number d → (n ≡ 0 → ⊥) → n ≡ shown_number v d b
+  unfolding shown_number parts_number ◌if◌else◌
+  by_parts false u w p q r n e h = (rw p at e) ∙ else_none _ _ _ _ refl ok (if_yes 30 _ _ (not_yes _ p))
+  by_parts true false w p q r n e h = (rw (p, q) at e) ∙ else_none _ _ _ _ refl ok (if_no 30 _ _ _ (not_no _ p) (by_transform _ _ q))
+  by_parts true true false p q r n e h = (rw (p, q, r) at e) ∙ else_none _ _ _ _ refl ok (if_no 30 _ _ _ (not_no _ p) (by_scale _ _ r))
+  by_parts true true true p q r n e h = absurd (h (rw (p, q, r) at e))
 
-  pub no_scaling : (parts_number d ≡ 0 → ⊥) → 30 ≡ shown_number v d b
+  pub no_scaling : (n : ℕ) → n ≡ parts_number d → (n ≡ 0 → ⊥) → n ≡ shown_number v d b
   no_scaling = by_parts _ _ _ refl refl refl
 
   -- where it has them, its shown value is theirs
+  pub applied_number : shows (type_of d) ≡ true → scaled_number (scaling_in d) (raw_float (type_of d) b) ≡ shown_number v d b
+  unfolding shown_number
+  applied_number h = else_none (value_number v d b) _ _ (value_number v d b) refl ok (if_no 30 _ _ _ (not_no _ h) refl)
+
   pub shown_applied : shows (type_of d) ≡ true → apply_of (scaling_in d) (raw_float (type_of d) b) ≡ shown_value_of v d b
-  unfolding shown_value_of shown_number apply_of
-  shown_applied h =
-      ap (λ (n : ℕ). answer S.Is S.Refused n (scaled (scaling_in d) (raw_float (type_of d) b)))
-      (else_none (value_number v d b) _ _ (value_number v d b) refl ok (if_no 30 _ _ _ (not_no _ h) refl))
+  unfolding shown_value_of apply_of
+  shown_applied h = ap (λ (n : ℕ). checked n (scaled (scaling_in d) (raw_float (type_of d) b))) (applied_number h)
 
 -- raw values as f32
 pub float_bits : (t : ℕ) (b : List ℕ) → t ≡ F32 → of_bits binary32 (be_of b) ≡ raw_float t b

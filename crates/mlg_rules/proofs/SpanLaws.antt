@@ -1,6 +1,6 @@
 -- Parts of a file as places and lengths.
 use Prim.Native.Nat.{ℕ, zero, suc, ◌+◌, ◌*◌, ◌≤◌, ◌<◌}
-use mathlib.Core.Path.{◌≡◌, refl, sym, ap, ◌∙◌}
+use mathlib.Core.Path.{◌≡◌, refl}
 use mathlib.Core.List.{List}
 use native.Mathlib.Omega.{arith}
 use native.Mathlib.Nat.{mul-le-mul_left, mul-suc}
@@ -9,12 +9,17 @@ use lib.ListN.{length, take, drop, length-drop}
 use Rattle.wire.specs.Text.{text_len}
 use Rattle.wire.proofs.Orders.{else_zero}
 use Rattle.wire.proofs.Texts.{text_most}
-use Rattle.wire.specs.Log.{span_with, Holds}
+use Rattle.std.proofs.Common.{Ok, Err}
+use Rattle.wire.specs.Log.{span_with, Holds, as_span}
+use Rattle.wire.specs.Refusals.{code}
+use Rattle.wire.specs.declared.Extent.{Extent}
+use Rattle.wire.specs.declared.refusal.Refusal.{Refusal}
+use Rattle.wire.proofs.RefusalLaws.{code_ne0}
 use Rattle.mlg_rules.specs.Layout.{header_len, field_len}
 use Rattle.mlg_rules.specs.Header.{numbers_of, fields_end, read_header_number}
 use Rattle.mlg_rules.specs.Parts.{field_place, names_end, info_length}
 use Rattle.mlg_rules.specs.declared.Header.{Header}
-use Rattle.wire.specs.declared.Span.{Span}
+use Rattle.wire.specs.declared.views.Span.{Span}
 use Rattle.mlg_rules.proofs.HeaderLaws.{Placed, placed}
 
 pub span_no : (n s k x : ℕ) → x ≡ n → (x ≡ 0 → ⊥) → ◌≡◌ {A = Span} (record { number = x; start = 0; len = 0 }) (span_with n s k)
@@ -34,16 +39,13 @@ held f zero t m e p q r = (refl, rw (p, q) r)
 held f (suc n) t m e p q r = absurd (omega arith)
 
 -- a refusal, and a part, as both parts of a promise
-pub refused : {r : Span} (n s k x t m : ℕ) (f : List ℕ) → r ≡ span_with x t m → x ≡ n → (x ≡ 0 → ⊥) → (r ≡ span_with n s k) × (r.start + r.len ≤ length f)
-refused n s k x t m f e p h =
-    let q = e ∙ sym (span_no x t m x refl h) in
-    (q ∙ span_no n s k x p h, omega (arith, ap (λ (z : Span). z.start) q, ap (λ (z : Span). z.len) q))
+pub refused : (n s k : ℕ) (e : Refusal) (f : List ℕ) → code e ≡ n
+    → (as_span (Err e) ≡ span_with n s k) × ((as_span (Err e)).start + (as_span (Err e)).len ≤ length f)
+refused n s k e f h = (span_no n s k (code e) h (code_ne0 e), omega arith)
 
-pub given : {r : Span} (n s k t m : ℕ) (f : List ℕ) → r ≡ span_with 0 t m → n ≡ 0 → t ≡ s → m ≡ k → t + m ≤ length f
-    → (r ≡ span_with n s k) × (r.start + r.len ≤ length f)
-given n s k t m f e z p q h =
-    let w = e ∙ sym (span_yes 0 t m refl) in
-    (w ∙ rw (p, q) (span_yes n s k z), omega (arith, ap (λ (z : Span). z.start) w, ap (λ (z : Span). z.len) w))
+pub given : (n s k : ℕ) (p : Extent) (f : List ℕ) → n ≡ 0 → p.start ≡ s → p.len ≡ k → p.start + p.len ≤ length f
+    → (as_span (Ok p) ≡ span_with n s k) × (p.start + p.len ≤ length f)
+given n s k p f z q r h = (rw (q, r) (span_yes n s k z), h)
 
 -- a header that no number refuses has its places
 pub placed_in : (f : List ℕ) → read_header_number f ≡ 0 → Placed (length f) (numbers_of f)

@@ -1,6 +1,6 @@
 -- Laws of the table of types.
-use Prim.Native.Nat.{ℕ, zero, suc, max, ◌≤◌}
-use mathlib.Core.Path.{◌≡◌, sym}
+use Prim.Native.Nat.{ℕ, zero, suc, max, ◌-◌, ◌≤◌}
+use mathlib.Core.Path.{◌≡◌, refl, sym}
 use mathlib.Core.List.{List, [], ◌∷◌}
 use native.Mathlib.Omega.{arith}
 use native.Mathlib.Nat.{le_trans, le-max_left, le-max_right}
@@ -12,6 +12,19 @@ use Rattle.mlg_rules.specs.Types.{size_of, S64}
 pub size_none : (t : ℕ) → 13 ≤ t → 0 ≡ size_of t
 unfolding size_of
 size_none t h = sym (get_or-eq_default (1 ∷ 1 ∷ 2 ∷ 2 ∷ 4 ∷ 4 ∷ 8 ∷ 4 ∷ 0 ∷ 0 ∷ 1 ∷ 2 ∷ 4 ∷ []) 0 h)
+
+pub size_gap : (t : ℕ) → 8 ≤ t → (10 ≤ t → 13 ≤ t) → size_of t ≡ 0
+unfolding size_of
+size_gap t h g =
+    let e : suc (suc (suc (suc (suc (suc (suc (suc (t - 8)))))))) ≡ t = omega arith in
+    rw e at (past (t - 8) (λ k. let j : 13 ≤ t = g (omega arith) in omega arith))
+  where
+    past : (n : ℕ) → (2 ≤ n → 5 ≤ n) → size_of (suc (suc (suc (suc (suc (suc (suc (suc n)))))))) ≡ 0
+    past zero g = refl
+    past (suc zero) g = refl
+    past (suc (suc n)) g =
+        let k : 5 ≤ suc (suc n) = g (omega arith) in
+        sym (size_none (suc (suc (suc (suc (suc (suc (suc (suc (suc (suc n)))))))))) (omega arith))
 
 -- the largest of a list
 abbrev most : List ℕ → ℕ

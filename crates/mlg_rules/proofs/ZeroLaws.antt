@@ -31,19 +31,6 @@ zeros_fewer s a b h =
     let e : a + (b - a) ≡ b = omega arith in
     omega (arith, drop_zeros (b - a) (drop a s), ap zeros (drop-drop (b - a) a s), ap (λ (k : ℕ). zeros (drop k s)) e)
 
--- the byte before a place
-module _ (s : List ℕ) (i : ℕ) (some : i ≡ 0 → ⊥) (within : i ≤ length s) where
-  before : zeros (drop (i - 1) s) ≡ zeros (get_or s (i - 1) 0 ∷ drop i s)
-  before =
-      let e : i - 1 + 1 ≡ i = omega arith in
-      rest_of zeros s (i - 1) (omega arith) ∙ ap (λ (k : ℕ). zeros (get_or s (i - 1) 0 ∷ drop k s)) e
-
-  pub zero_before : get_or s (i - 1) 0 ≡ 0 → zeros (drop (i - 1) s) ≡ 1 + zeros (drop i s)
-  zero_before h = before ∙ zeros_zero (get_or s (i - 1) 0) (drop i s) h
-
-  pub none_before : (get_or s (i - 1) 0 ≡ 0 → ⊥) → zeros (drop (i - 1) s) ≡ zeros (drop i s)
-  none_before h = before ∙ zeros_at (get_or s (i - 1) 0) (drop i s) h
-
 -- a part without a zero before a place
 pub part_before : (s : List ℕ) (a b : ℕ) → a ≤ b → zeros (take (b - a) (drop a s)) ≡ 0 → zeros (drop a s) ≡ zeros (drop b s)
 part_before s a b h none =

@@ -1,7 +1,7 @@
 -- The blocks of a log. 01: "Data block: type 0, counter, time (16), record, then the sum of the record's bytes, modulo 256. Mark: type 1,
 -- counter, time, 50 bytes of text; 54 in all."
 -- Here t is the rest of the file from the block on, and l the record length.
-use Rattle.std.specs.Prelude.{ℕ, zero, suc, ◌+◌, Bool, false, not, List, [], ◌∷◌, eqb, leb, ltb, length, get_or, take, drop}
+use Rattle.std.specs.Prelude.{ℕ, zero, suc, ◌+◌, Bool, false, not, List, [], ◌∷◌, eqb, leb, ltb, length, get_or, take, drop, Option, Some, None}
 use Rattle.wire.specs.Order.{◌if◌else◌}
 use Rattle.wire.specs.BigEndian.{be_at}
 use Rattle.wire.specs.Sum.{sum_of}
@@ -17,6 +17,11 @@ unfoldable pub block_len : ℕ → ℕ → ℕ
 block_len l zero = l + 5
 block_len l (suc zero) = 54
 block_len l (suc (suc k)) = 0
+
+-- the same as an option
+abbrev pub some_len : ℕ → Option ℕ
+some_len zero = None
+some_len (suc n) = Some (suc n)
 
 -- a block's parts
 abbrev pub type_in : List ℕ → ℕ

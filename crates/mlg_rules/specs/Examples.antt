@@ -1,6 +1,6 @@
 -- What the definitions make of 01's example log, "time 0, one U08 field `t` with all else 0, no info, data begin 113, record length 1, then
 -- `00 00 00 0A 07 07`", of small files that miss a rule by one, of blocks where the counter starts again, and of a shown value.
-use Rattle.std.specs.Prelude.{ℕ, ◌-◌, ◌≡◌, true, false, List, [], ◌∷◌, ◌++◌, pos, length, replicate}
+use Rattle.std.specs.Prelude.{ℕ, ◌-◌, ◌≡◌, true, false, List, [], ◌∷◌, ◌++◌, pos, length, replicate, Ok, Err}
 use Rattle.std.specs.Float.{binary32}
 use Rattle.std.specs.Float.Ieee.{of_int}
 use Rattle.mlg_rules.specs.Header.{read_header_of, head_answer}
@@ -11,10 +11,9 @@ use Rattle.mlg_rules.specs.RoundTrip.{log_bytes}
 use Rattle.mlg_rules.specs.Writing.{header_bytes, write_header_number, mark_bytes}
 use Rattle.mlg_rules.specs.Raw.{raw_value_of, raw_answer}
 use Rattle.mlg_rules.specs.Shown.{apply_of}
-use Rattle.mlg_rules.specs.declared.Head.TheVariants.{Is, Refused}
+use Rattle.wire.specs.declared.refusal.Refusal.TheVariants as R
 use Rattle.mlg_rules.specs.declared.Block.TheVariants.{Data, Mark, End}
 use Rattle.mlg_rules.specs.declared.Block.TheVariants as B
-use Rattle.mlg_rules.specs.declared.ShownValue.TheVariants as S
 
 -- "one .. field .. with all else 0"
 abbrev pub field_with : (type : ℕ) (name : List ℕ) → List ℕ
@@ -55,26 +54,26 @@ abbrev pub blocks_with : (a b c d : ℕ) → List ℕ
 blocks_with a b c d = data_with a ++ (mark_with b ++ (data_with c ++ mark_with d))
 
 pub record HeaderExamples : Type 0 where
-  pub header : read_header_of log ≡ Is (record { version = 2; time = 0; info = 0; begin = 113; size = 1; count = 1 })
+  pub header : read_header_of log ≡ Ok (record { version = 2; time = 0; info = 0; begin = 113; size = 1; count = 1 })
   -- "20 (under 24 bytes)"; in a refusal every other number is 0
   pub empty : head_answer (read_header_of []) ≡ (20, record { version = 0; time = 0; info = 0; begin = 0; size = 0; count = 0 })
   -- "21, 22": 24 bytes of which neither name nor version is right
-  pub zeros : read_header_of (replicate 24 0) ≡ Refused 21
+  pub zeros : read_header_of (replicate 24 0) ≡ Err R.WrongName
   -- "data begin before the fields' end", by a byte
-  pub begin_early : read_header_of (head_with 0 112 1 1 (field_with 0 [])) ≡ Refused 23
+  pub begin_early : read_header_of (head_with 0 112 1 1 (field_with 0 [])) ≡ Err R.Disagree
   -- "info start .. data begin, which is excluded"
-  pub info_at_begin : read_header_of (head_with 24 24 0 0 []) ≡ Refused 23
-  pub info_before : read_header_of (head_with 24 25 0 0 (0 ∷ [])) ≡ Is (record { version = 2; time = 0; info = 24; begin = 25; size = 0; count = 0 })
+  pub info_at_begin : read_header_of (head_with 24 24 0 0 []) ≡ Err R.Disagree
+  pub info_before : read_header_of (head_with 24 25 0 0 (0 ∷ [])) ≡ Ok (record { version = 2; time = 0; info = 24; begin = 25; size = 0; count = 0 })
   -- "28 if info has no zero before data begin"
-  pub info_unended : read_header_of (head_with 24 25 0 0 (105 ∷ [])) ≡ Refused 28
+  pub info_unended : read_header_of (head_with 24 25 0 0 (105 ∷ [])) ≡ Err R.WrongText
   -- "fields' end to data begin (excluded)": the first index, and the one after the last
-  pub index_first : read_header_of (bits_with 113 1) ≡ Is (record { version = 2; time = 0; info = 0; begin = 115; size = 1; count = 1 })
-  pub index_at_begin : read_header_of (bits_with 115 1) ≡ Refused 23
+  pub index_first : read_header_of (bits_with 113 1) ≡ Ok (record { version = 2; time = 0; info = 0; begin = 115; size = 1; count = 1 })
+  pub index_at_begin : read_header_of (bits_with 115 1) ≡ Err R.Disagree
   -- "28 unless that many zero-ended names lie before data begin"
-  pub one_name_for_two : read_header_of (bits_with 113 2) ≡ Refused 28
+  pub one_name_for_two : read_header_of (bits_with 113 2) ≡ Err R.WrongText
   -- "Then each field in turn: 24 for type .. Then 23 if record length isn't the sum of field sizes": a bad type first; 2 where it is 1
-  pub bad_type : read_header_of (head_with 0 113 1 1 (field_with 9 [])) ≡ Refused 24
-  pub size_off : read_header_of (head_with 0 113 2 1 (field_with 0 [])) ≡ Refused 23
+  pub bad_type : read_header_of (head_with 0 113 1 1 (field_with 9 [])) ≡ Err R.FieldType
+  pub size_off : read_header_of (head_with 0 113 2 1 (field_with 0 [])) ≡ Err R.Disagree
 
 pub record BlockExamples : Type 0 where
   pub first : read_block_of 1 0 log 113 ≡ Data 0 10 117 true
@@ -130,7 +129,7 @@ pub record ValueExamples : Type 0 where
   pub no_type : raw_answer (raw_value_of 2 (field_with 9 []) []) ≡ (24, pos 0)
   -- "raw plus transform, rounded to f32, times scale, rounded": 4 with transform 3 and scale 2 shows 14; scaling before shifting would show 11
   pub shown : apply_of (record { scale = of_int binary32 (pos 2); transform = of_int binary32 (pos 3) }) (of_int binary32 (pos 4))
-      ≡ S.Is (of_int binary32 (pos 14))
+      ≡ Ok (of_int binary32 (pos 14))
 
 pub record Examples : Type 0 where
   pub headers : HeaderExamples

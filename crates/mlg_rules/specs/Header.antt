@@ -1,16 +1,15 @@
 -- The header of an MLG, and the number that refuses it. 01: "All numbers big-endian. Header 24 bytes: name `4D 4C 56 4C 47 00`, version 2
 -- (16 bits), time (32), info start (32), data begin (32), record length (16), field count n (16). Fields of 89 bytes follow."
 -- All by the version's layout, which gives the header's 24 bytes, info start's 4 and a field's 89.
-use Rattle.std.specs.Prelude.{ℕ, ◌+◌, ◌*◌, ◌-◌, not, List, [], ◌∷◌, eqb, leb, ltb, length, take, drop}
-use Rattle.wire.specs.Answer.{answer}
+use Rattle.std.specs.Prelude.{ℕ, ◌+◌, ◌*◌, ◌-◌, not, List, [], ◌∷◌, eqb, leb, ltb, length, take, drop, Result}
+use Rattle.wire.specs.Refusals.{given, checked}
 use Rattle.wire.specs.Order.{◌if◌else◌, ◌or_else◌}
 use Rattle.wire.specs.BigEndian.{be_of, be_at}
 use Rattle.wire.specs.Text.{zeros}
 use Rattle.mlg_rules.specs.Layout.{served, header_len, info_len, field_len}
 use Rattle.mlg_rules.specs.Fields.{fields_number, sizes}
 use Rattle.mlg_rules.specs.declared.Header.{Header}
-use Rattle.mlg_rules.specs.declared.Head.{Head}
-use Rattle.mlg_rules.specs.declared.Head.TheVariants.{Is, Refused}
+use Rattle.wire.specs.declared.refusal.Refusal.{Refusal}
 
 -- the name
 abbrev pub log_name : List ℕ
@@ -79,13 +78,12 @@ read_header_number f =
     or_else body_number (numbers_of f) (fields_from f (numbers_of f)) (area_in f (numbers_of f))
 
 -- what the reader answers
-unfoldable pub read_header_of : List ℕ → Head
-read_header_of f = answer Is Refused (read_header_number f) (numbers_of f)
+unfoldable pub read_header_of : List ℕ → Result Header Refusal
+read_header_of f = checked (read_header_number f) (numbers_of f)
 
 -- the paper's number and values of each case: in a refusal every other number is 0
 abbrev pub no_header : Header
 no_header = record { version = 0; time = 0; info = 0; begin = 0; size = 0; count = 0 }
 
-unfoldable pub head_answer : Head → ℕ × Header
-head_answer (Is h) = (0, h)
-head_answer (Refused n) = (n, no_header)
+abbrev pub head_answer : Result Header Refusal → ℕ × Header
+head_answer r = given no_header r

@@ -10,7 +10,6 @@ pub mod Block
 pub mod Writing
 pub mod Parts
 pub mod Log
-pub mod Kinds
 pub mod Entries
 pub mod RoundTrip
 pub mod Numbers

@@ -1,11 +1,11 @@
 -- A whole log: its blocks with their places, and how they end.
-use Rattle.std.specs.Prelude.{ℕ, zero, suc, ◌+◌, List, [], ◌∷◌, length}
+use Rattle.std.specs.Prelude.{ℕ, zero, suc, ◌+◌, List, [], ◌∷◌, length, Result, Ok, Err}
 use Rattle.mlg_rules.specs.Header.{read_header_of}
 use Rattle.mlg_rules.specs.Block.{block_len, read_block_of, block_answer}
-use Rattle.wire.specs.declared.Tally.{Tally}
-use Rattle.mlg_rules.specs.declared.Head.{Head}
-use Rattle.mlg_rules.specs.declared.Head.TheVariants.{Is}
-use Rattle.mlg_rules.specs.declared.Head.TheVariants as head
+use Rattle.wire.specs.declared.views.Tally.{Tally}
+use Rattle.wire.specs.declared.refusal.Refusal.{Refusal}
+use Rattle.wire.specs.Refusals.{code}
+use Rattle.mlg_rules.specs.declared.Header.{Header}
 use Rattle.mlg_rules.specs.declared.Block.{Block}
 use Rattle.mlg_rules.specs.declared.Block.TheVariants.{Data, Mark, End, Refused}
 
@@ -43,9 +43,9 @@ unfoldable pub tally_of : ℕ → Log → Tally
 tally_of l log = record { blocks = length log.blocks; ending = (block_answer l log.ending).number; place = log.place }
 
 -- of a whole file, whose header may be refused
-unfoldable pub tally_head : List ℕ → Head → Tally
-tally_head f (Is h) = tally_of h.size (log_of h.size f h.begin)
-tally_head f (head.Refused n) = record { blocks = 0; ending = n; place = 0 }
+unfoldable pub tally_head : List ℕ → Result Header Refusal → Tally
+tally_head f (Ok h) = tally_of h.size (log_of h.size f h.begin)
+tally_head f (Err e) = record { blocks = 0; ending = code e; place = 0 }
 
 unfoldable pub count_blocks_of : List ℕ → Tally
 count_blocks_of f = tally_head f (read_header_of f)

@@ -6,7 +6,7 @@ use Rattle.wire.specs.Log.{span_with}
 use Rattle.mlg_rules.specs.Layout.{header_len, field_len}
 use Rattle.mlg_rules.specs.Header.{fields_end, read_header_number, numbers_of}
 use Rattle.mlg_rules.specs.declared.Header.{Header}
-use Rattle.wire.specs.declared.Span.{Span}
+use Rattle.wire.specs.declared.views.Span.{Span}
 
 -- field i's place; its bytes are as many as the layout's fields have
 abbrev pub field_place : Header → ℕ → ℕ

@@ -1,5 +1,5 @@
 -- What the writers promise together with the readers. Each statement is a type; the writers' contracts name it, and proofs/ proves it.
-use Rattle.std.specs.Prelude.{ℕ, ◌+◌, ◌*◌, ◌^◌, ◌≤◌, ◌<◌, ◌≡◌, true, ◌⊎◌, List, [], ◌∷◌, ◌++◌, length, get_or, take, drop}
+use Rattle.std.specs.Prelude.{ℕ, ◌+◌, ◌*◌, ◌^◌, ◌≤◌, ◌<◌, ◌≡◌, true, ◌⊎◌, List, [], ◌∷◌, ◌++◌, length, get_or, take, drop, Ok}
 use Rattle.wire.specs.Text.{text_len}
 use Rattle.wire.specs.Log.{part_of, Holds}
 use Rattle.mlg_rules.specs.Header.{read_header_of}
@@ -10,7 +10,6 @@ use Rattle.mlg_rules.specs.Log.{Log, length_of, log_of, count_blocks_of}
 use Rattle.mlg_rules.specs.Entries.{Entry, entries_bytes, Writable, entries_in, AllAsExpected, AllPadded, rewritten, PaddedHere}
 use Rattle.mlg_rules.specs.declared.Block.{Block}
 use Rattle.mlg_rules.specs.declared.Header.{Header}
-use Rattle.mlg_rules.specs.declared.Head.TheVariants.{Is}
 use Rattle.mlg_rules.specs.declared.Block.TheVariants.{Data, Mark, End, Refused}
 
 -- A data block that was written reads back as given, wherever it stands and whatever follows.
@@ -65,7 +64,7 @@ BlockSame =
 -- finds it too; that call refuses every other index.
 unfoldable pub FieldsPlaced : Type 0
 FieldsPlaced =
-    (f : List ℕ) (h : Header) → read_header_of f ≡ Is h
+    (f : List ℕ) (h : Header) → read_header_of f ≡ Ok h
     → (fields_span_of f ≡ record { number = 0; start = 24; len = 89 * h.count })
     × ((i : ℕ) → i < h.count → field_span_of f i ≡ record { number = 0; start = (fields_span_of f).start + 89 * i; len = 89 })
     × ((i : ℕ) → h.count ≤ i → field_span_of f i ≡ record { number = 23; start = 0; len = 0 })
@@ -73,7 +72,7 @@ FieldsPlaced =
 -- A header that was written reads back as given, whatever follows, by what the calls hand out: its numbers, and the bytes of all its fields, of
 -- each field, of the names area and of info.
 pub record HeaderReads (time : ℕ) (fields names info file : List ℕ) : Type 0 where
-  pub numbers : read_header_of file ≡ Is (header_for 2 time fields names info)
+  pub numbers : read_header_of file ≡ Ok (header_for 2 time fields names info)
   pub same_fields : Holds file (fields_span_of file) fields
   pub each_field : (i : ℕ) → i < (header_for 2 time fields names info).count → Holds file (field_span_of file i) (take 89 (drop (89 * i) fields))
   pub same_names : Holds file (names_span_of file) names
@@ -112,7 +111,7 @@ InLayout f h = (h.info ≡ 0) ⊎ ((0 < text_len (drop h.info f)) × (h.info + t
 -- the calls hand out, where it has the room that the file had, and what they write is the file.
 unfoldable pub LogSame : Type 0
 LogSame =
-    (f : List ℕ) (h : Header) → ((i : ℕ) → get_or f i 0 < 256) → read_header_of f ≡ Is h → InLayout f h
+    (f : List ℕ) (h : Header) → ((i : ℕ) → get_or f i 0 < 256) → read_header_of f ≡ Ok h → InLayout f h
     → (log_of h.size f h.begin).ending ≡ End
     → AllAsExpected (log_of h.size f h.begin).blocks → AllPadded f (log_of h.size f h.begin).blocks
     → let fields = part_of f (fields_span_of f) in

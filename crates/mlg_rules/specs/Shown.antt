@@ -1,19 +1,16 @@
 -- Shown values. 01: "A field's scale and transform travel together. Shown value, for U08, S08, U16, S16 and F32: raw plus transform,
 -- rounded to f32, times scale, rounded; other types give 30, and so does a non-finite raw, transform, sum, scale or product."
-use Rattle.std.specs.Prelude.{ℕ, Bool, true, false, cond, not, ◌||◌, List, eqb, pos, Float}
+use Rattle.std.specs.Prelude.{ℕ, Bool, true, false, cond, not, ◌||◌, List, eqb, pos, Float, Result}
 use Rattle.std.specs.Float.{nan, inf, fin, binary32}
 use Rattle.std.specs.Float.Ieee.{add, mul, of_int, of_bits}
 use Rattle.wire.specs.Order.{◌if◌else◌, ◌or_else◌}
 use Rattle.wire.specs.BigEndian.{be_of}
 use Rattle.mlg_rules.specs.Types.{U08, S08, U16, S16, F32}
 use Rattle.mlg_rules.specs.Field.{type_of, scale_bits, transform_bits}
-use Rattle.wire.specs.Answer.{answer}
+use Rattle.wire.specs.Refusals.{given, checked}
 use Rattle.mlg_rules.specs.Raw.{value_field_number, value_number, raw_of}
 use Rattle.mlg_rules.specs.declared.Scaling.{Scaling}
-use Rattle.mlg_rules.specs.declared.FieldScaling.{FieldScaling}
-use Rattle.mlg_rules.specs.declared.FieldScaling.TheVariants as F
-use Rattle.mlg_rules.specs.declared.ShownValue.{ShownValue}
-use Rattle.mlg_rules.specs.declared.ShownValue.TheVariants as S
+use Rattle.wire.specs.declared.refusal.Refusal.{Refusal}
 
 -- "U08, S08, U16, S16 and F32"
 unfoldable pub shows : ℕ → Bool
@@ -51,8 +48,8 @@ scaled_number s x =
     30 if not (finite (scaled s x)) else 0
 
 -- a scale and a transform applied to a raw value
-unfoldable pub apply_of : Scaling → Float → ShownValue
-apply_of s x = answer S.Is S.Refused (scaled_number s x) (scaled s x)
+unfoldable pub apply_of : Scaling → Float → Result Float Refusal
+apply_of s x = checked (scaled_number s x) (scaled s x)
 
 -- "23 (not 89), 24, 23 (raw length), 30"
 unfoldable pub shown_number : ℕ → List ℕ → List ℕ → ℕ
@@ -65,8 +62,8 @@ shown_number v d b =
 abbrev pub shown_of : List ℕ → List ℕ → Float
 shown_of d b = scaled (scaling_in d) (raw_float (type_of d) b)
 
-unfoldable pub shown_value_of : ℕ → List ℕ → List ℕ → ShownValue
-shown_value_of v d b = answer S.Is S.Refused (shown_number v d b) (shown_of d b)
+unfoldable pub shown_value_of : ℕ → List ℕ → List ℕ → Result Float Refusal
+shown_value_of v d b = checked (shown_number v d b) (shown_of d b)
 
 -- 30 by the field alone: its type has no shown value, or its transform or scale is not finite
 unfoldable pub parts_number : List ℕ → ℕ
@@ -80,8 +77,8 @@ unfoldable pub scaling_number : ℕ → List ℕ → ℕ
 scaling_number v d = value_field_number v d or_else parts_number d
 
 -- a field's scale and transform
-unfoldable pub scaling_of : ℕ → List ℕ → FieldScaling
-scaling_of v d = answer F.Is F.Refused (scaling_number v d) (scaling_in d)
+unfoldable pub scaling_of : ℕ → List ℕ → Result Scaling Refusal
+scaling_of v d = checked (scaling_number v d) (scaling_in d)
 
 -- the paper's number and values of each case: in a refusal every other number is 0
 abbrev pub zero_float : Float
@@ -90,10 +87,8 @@ zero_float = fin false 0 (pos 0)
 abbrev pub zero_scaling : Scaling
 zero_scaling = record { scale = zero_float; transform = zero_float }
 
-unfoldable pub shown_answer : ShownValue → ℕ × Float
-shown_answer (S.Is x) = (0, x)
-shown_answer (S.Refused n) = (n, zero_float)
+abbrev pub shown_answer : Result Float Refusal → ℕ × Float
+shown_answer r = given zero_float r
 
-unfoldable pub scaling_answer : FieldScaling → ℕ × Scaling
-scaling_answer (F.Is s) = (0, s)
-scaling_answer (F.Refused n) = (n, zero_scaling)
+abbrev pub scaling_answer : Result Scaling Refusal → ℕ × Scaling
+scaling_answer r = given zero_scaling r

@@ -3,18 +3,11 @@
 #![tactic(auto)]
 
 // Bytes of a header, of the info start in it, and of a field.
-#[derive(Clone, Copy)]
+#[derive(Clone, Copy, Debug, PartialEq, Eq)]
 pub struct Layout {
     pub header: usize,
     pub info: usize,
     pub field: usize,
-}
-
-// A field's raw value, exact; an F32's is its bits.
-#[derive(Clone, Copy)]
-pub enum RawValue {
-    Is(i64),
-    Refused(u8),
 }
 
 // A field's scale and transform.
@@ -25,22 +18,8 @@ pub struct Scaling {
     pub transform: f32,
 }
 
-// A field's scale and transform, or why it has none to apply.
-#[derive(Clone, Copy)]
-pub enum FieldScaling {
-    Is(Scaling),
-    Refused(u8),
-}
-
-// A field's shown value.
-#[derive(Clone, Copy)]
-pub enum ShownValue {
-    Is(f32),
-    Refused(u8),
-}
-
 // The numbers of a header: version, time, info start, data begin, record length, field count.
-#[derive(Clone, Copy)]
+#[derive(Clone, Copy, Debug, PartialEq, Eq)]
 pub struct Header {
     pub version: u16,
     pub time: u32,
@@ -50,16 +29,10 @@ pub struct Header {
     pub count: u16,
 }
 
-// What a file's header says, or the number that refuses it.
-#[derive(Clone, Copy)]
-pub enum Head {
-    Is(Header),
-    Refused(u8),
-}
-
 // What stands at a place of a log. `start` is the place of the record or text, `as_expected` whether the counter is the number of earlier
-// blocks, modulo 256; `len` is the text's length before its zero; a record has the length that the call was given.
-#[derive(Clone, Copy)]
+// blocks, modulo 256; `len` is the text's length before its zero; a record has the length that the call was given. A refusal holds its number, and
+// not a `Refusal`: `length_of` takes any block.
+#[derive(Clone, Copy, Debug, PartialEq, Eq)]
 pub enum Block {
     Data {
         counter: u8,

@@ -1,6 +1,6 @@
 -- 01, "Reckonings": the cases marked *, in 01's order, as one table under one statement. A row is a question and 01's answer to it, as 02
 -- changes it; what the layers' own definitions answer is `compute`.
-use Rattle.std.specs.Prelude.{ℕ, ◌≡◌, List, [], ◌∷◌, ◌++◌, map, ℤ, pos, negsuc, length, replicate}
+use Rattle.std.specs.Prelude.{ℕ, ◌≡◌, List, [], ◌∷◌, ◌++◌, map, ℤ, pos, negsuc, length, replicate, Float, Result, Ok, Err}
 use Rattle.std.proofs.Math.Option.{some}
 use Rattle.std.specs.Float.{binary32}
 use Rattle.std.specs.Float.Ieee.{of_int, div, to_bits}
@@ -10,12 +10,9 @@ use Rattle.bus_rules.specs.Request.{read_request_of}
 use Rattle.bus_rules.specs.Device.{device, none_current}
 use Rattle.bus_rules.specs.Holder.{serve_of, answer_with}
 use Rattle.bus_rules.specs.declared.Frame.{Frame}
+use Rattle.bus_rules.specs.declared.Parts.{Parts}
 use Rattle.bus_rules.specs.declared.Directory.{Directory}
 use Rattle.bus_rules.specs.declared.Served.{Served}
-use Rattle.bus_rules.specs.declared.Packed.{Packed}
-use Rattle.bus_rules.specs.declared.Packed.TheVariants as P
-use Rattle.bus_rules.specs.declared.Unpacked.{Unpacked}
-use Rattle.bus_rules.specs.declared.Unpacked.TheVariants as U
 use Rattle.bus_rules.specs.declared.RequestRead.{RequestRead}
 use Rattle.bridge_rules.specs.Answers as N
 use Rattle.bridge_rules.specs.Opening as O
@@ -25,13 +22,11 @@ use Rattle.bridge_rules.specs.Demand3.{run_of}
 use Rattle.mlg_rules.specs.Block.{sum_in}
 use Rattle.mlg_rules.specs.Writing.{data_bytes}
 use Rattle.wire.specs.BigEndian.{be_bytes}
+use Rattle.wire.specs.declared.refusal.Refusal.{Refusal}
+use Rattle.wire.specs.declared.refusal.Refusal.TheVariants as R
 use Rattle.mlg_rules.specs.Types.{U08, S08, S16}
 use Rattle.mlg_rules.specs.Raw.{raw_value_of}
 use Rattle.mlg_rules.specs.Shown.{shown_value_of}
-use Rattle.mlg_rules.specs.declared.RawValue.{RawValue}
-use Rattle.mlg_rules.specs.declared.RawValue.TheVariants as R
-use Rattle.mlg_rules.specs.declared.ShownValue.{ShownValue}
-use Rattle.mlg_rules.specs.declared.ShownValue.TheVariants as S
 
 -- ── Questions and answers ──────────────────────────────────────────────────────────────────────────────────────────
 
@@ -54,14 +49,14 @@ pub data Question : Type 0 where
   shown : (type scale transform : ℕ) → (bytes : List ℕ) → Question
 
 pub data Answer : Type 0 where
-  packed : Packed → Answer
-  unpacked : Unpacked → Answer
+  packed : Result ℕ Refusal → Answer
+  unpacked : Result Parts Refusal → Answer
   asked : RequestRead → Answer
   served : Served → Answer
   turned : N.Answer → Answer
   summed : ℕ → Answer
-  raw_value : RawValue → Answer
-  shown_value : ShownValue → Answer
+  raw_value : Result ℤ Refusal → Answer
+  shown_value : Result Float Refusal → Answer
 
 -- ── What the definitions answer ────────────────────────────────────────────────────────────────────────────────────
 
@@ -97,7 +92,7 @@ f32 p q = to_bits binary32 (div binary32 (of_int binary32 p) (of_int binary32 q)
 
 -- a shown value that is a whole number
 abbrev pub whole : ℤ → Answer
-whole z = shown_value (S.Is (of_int binary32 z))
+whole z = shown_value (Ok (of_int binary32 z))
 
 -- a turn's answer that yields a frame
 abbrev pub sends : Frame → Answer
@@ -110,15 +105,15 @@ read = B.opening B.its_own (O.read 5 7 6 10)
 unfoldable pub table : List (Question × Answer)
 table =
     -- "offset 6, REQ, from 5 to 0, table 7: 0x18A838."
-    (identifier 6 req 5 0 7, packed (P.Is 0x18A838))
+    (identifier 6 req 5 0 7, packed (Ok 0x18A838))
     -- "Table 20 alone: 0x24."
-    ∷ (identifier 0 cmd 0 0 20, packed (P.Is 0x24))
+    ∷ (identifier 0 cmd 0 0 20, packed (Ok 0x24))
     -- "0x1FFFFFFC unpacks;"
-    ∷ (parts 0x1FFFFFFC, unpacked (U.Is (record { offset = 2047; kind = xtnd; from = 15; to = 15; table = 31 })))
+    ∷ (parts 0x1FFFFFFC, unpacked (Ok (record { offset = 2047; kind = xtnd; from = 15; to = 15; table = 31 })))
     -- "0x1FFFFFFD is 2;"
-    ∷ (parts 0x1FFFFFFD, unpacked (U.Refused 2))
+    ∷ (parts 0x1FFFFFFD, unpacked (Err R.SpareBits))
     -- "0x20000000 is 1."
-    ∷ (parts 0x20000000, unpacked (U.Refused 1))
+    ∷ (parts 0x20000000, unpacked (Err R.HighIdentifier))
     -- "`06 10 02` asks two bytes to table 6, offset 128;"
     ∷ (request 0x06 0x10 0x02, asked (record { request = record { table = 6; offset = 128; count = 2 }; clear = 1 }))
     -- "bytes 0B B8 come back under 0x20102B0." The request's identifier is that of the first row
@@ -134,9 +129,9 @@ table =
     -- "record `FF 02`: sum 1."
     ∷ (sum (0xFF ∷ 0x02 ∷ []), summed 1)
     -- "0x80 in an S08 field reads -128."
-    ∷ (raw S08 (0x80 ∷ []), raw_value (R.Is (negsuc 127)))
+    ∷ (raw S08 (0x80 ∷ []), raw_value (Ok (negsuc 127)))
     -- "S16 FF38 reads -200;"
-    ∷ (raw S16 (0xFF ∷ 0x38 ∷ []), raw_value (R.Is (negsuc 199)))
+    ∷ (raw S16 (0xFF ∷ 0x38 ∷ []), raw_value (Ok (negsuc 199)))
     -- "scale 0.5, transform 0 shows -100."
     ∷ (shown S16 (f32 (pos 1) (pos 2)) (f32 (pos 0) (pos 1)) (0xFF ∷ 0x38 ∷ []), whole (negsuc 99))
     -- "U08 10, transform 5, scale 2 shows 30."

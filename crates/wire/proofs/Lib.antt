@@ -3,7 +3,7 @@ pub mod Counters
 pub mod Orders
 pub mod Firsts
 pub mod RefusalChains
-pub mod Answers
+pub mod RefusalLaws
 pub mod Numbers
 pub mod Signs
 pub mod Texts

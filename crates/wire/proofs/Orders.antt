@@ -2,6 +2,9 @@
 use Rattle.std.proofs.Common.{◌≡◌, ℕ, zero, suc, Bool, true, false, not, sym, refl, ◌∙◌, arith, le-ltb, lt-ltb, eq-eqb, ne_eqb, le-leb}
 use borrow.Author.Tests.{lt-leb}
 use Rattle.wire.specs.Order.{◌if◌else◌, ◌or_else◌}
+use Rattle.wire.specs.declared.refusal.Refusal.{Refusal}
+use Rattle.wire.specs.Refusals.{code}
+use Rattle.wire.proofs.RefusalLaws.{code_ne0}
 
 -- the test holds: this number
 pub if_yes : (n : ℕ) (b : Bool) (r : ℕ) → b ≡ true → n ≡ (n if b else r)
@@ -37,12 +40,16 @@ unfolding ◌or_else◌
 else_some zero b x e k = absurd (k e)
 else_some (suc a) b x e k = e
 
+-- the same of a refusal, whose number is not 0
+pub else_refused : (a b : ℕ) (e : Refusal) → code e ≡ a → code e ≡ (a or_else b)
+else_refused a b e h = else_some a b (code e) h (code_ne0 e)
+
 pub else_none : (a b y x : ℕ) → x ≡ a → x ≡ 0 → y ≡ b → y ≡ (a or_else b)
 unfolding ◌or_else◌
 else_none zero b y x e k h = h
 else_none (suc a) b y x e k h = absurd (omega arith)
 
-pub ruleset order = (if_yes, if_no, else_some, else_none, lt-ltb, le-ltb, le-leb, lt-leb, eq-eqb, ne_eqb, not_yes, not_no, flag, arith)
+pub ruleset order = (if_yes, if_no, else_some, else_refused, else_none, lt-ltb, le-ltb, le-leb, lt-leb, eq-eqb, ne_eqb, not_yes, not_no, flag, arith)
 
 -- what follows from no refusal
 pub if_zero : (n : ℕ) (b : Bool) (r : ℕ) → ((suc n) if b else r) ≡ 0 → (b ≡ false) × (r ≡ 0)

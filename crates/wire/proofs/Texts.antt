@@ -1,14 +1,10 @@
 -- Laws of zero-ended texts.
-use Rattle.std.proofs.Common.{◌≡◌, ℕ, zero, suc, ◌+◌, ◌<◌, ◌≤◌, ◌≢◌, List, [], ◌∷◌, ◌++◌, length, get_or, refl, ap, arith}
+use Rattle.std.proofs.Common.{◌≡◌, ℕ, zero, suc, ◌+◌, ◌<◌, ◌≤◌, ◌≢◌, List, [], ◌∷◌, ◌++◌, length, get_or, refl, ap, arith, nat_eq, false, rules}
+use borrow.Author.Tests.{tests}
+use Rattle.std.proofs.lemmas.Grind.{common_steps}
+use Rattle.std.specs.Prelude.{position, unwrap_or}
+use Rattle.std.specs.List.{position_or_len}
 use Rattle.wire.specs.Text.{text_len, zeros}
-
-pub text_len_at : (b : ℕ) (bs : List ℕ) → (b ≡ 0 → ⊥) → text_len (b ∷ bs) ≡ 1 + text_len bs
-text_len_at zero bs h = absurd (h refl)
-text_len_at (suc b) bs h = omega arith
-
-pub text_len_zero : (b : ℕ) (bs : List ℕ) → b ≡ 0 → text_len (b ∷ bs) ≡ 0
-text_len_zero zero bs h = refl
-text_len_zero (suc b) bs h = absurd (omega arith)
 
 pub zeros_at : (b : ℕ) (bs : List ℕ) → (b ≡ 0 → ⊥) → zeros (b ∷ bs) ≡ zeros bs
 zeros_at zero bs h = absurd (h refl)
@@ -46,3 +42,14 @@ text_plain [] i h e = omega arith
 text_plain (zero ∷ l) i h e = omega arith
 text_plain (suc b ∷ l) zero h e = omega arith
 text_plain (suc b ∷ l) (suc i) h e = text_plain l i (omega arith) e
+
+-- the first zero, as a search finds it
+before_zero : (s : List ℕ) → position_or_len (λ (b : ℕ). nat_eq b 0) s ≡ text_len s
+before_zero [] = refl
+before_zero (zero ∷ s) = refl
+before_zero (suc b ∷ s) =
+    let e : nat_eq (suc b) 0 ≡ false = search (rules, tests) in
+    rw e (omega (arith, before_zero s))
+
+pub first_zero : (s : List ℕ) → unwrap_or (position (λ (b : ℕ). nat_eq b 0) s) (length s) ≡ text_len s
+first_zero s = grind (arith, common_steps, before_zero s, text_most s)

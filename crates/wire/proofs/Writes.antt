@@ -3,7 +3,7 @@ use Rattle.std.proofs.Common.{◌≡◌, ℕ, zero, suc, ◌+◌, ◌≤◌, Lis
 use lib.Seq.{drop-append-add}
 use Rattle.wire.specs.Put.{put_at, put_of}
 use Rattle.wire.specs.Writer.{wrote, leaves}
-use Rattle.wire.specs.declared.Written.{Written}
+use Rattle.wire.specs.declared.views.Written.{Written}
 use Rattle.wire.proofs.Puts.{put_fits}
 
 -- the output, once its first bytes are written

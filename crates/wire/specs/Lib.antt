@@ -1,6 +1,7 @@
 pub mod Order
 pub mod First
 pub mod Answer
+pub mod Refusals
 pub mod BigEndian
 pub mod Sign
 pub mod Sum

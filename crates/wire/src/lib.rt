@@ -1,7 +1,10 @@
 // What every layer shares: refusals in an order (specs/), numbers in bytes, signed numbers, sums, texts, counters, copying into lent memory.
 #![tactic(auto)]
 
-ghost use Rattle.std.specs.Prelude.{◌≡◌, ◌+◌, ◌*◌, ◌^◌, ◌<◌, ◌≤◌, length, take};
+pub mod refusal;
+pub mod views;
+
+ghost use Rattle.std.specs.Prelude.{◌≡◌, ◌+◌, ◌*◌, ◌^◌, ◌<◌, ◌≤◌, length, take, position, nat_eq};
 ghost use Rattle.wire.specs.BigEndian.{be_of, be_at, be_bytes};
 ghost use Rattle.wire.specs.Sign.{signed_of, twos};
 ghost use Rattle.wire.specs.Sum.{sum_of};
@@ -10,47 +13,31 @@ ghost use Rattle.wire.specs.Log.{counter_after};
 ghost use Rattle.wire.specs.Counters.{Rolling, CounterExamples};
 ghost use Rattle.wire.specs.Put.{put_at, put_of};
 
-// What a writer hands back: a number, and how many bytes it wrote (specs/Writer.antt).
-#[repr(C)]
-#[derive(Clone, Copy)]
-pub struct Written {
-    pub len: usize,
-    pub number: u8,
-}
+pub use refusal::Refusal;
+pub use views::{Span, Tally, Written};
 
-// A part of a file or a buffer: a number, and where the part starts and how long it is (specs/Log.antt).
-#[repr(C)]
-#[derive(Clone, Copy)]
-pub struct Span {
-    pub number: u8,
+// A part of a file or a buffer: where it starts, and how long it is.
+#[derive(Clone, Copy, Debug, PartialEq, Eq)]
+pub struct Extent {
     pub start: usize,
     pub len: usize,
 }
 
-// How many blocks a log has, and how they ended: 0 at the file's end, else the number that refuses what stands at `place`.
-#[repr(C)]
-#[derive(Clone, Copy)]
-pub struct Tally {
-    pub blocks: u64,
-    pub ending: u8,
+// How many blocks a log has, and how they ended: at the file's end, or with the refusal of what stands at `place`.
+#[derive(Clone, Copy, Debug, PartialEq, Eq)]
+pub struct Blocks {
+    pub count: u64,
+    pub ending: Result<(), Refusal>,
     pub place: usize,
-}
-
-fn wide(b: u8) -> u64
-    ensures { result ≡ b }
-{
-    b as u64
 }
 
 fn be_of(s: &[u8]) -> u64
     requires { length s.now ≤ 8 }
     ensures { (result ≡ be_of s.now) × (result < 2 ^ (8 * length s.now)) }
 {
-    let mut a: u64 = 0;
-    let mut i = 0;
-    while i < s.len() {
-        a = a * 256 + wide(s[i]);
-        i += 1;
+    let mut a = 0;
+    for &b in s {
+        a = a * 256 + u64::from(b);
     }
     a
 }
@@ -68,7 +55,8 @@ fn be_at(s: &[u8], at: usize, n: usize) -> u64
     be_of(&s[at..at + n])
 }
 
-// The number in the two bytes from a place, or in those of them that are there.
+// The number in the two bytes from a place, or in those of them that are there. It and the next two are one function, `be_at`, at their widths:
+// a trait over the types would need an impl as long as each of them.
 pub fn be16(s: &[u8], at: usize) -> u16
     ensures { result ≡ be_at 2 s.now at }
 {
@@ -96,7 +84,7 @@ pub fn number(s: &[u8]) -> u64
     be_at(s, 0, 8)
 }
 
-// A number in two bytes, high byte first.
+// A number in two bytes, high byte first. Two literals, here and below, are plainer than one loop over a width and its invariant.
 pub fn two_bytes(x: u16) -> [u8; 2]
     ensures { result ≡ be_bytes 2 x }
 {
@@ -127,7 +115,7 @@ fn signed(x: u64, half: u64) -> i64
     }
 }
 
-// The signed number of 8 bits, and so at 16, 32 and 64.
+// The signed number of 8 bits, and so at 16, 32 and 64: one function, `signed`, at the types of these widths; 01 names them one by one.
 pub fn s08(x: u8) -> i64
     ensures { result ≡ signed_of 8 x }
 {
@@ -157,26 +145,23 @@ pub fn sum_of(s: &[u8]) -> u8
     ensures { result ≡ sum_of s.now }
 {
     let mut t: u8 = 0;
-    let mut i = 0;
-    while i < s.len() {
-        t = std::num::wrapping_add_u8(t, s[i]);
-        i += 1;
+    for &b in s {
+        t = t.wrapping_add(b);
     }
     t
+}
+
+fn first_zero(s: &[u8]) -> Option<usize>
+    ensures { result ≡ position (λ b. nat_eq b 0) s.now }
+{
+    s.iter().position(|b| *b == 0)
 }
 
 // How many bytes stand before the first zero.
 pub fn text_len(s: &[u8]) -> usize
     ensures { result ≡ text_len s.now }
 {
-    let mut i = 0;
-    while i < s.len() {
-        if s[i] == 0 {
-            return i;
-        }
-        i += 1;
-    }
-    i
+    first_zero(s).unwrap_or(s.len())
 }
 
 // The counter of a block after the given number of earlier blocks, in an MLG and in an FRD.
@@ -186,17 +171,6 @@ pub fn counter_after(earlier: u64) -> u8
     ensures examples { CounterExamples }
 {
     (earlier % 256) as u8
-}
-
-fn copy(out: &mut [u8], at: usize, bytes: &[u8])
-    requires { at + length bytes.now ≤ length out.old }
-    ensures { out.new ≡ put_at out.old at bytes.now }
-{
-    let mut i = 0;
-    while i < bytes.len() {
-        out[at + i] = bytes[i];
-        i += 1;
-    }
 }
 
 // Puts bytes at a place of the output; nothing changes where they do not fit.
@@ -209,5 +183,5 @@ pub fn put(out: &mut [u8], at: usize, bytes: &[u8])
     if out.len() - at < bytes.len() {
         return;
     }
-    copy(out, at, bytes);
+    out[at..at + bytes.len()].copy_from_slice(bytes);
 }

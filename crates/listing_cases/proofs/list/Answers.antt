@@ -3,5 +3,5 @@ use Rattle.listing_cases.proofs.list.Goals as goal
 
 pub slice_bounds-show-end : goal.slice_bounds-show-end
 slice_bounds-show-end g c =
-    let list = c.list-w in
-    list_in_room 327680 0 c.args.file.now list.result _ list.ensures.file_len_bound list.ensures.value.0 list.ensures.value.1
+    let list = c.in-Ok in
+    list_in_room 327680 0 c.args.file.now _ _ list.ensures.file_len_bound list.ensures.value.0 list.ensures.value.1

@@ -1,29 +1,24 @@
-use mathlib.Core.Path.{sym, ◌∙◌, refl}
-use native.Mathlib.Omega.{arith}
-use Rattle.mlg_rules.specs.Shown.{apply_of}
-use Rattle.wire.proofs.Answers.{refuses, stands}
-use Rattle.mlg_rules.proofs.ShownLaws.{by_sum, by_product, all_finite, apply_means}
-use Rattle.mlg_rules.specs.declared.ShownValue.TheVariants as S
+use Rattle.std.proofs.Common.{sym, ◌∙◌, refl}
+use Rattle.wire.specs.declared.refusal.Refusal.TheVariants as R
+use Rattle.wire.proofs.RefusalLaws.{refused, held}
+use Rattle.mlg_rules.specs.Shown.{apply_of, zero_float}
+use Rattle.mlg_rules.proofs.Finite.{finite_is}
+use Rattle.mlg_rules.proofs.ShownLaws.{by_sum, by_product, all_finite}
 use Rattle.mlg_values.proofs.apply.Goals as goal
 
 pub returns-then-not-is_finite : goal.returns-then-not-is_finite
 unfolding apply_of
 returns-then-not-is_finite c =
-    let a = c.args in
-    apply_means a.scaling a.raw _
-    (refuses S.Is S.Refused _ _ 30 (by_sum _ _ (sym c.is_finite.ensures ∙ c.if-not-is_finite.true)) (λ e. omega arith))
+    refused zero_float _ _ R.NotShown (by_sum _ _ (sym (finite_is _) ∙ sym c.is_finite.ensures.value ∙ c.if-not-is_finite.true))
 
 pub returns-then-not-is_finite-2 : goal.returns-then-not-is_finite-2
 unfolding apply_of
 returns-then-not-is_finite-2 c =
-    let a = c.args in
-    apply_means a.scaling a.raw _
-    (refuses S.Is S.Refused _ _ 30 (by_product _ _ (sym c.is_finite-2.ensures ∙ c.if-not-is_finite-2.true)) (λ e. omega arith))
+    refused zero_float _ _ R.NotShown (by_product _ _ (sym (finite_is _) ∙ sym c.is_finite-2.ensures.value ∙ c.if-not-is_finite-2.true))
 
 pub returns : goal.returns
 unfolding apply_of
 returns c =
-    let a = c.args in
-    let sum = sym c.is_finite.ensures ∙ c.if-not-is_finite.false in
-    let product = sym c.is_finite-2.ensures ∙ c.if-not-is_finite-2.false in
-    apply_means a.scaling a.raw _ (stands S.Is S.Refused _ _ _ (sym (all_finite _ _ sum product)) refl)
+    let sum = sym (finite_is _) ∙ sym c.is_finite.ensures.value ∙ c.if-not-is_finite.false in
+    let product = sym (finite_is _) ∙ sym c.is_finite-2.ensures.value ∙ c.if-not-is_finite-2.false in
+    held zero_float _ _ _ (sym (all_finite _ _ sum product)) refl

@@ -1,26 +1,28 @@
-use Prim.Native.Nat.{ℕ}
-use mathlib.Core.Path.{sym, ◌∙◌, ap}
+use Rattle.std.proofs.Common.{ℕ, refl, sym, ◌∙◌, ap, pos}
+use Rattle.std.proofs.lemmas.Result.{err_from_is_err_and}
 use mir.Syntax.{w64}
 use mir.ValLaws.{to_z-of_z}
+use Rattle.wire.proofs.RefusalLaws.{refused, held}
+use Rattle.mlg_rules.specs.Types.{size_of}
+use Rattle.mlg_rules.specs.Field.{type_of}
 use Rattle.mlg_rules.specs.Raw.{raw_of, raw_value_of}
-use Rattle.wire.proofs.Answers.{refuses, stands}
-use Rattle.mlg_rules.proofs.RawLaws.{raw_means, sized}
-use Rattle.mlg_rules.specs.declared.RawValue.TheVariants as R
+use Rattle.mlg_rules.proofs.RawLaws.{sized}
 use Rattle.mlg_values.proofs.raw_value.Goals as goal
 
-pub returns-then-number-ne0 : goal.returns-then-number-ne0
+pub returns-in_err-kind : goal.returns-in_err-kind
 unfolding raw_value_of
-returns-then-number-ne0 c =
+returns-in_err-kind c =
     let a = c.args in
-    raw_means 2 a.field.now a.raw.now _ (refuses R.Is R.Refused _ _ _ c.value_number-number.ensures c.if-number-ne0.true)
+    let r = err_from_is_err_and c.from_residual.result c.from_residual.ensures.1 in
+    rw (r.1, r.2) (refused (pos 0) (raw_of (type_of a.field.now) a.raw.now) _ _ c.in_err-kind.ensures.number)
 
 pub raw_of-requires : goal.raw_of-requires
-raw_of-requires c = rw c.byte_at.ensures (sized 2 _ _ (sym c.value_number-number.ensures ∙ c.if-number-ne0.false))
+raw_of-requires c =
+    sized 2 _ _ (sym c.in_ok-kind.ensures.number) ∙ sym (ap size_of (c.in_ok-kind.ensures.kind _ refl))
 
 pub returns : goal.returns
 unfolding raw_value_of
 returns c =
     let a = c.args in
-    let value-number = c.value_number-number in
-    raw_means 2 a.field.now a.raw.now _ (stands R.Is R.Refused _ _ _ (sym value-number.ensures ∙ c.if-number-ne0.false)
-    (to_z-of_z w64 _ (record { sfits = c.raw_of.type_inv }) ∙ c.raw_of.ensures ∙ ap (λ (t : ℕ). raw_of t a.raw.now) c.byte_at.ensures))
+    held (pos 0) (raw_of (type_of a.field.now) a.raw.now) _ _ (sym c.in_ok-kind.ensures.number)
+    (to_z-of_z w64 _ (record { sfits = c.raw_of.type_inv }) ∙ c.raw_of.ensures ∙ ap (λ (t : ℕ). raw_of t a.raw.now) (c.in_ok-kind.ensures.kind _ refl))

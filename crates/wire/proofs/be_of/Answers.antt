@@ -1,32 +1,13 @@
-use Rattle.std.proofs.Common.{◌≡◌, ◌+◌, length, sym, ◌∙◌, arith}
+use Rattle.std.proofs.Common.{arith}
 use Rattle.wire.specs.BigEndian.{be_from}
-use Rattle.wire.proofs.Parts.{rest_of, rest_none}
-use Rattle.wire.proofs.Numbers.{more_bytes, within}
+use Rattle.wire.proofs.Parts.{rest_of}
+use Rattle.wire.proofs.Numbers.{more_bytes}
 use Rattle.wire.proofs.be_of.Goals as goal
 
-pub overflow_mul-a : goal.overflow_mul-a
-overflow_mul-a c =
-    let l = c.loop-i in
-    omega (arith, more_bytes l.a 0 l.i l.invariant.1 (omega arith), within (l.i + 1) (omega arith))
-
-pub overflow_add-a : goal.overflow_add-a
-overflow_add-a c =
-    let l = c.loop-i in
-    let byte = c.type_inv.s l.i in
-    omega (arith, byte, more_bytes l.a c.wide.result l.i l.invariant.1 (omega (arith, byte)), within (l.i + 1) (omega arith))
-
-pub loop-i-preserved : goal.loop-i-preserved
-loop-i-preserved c =
-    let l = c.loop-i in
+pub loop-b-preserved : goal.loop-b-preserved
+loop-b-preserved c =
+    let l = c.loop-b in
     let s = c.args.s.now in
-    let e = rest_of (be_from l.a) s l.i c.loop-i-test.true in
-    let byte = c.type_inv.s l.i in
-    (omega arith, more_bytes l.a c.wide.result l.i l.invariant.1 (omega (arith, byte)), rw c.wide.ensures (sym e ∙ l.invariant.2))
-
-pub returns : goal.returns
-returns c =
-    let l = c.loop-i in
-    let s = c.args.s.now in
-    let h = rest_none (be_from l.a) s l.i c.loop-i-test.false in
-    let e : l.i ≡ length s = omega arith in
-    ((cc), rw (← e) l.invariant.1)
+    let e = rest_of (be_from l.a) s l.b-index (omega arith) in
+    let byte = c.type_inv.s l.b-index in
+    (more_bytes l.a c.from.result l.b-index l.invariant.0 (omega (arith, byte)), (let k = l.invariant.1 in cc))

@@ -10,7 +10,7 @@ use Rattle.bridge.proofs.ending.reset.Goals as goal
 pub returns-then-own-gt15 : goal.returns-then-own-gt15
 unfolding reset_of reset_number ◌if◌else◌
 returns-then-own-gt15 c = record {
-  value = rw (lt-ltb _ _ c.if-own-gt15.true);
+  value = rw (c.refused.ensures, lt-ltb _ _ c.if-own-gt15.true);
   demand3 = demand3;
   corollaries = corollaries;
   calls = calls;
@@ -20,7 +20,7 @@ returns-then-own-gt15 c = record {
 pub returns : goal.returns
 unfolding reset_of reset_number ◌if◌else◌
 returns c = record {
-  value = rw (le-ltb _ _ c.if-own-gt15.false, c.fresh-t.ensures);
+  value = rw (c.fresh.ensures, le-ltb _ _ c.if-own-gt15.false);
   demand3 = demand3;
   corollaries = corollaries;
   calls = calls;

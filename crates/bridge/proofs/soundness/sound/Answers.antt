@@ -24,12 +24,12 @@ module _ (c : After-sound_rests) where
       ap (λ (ok : Bool). with-rests ok && sound_slots held.issued held.slots && distinct held.slots) c.sound_rests.ensures
       ∙ sound_parts held (search rules) (search rules) (search rules)
 
-pub returns-then-not-numbers : goal.returns-then-not-numbers
-returns-then-not-numbers c =
-    let e : numbers (goal.at.returns-then-not-numbers c).After-sound_rests ≡ false = c.if-not-numbers.true in
-    rw (← parts (goal.at.returns-then-not-numbers c).After-sound_rests, e)
+pub returns-else-numbers : goal.returns-else-numbers
+returns-else-numbers c =
+    let e : numbers (goal.at.returns-else-numbers c).After-sound_rests ≡ false = c.if-numbers.false in
+    rw (← parts (goal.at.returns-else-numbers c).After-sound_rests, e)
 
-pub returns : goal.returns
-returns c =
-    let e : numbers (goal.at.returns c).After-sound_rests ≡ true = c.if-not-numbers.false in
-    rw (c.sound_slots.ensures, ← parts (goal.at.returns c).After-sound_rests, e)
+pub returns-then-numbers : goal.returns-then-numbers
+returns-then-numbers c =
+    let e : numbers (goal.at.returns-then-numbers c).After-sound_rests ≡ true = c.if-numbers.true in
+    rw (c.sound_slots.ensures, ← parts (goal.at.returns-then-numbers c).After-sound_rests, e)

@@ -5,20 +5,26 @@ use Rattle.bridge_rules.proofs.SoundTest.{true_sound}
 use Rattle.bridge.proofs.SentFrames.{readies}
 use Rattle.bridge.proofs.turning.send_for.Goals as goal
 
-pub sent_frame-frame-requires : goal.sent_frame-frame-requires
+pub invariant_of-sending : goal.invariant_of-sending
 unfolding slot
-sent_frame-frame-requires c =
+invariant_of-sending c =
     let w = readies c.args.b c.args.k c.requires.0 c.requires.1 c.requires.2 in
-    let x = w.held.args in
-    let own = (true_sound c.args.b c.requires.0).own in
-    (own, c.requires.1, x.device, x.table, w.partway.below, x.few, x.inside, c.requires.3, c.requires.4)
+    record {
+      own_number = (true_sound c.args.b c.requires.0).own;
+      one_of_four = c.requires.1;
+      device = w.held.args.device;
+      table = w.held.args.table;
+      unfinished = w.partway.below;
+      few = w.held.args.few;
+      inside = w.held.args.inside;
+    }
 
-pub sent_slot-y-requires : goal.sent_slot-y-requires
+pub sent_slot-requires : goal.sent_slot-requires
 unfolding slot
-sent_slot-y-requires c =
+sent_slot-requires c =
     (readies c.args.b c.args.k c.requires.0 c.requires.1 c.requires.2).sends
 
 pub returns : goal.returns
 unfolding send_for slot stepped_of
 returns c =
-    rw (c.sent_frame-frame.ensures, c.sent_slot-y.ensures, c.sent_rests-after.ensures)
+    rw (c.frame.ensures, c.with_slot.ensures, c.sent_slot.ensures, c.sent_rests.ensures)

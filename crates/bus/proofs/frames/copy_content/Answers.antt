@@ -5,7 +5,7 @@ use Rattle.bus_rules.proofs.FrameLaws.{content_min, content_at, sets_next, sets_
 use Rattle.bus.proofs.frames.copy_content.Goals as goal
 
 pub loop-i-init : goal.loop-i-init
-loop-i-init c = (omega arith, refl, refl)
+loop-i-init c = (refl, refl)
 
 -- a turn that copies is at a byte that counts
 pub overflow_add-out : goal.overflow_add-out
@@ -23,16 +23,16 @@ loop-i-preserved c =
     let l = content_min a.f (search rules) in
     let e : c.if-i-n.out ≡ sets a.out.now a.at (take (i + 1) bs) =
     elim c.if-i-n.branch [
-      | goal.then-i-n w ↦ w.out-is ∙ rw (inv.2, ← content_at a.f i w.if-i-n.true) (sets_next a.out.now a.at bs i (omega (arith, w.if-i-n.true)))
-      | goal.else-i-n w ↦ w.out-is ∙ inv.2 ∙ sets_done a.out.now a.at bs i (omega (arith, w.if-i-n.false))
+      | goal.then-i-n w ↦ w.out-is ∙ rw (inv.1, ← content_at a.f i w.if-i-n.true) (sets_next a.out.now a.at bs i (omega (arith, w.if-i-n.true)))
+      | goal.else-i-n w ↦ w.out-is ∙ inv.1 ∙ sets_done a.out.now a.at bs i (omega (arith, w.if-i-n.false))
     ] in
-    (omega arith, ap length e ∙ length-sets a.out.now a.at (take (i + 1) bs), e)
+    (ap length e ∙ length-sets a.out.now a.at (take (i + 1) bs), e)
 
 pub shape_of-out : goal.shape_of-out
-shape_of-out c = c.loop-i.invariant.1
+shape_of-out c = c.loop-i.invariant.0
 
 pub returns : goal.returns
 returns c =
     let a = c.args in
     let e = take_all c.loop-i.i (content a.f) (omega (arith, content_min a.f (search rules))) in
-    c.loop-i.invariant.2 ∙ ap (sets a.out.now a.at) e
+    c.loop-i.invariant.1 ∙ ap (sets a.out.now a.at) e

@@ -6,4 +6,4 @@ use Rattle.bus.proofs.frames.padded.Goals as goal
 
 pub returns : goal.returns
 unfolding build_of frame_with
-returns c = ap (λ (f : Frame). f.bytes) c.build-frame.ensures.value ∙ padded_take c.args.bytes.now
+returns c = ap (λ (f : Frame). f.bytes) c.build.ensures.value ∙ padded_take c.args.bytes.now

@@ -1,10 +1,6 @@
-use Prim.Native.Nat.{◌≤◌, ◌-◌, ◌*◌}
-use mathlib.Core.Path.{◌≡◌}
+use Rattle.std.proofs.Common.{◌≤◌, ◌*◌, ◌≡◌}
 use Rattle.bus_rules.specs.Device.{start_of}
 use Rattle.bus.proofs.holder.table_at.Given as goal
 
-abbrev pub invariant-loop-i : goal.invariant-loop-i
-invariant-loop-i l = (l.i ≤ l.k) × (l.start ≤ 65535 * l.i) × (l.start ≡ start_of l.d l.i)
-
-abbrev pub decreases-loop-i : goal.decreases-loop-i
-decreases-loop-i l = l.k - l.i
+abbrev pub invariant-loop-size : goal.invariant-loop-size
+invariant-loop-size l = (l.start ≤ 65535 * l.size-index) × (l.start ≡ start_of l.fn.d l.size-index)

@@ -1,12 +1,13 @@
 use mathlib.Core.Path.{sym}
-use Rattle.frd_rules.proofs.BlockLaws.{data_len, time_len, no_len}
+use native.Mathlib.Omega.{arith}
+use Rattle.frd_rules.proofs.BlockLaws.{data_len, time_len, len_known, len_unknown}
 use Rattle.frd.proofs.block_reading.block_len.Goals as goal
 
-pub returns-then-kind-eq1 : goal.returns-then-kind-eq1
-returns-then-kind-eq1 c = sym (data_len _ _ c.if-kind-eq1.true)
+pub returns-in-1 : goal.returns-in-1
+returns-in-1 c = len_known _ _ _ (omega (arith, c.from.ensures, data_len c.args.size c.args.kind c.in-1.is)) (omega arith)
 
-pub returns-then-kind-eq2 : goal.returns-then-kind-eq2
-returns-then-kind-eq2 c = sym (time_len _ _ c.if-kind-eq2.true)
+pub returns-in-2 : goal.returns-in-2
+returns-in-2 c = len_known _ _ _ (sym (time_len _ _ c.in-2.is)) (omega arith)
 
-pub returns : goal.returns
-returns c = sym (no_len _ _ c.if-kind-eq1.false c.if-kind-eq2.false)
+pub returns-in_default : goal.returns-in_default
+returns-in_default c = len_unknown _ _ (λ z. omega arith) (λ z. omega arith)

@@ -1,14 +1,26 @@
-use mathlib.Core.Path.{sym, ◌∙◌}
-use Rattle.frd_rules.specs.Header.{read_header_of}
-use Rattle.wire.proofs.Answers.{refuses, stands}
-use Rattle.frd_rules.specs.declared.Head.TheVariants.{Is, Refused}
-use Rattle.frd_rules.proofs.HeaderLaws.{head_means}
+use mathlib.Core.Path.{sym}
+use Rattle.wire.specs.declared.refusal.Refusal.TheVariants as R
+use Rattle.wire.proofs.Orders.{order}
+use Rattle.frd_rules.specs.Header.{read_header_number}
+use Rattle.frd_rules.proofs.HeaderLaws.{header_refused, header_held}
 use Rattle.frd.proofs.header_reading.read_header.Goals as goal
 
-pub returns-then-number-ne0 : goal.returns-then-number-ne0
-unfolding read_header_of
-returns-then-number-ne0 c = head_means _ _ (refuses Is Refused _ _ _ c.read_header_number-number.ensures c.if-number-ne0.true)
+pub returns-then-file-lt81 : goal.returns-then-file-lt81
+unfolding read_header_number
+returns-then-file-lt81 c = header_refused _ R.CutShort (search order depth 12)
+
+pub returns-then-be48-ne77319142113280 : goal.returns-then-be48-ne77319142113280
+unfolding read_header_number
+returns-then-be48-ne77319142113280 c = header_refused _ R.WrongName (rw (← c.be48.ensures) (search order depth 12))
+
+pub returns-then-h-ne1 : goal.returns-then-h-ne1
+unfolding read_header_number
+returns-then-h-ne1 c = header_refused _ R.Version (rw (← c.be48.ensures, ← c.numbers-h.ensures) (search order depth 12))
+
+pub returns-then-h-ne81 : goal.returns-then-h-ne81
+unfolding read_header_number
+returns-then-h-ne81 c = header_refused _ R.Disagree (rw (← c.be48.ensures, ← c.numbers-h.ensures) (search order depth 12))
 
 pub returns : goal.returns
-unfolding read_header_of
-returns c = head_means _ _ (stands Is Refused _ _ _ (sym c.read_header_number-number.ensures ∙ c.if-number-ne0.false) c.numbers.ensures)
+unfolding read_header_number
+returns c = header_held _ _ (sym (rw (← c.be48.ensures, ← c.numbers-h.ensures) (search order depth 12))) c.numbers-h.ensures

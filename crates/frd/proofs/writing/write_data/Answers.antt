@@ -9,9 +9,9 @@ use Rattle.frd_rules.proofs.BlockBack.{data_back}
 use Rattle.frd_rules.proofs.WritingLaws.{data_length, room_short, room_left, data_put}
 use Rattle.frd.proofs.writing.write_data.Goals as goal
 
-pub returns-then-len-size : goal.returns-then-len-size
+pub returns-then-len-from : goal.returns-then-len-from
 unfolding write_data_number
-returns-then-len-size c = record { value = refuses 23 _ _ _ (search order depth 9) (λ z. omega arith); back = data_back _ _ _ }
+returns-then-len-from c = record { value = refuses 23 _ _ _ (search order depth 9) (λ z. omega arith); back = data_back _ _ _ }
 
 pub returns-then-out-len : goal.returns-then-out-len
 unfolding write_data_number

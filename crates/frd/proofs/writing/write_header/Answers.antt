@@ -19,7 +19,13 @@ logs = (log_back, log_same)
 
 pub returns-then-signature-ne63 : goal.returns-then-signature-ne63
 unfolding write_header_number
-returns-then-signature-ne63 c = record { value = refuses 23 _ _ _ (search order depth 9) (λ z. omega arith); back = header_back _ _ _ (search rules) (search rules); logs = logs; examples = examples }
+returns-then-signature-ne63 c =
+    record {
+      value = refuses 23 _ _ _ (search order depth 9) (λ z. omega arith);
+      back = header_back _ _ _ (search rules) (search rules);
+      logs = logs;
+      examples = examples;
+    }
 
 pub returns-then-out-lt81 : goal.returns-then-out-lt81
 unfolding write_header_number
@@ -27,7 +33,12 @@ returns-then-out-lt81 c =
     let a = c.args in
     let k = header_length a.time a.signature.now a.size c.if-signature-ne63.false in
     let s = room_short (header_bytes a.time a.signature.now a.size) (length a.out.now) (omega arith) in
-    record { value = refuses 27 _ _ _ (search (order, s) depth 9) (λ z. omega arith); back = header_back _ _ _ (search rules) (search rules); logs = logs; examples = examples }
+    record {
+      value = refuses 27 _ _ _ (search (order, s) depth 9) (λ z. omega arith);
+      back = header_back _ _ _ (search rules) (search rules);
+      logs = logs;
+      examples = examples;
+    }
 
 pub returns : goal.returns
 unfolding write_header_number
@@ -38,4 +49,9 @@ returns c =
     let p =
     header_put a.time a.size a.out.now a.signature.now _ _ (rw c.four_bytes-t.ensures) (rw c.two_bytes-s.ensures)
     c.if-signature-ne63.false (omega arith) c.put.ensures c.put-2.ensures c.put-3.ensures in
-    record { value = writes _ _ _ _ _ (search (order, s) depth 9) (sym k) p; back = header_back _ _ _ (search rules) (search rules); logs = logs; examples = examples }
+    record {
+      value = writes _ _ _ _ _ (search (order, s) depth 9) (sym k) p;
+      back = header_back _ _ _ (search rules) (search rules);
+      logs = logs;
+      examples = examples;
+    }

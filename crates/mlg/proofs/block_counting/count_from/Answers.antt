@@ -1,53 +1,48 @@
-use Prim.Native.Nat.{◌+◌, ◌≤◌}
-use mathlib.Core.Path.{refl, sym, ◌∙◌}
-use native.Mathlib.Omega.{arith}
-use lib.ListN.{length}
+use Rattle.std.proofs.Common.{◌+◌, ◌≤◌, ◌<◌, length, sym, ◌∙◌, arith}
 use Rattle.mlg_rules.specs.Log.{length_of}
 use Rattle.mlg_rules.proofs.LogLaws.{IsBlock}
-use Rattle.mlg_rules.proofs.KindLaws.{no_length}
-use Rattle.mlg_rules.proofs.TallyLaws.{tally_next, tally_stop, tally_none, tally_all, at_fits, length_block}
+use Rattle.mlg_rules.proofs.TallyLaws.{no_block, some_block, block_takes, at_fits, tally_start, tally_more, tally_ends}
 use Rattle.mlg.proofs.block_counting.count_from.Goals as goal
-use Rattle.mlg.proofs.block_counting.count_from.Goals.{Else-len-eq0}
+use Rattle.mlg.proofs.block_counting.count_from.Goals.{After-length_of-at}
 
--- a block that is passed over lies within the file
-module _ (c : Else-len-eq0) where
+pub loop-at-init : goal.loop-at-init
+loop-at-init c = let a = c.args in (omega arith, omega arith, tally_start a.size a.file.now a.begin)
+
+pub returns-in_default : goal.returns-in_default
+returns-in_default c =
+    let a = c.args in
+    let l = c.loop-at in
+    let read = c.read_block-b in
+    let ends = no_block read.result c.in_default.not-Data c.in_default.not-Mark in
+    rw (c.check_block.ensures l.count, ← read.ensures.fact.0)
+    (tally_ends _ _ _ _ _ l.invariant.0 (sym read.ensures.fact.0) ends ∙ l.invariant.2)
+
+-- a block that is passed over takes bytes, and lies within the file
+module _ (c : After-length_of-at) where
   goes : IsBlock c.read_block-b.result
-  goes = length_block _ _ (λ z. c.if-len-eq0.false (c.length_of-len.ensures ∙ z))
+  goes = some_block _ c.in-Data.is
+
+  some : 0 < length_of c.args.size c.read_block-b.result
+  some = block_takes _ _ goes
 
   inside : let a = c.args in
-      c.loop-left.at + length_of a.size c.read_block-b.result ≤ length a.file.now
+      c.loop-at.at + length_of a.size c.read_block-b.result ≤ length a.file.now
   inside = at_fits _ _ _ _ _ (sym c.read_block-b.ensures.fact.0) goes
 
-pub loop-left-init : goal.loop-left-init
-loop-left-init c = (omega arith, omega arith, tally_all _ c.args.size c.args.file.now c.args.begin refl)
-
-pub returns-then-len-eq0 : goal.returns-then-len-eq0
-returns-then-len-eq0 c =
-    let a = c.args in
-    let loop = c.loop-left in
-    let some = c.loop-left-test.true in
-    let b = c.read_block-b in
-    let ends = no_length _ b.result (sym c.length_of-len.ensures ∙ c.if-len-eq0.true) in
-    let t = tally_stop loop.left a.size loop.n a.file.now loop.at b.result some (sym b.ensures.fact.0) ends in
-    rw (c.stop_number.ensures a.size) (sym t ∙ loop.invariant.2)
-
 pub overflow_add-at : goal.overflow_add-at
-overflow_add-at c = omega (arith, c.length_of-len.ensures, inside c)
+overflow_add-at c = omega (arith, c.length_of-at.ensures, inside c)
 
-pub loop-left-preserved : goal.loop-left-preserved
-loop-left-preserved c =
-    let a = c.args in
-    let loop = c.loop-left in
-    let some = c.loop-left-test.true in
-    let b = c.read_block-b in
-    let t = tally_next loop.left a.size loop.n a.file.now loop.at b.result some (sym b.ensures.fact.0) (goes c) in (
-      omega (arith, c.length_of-len.ensures, inside c),
-      omega arith,
-      rw c.length_of-len.ensures (sym t ∙ loop.invariant.2),
+pub overflow_add-count : goal.overflow_add-count
+overflow_add-count c = omega (arith, inside c)
+
+pub loop-at-smaller : goal.loop-at-smaller
+loop-at-smaller c = omega (arith, c.length_of-at.ensures, some c, inside c)
+
+pub loop-at-preserved : goal.loop-at-preserved
+loop-at-preserved c =
+    let inv = c.loop-at.invariant in
+    rw c.length_of-at.ensures (
+      omega (arith, some c, inside c),
+      omega (arith, some c),
+      sym (tally_more _ _ _ _ _ inv.0 (sym c.read_block-b.ensures.fact.0) (goes c)) ∙ inv.2,
     )
-
-pub returns : goal.returns
-returns c =
-    let a = c.args in
-    let loop = c.loop-left in
-    sym (tally_none loop.left a.size loop.n a.file.now loop.at c.loop-left-test.false) ∙ loop.invariant.2

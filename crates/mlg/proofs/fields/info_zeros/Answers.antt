@@ -1,10 +1,12 @@
-use native.Mathlib.Omega.{arith}
+use Rattle.std.proofs.Common.{◌≡◌, length, rules, arith}
 use Rattle.mlg_rules.proofs.AreaLaws.{ended_empty}
 use Rattle.mlg_rules.proofs.ZeroLaws.{info_zeros}
 use Rattle.mlg.proofs.fields.info_zeros.Goals as goal
 
-pub returns-then-info-eq0 : goal.returns-then-info-eq0
-returns-then-info-eq0 c = (ended_empty c.args.info.now 0 c.if-info-eq0.true, omega arith)
+pub returns-then-is_empty : goal.returns-then-is_empty
+returns-then-is_empty c = let none : length c.args.info.now ≡ 0 = search rules in (ended_empty c.args.info.now 0 none, omega arith)
 
-pub returns : goal.returns
-returns c = (omega (arith, info_zeros c.args.info.now c.if-info-eq0.false c.requires), omega arith)
+pub returns-else-is_empty : goal.returns-else-is_empty
+returns-else-is_empty c =
+    let some : length c.args.info.now ≡ 0 → ⊥ = search rules in
+    (omega (arith, info_zeros c.args.info.now some c.requires), omega arith)

@@ -1,30 +1,21 @@
-use native.Mathlib.Omega.{arith}
+use Rattle.std.proofs.Common.{ℕ, ap, ◌∙◌, arith}
+use Rattle.wire.specs.BigEndian.{be_at}
 use Rattle.mlg_rules.specs.Header.{numbers_of}
-use Rattle.mlg_rules.proofs.LayoutLaws.{info_most}
+use Rattle.mlg_rules.proofs.LayoutLaws.{info_is, info_of, info_most}
 use Rattle.mlg.proofs.header_reading.numbers.Goals as goal
 
 pub overflow_add-w : goal.overflow_add-w
-overflow_add-w c = omega (arith, info_most c.be16-version.result)
+overflow_add-w c = let v = c.be16-version.result in omega (arith, info_of v _ c.layout_of-w.ensures, info_most v)
 
 pub overflow_add-w-2 : goal.overflow_add-w-2
-overflow_add-w-2 c = omega (arith, info_most c.be16-version.result)
+overflow_add-w-2 c = let v = c.be16-version.result in omega (arith, info_of v _ c.layout_of-w.ensures, info_most v)
 
 pub overflow_add-w-3 : goal.overflow_add-w-3
-overflow_add-w-3 c = omega (arith, info_most c.be16-version.result)
+overflow_add-w-3 c = let v = c.be16-version.result in omega (arith, info_of v _ c.layout_of-w.ensures, info_most v)
 
 pub returns : goal.returns
 unfolding numbers_of
 returns c =
-    let be16 = c.be16-version in
-    let be32 = c.be32-time in
-    let info-at = c.info_at-info in
-    let info-len = c.info_len-w in
-    rw (
-      c.be16-count.ensures,
-      c.be16-size.ensures,
-      c.be32-begin.ensures,
-      info-len.ensures,
-      info-at.ensures,
-      be32.ensures,
-      be16.ensures,
-    )
+    let v = c.be16-version.result in
+    let info = c.be32-2.ensures ∙ ap (λ (k : ℕ). be_at k c.args.file.now 12) (info_is v) in
+    rw (c.be16-2.ensures, c.be16.ensures, c.be32-3.ensures, info_of v _ c.layout_of-w.ensures, info, c.be32.ensures, c.be16-version.ensures)

@@ -1,8 +1,9 @@
+use Rattle.std.proofs.Common.{◌≡◌, length, rules}
 use Rattle.mlg_rules.proofs.HeaderBytes.{start_none, start_some}
 use Rattle.mlg.proofs.header_writing.info_start.Goals as goal
 
-pub returns-then-info-eq0 : goal.returns-then-info-eq0
-returns-then-info-eq0 c = start_none c.args.at c.args.info.now c.if-info-eq0.true
+pub returns-then-is_empty : goal.returns-then-is_empty
+returns-then-is_empty c = let none : length c.args.info.now ≡ 0 = search rules in start_none c.args.at c.args.info.now none
 
-pub returns-else-info-eq0 : goal.returns-else-info-eq0
-returns-else-info-eq0 c = start_some c.args.at c.args.info.now c.if-info-eq0.false
+pub returns-else-is_empty : goal.returns-else-is_empty
+returns-else-is_empty c = let some : length c.args.info.now ≡ 0 → ⊥ = search rules in start_some c.args.at c.args.info.now some

@@ -1,53 +1,43 @@
-use native.Mathlib.Omega.{arith}
-use lib.ListN.{get_or}
+use Rattle.std.proofs.Common.{◌<◌, length, ap, ◌∙◌, arith}
+use Rattle.std.specs.Slice.Iter.{chunks_exact_rest, chunks_exact_size}
 use Rattle.mlg_rules.specs.Layout.{field_len}
-use Rattle.mlg_rules.proofs.LayoutLaws.{field_least}
-use Rattle.mlg_rules.proofs.TypeLaws.{size_most}
-use Rattle.mlg_rules.proofs.LayoutLaws.{one_of}
-use Rattle.mlg_rules.proofs.EachField.{sizes_first, sizes_done}
+use Rattle.mlg_rules.proofs.LayoutLaws.{field_of, field_least}
+use Rattle.mlg_rules.proofs.EachField.{chunk_sizes, chunk_no_sizes, sizes_fit}
 use Rattle.mlg.proofs.header_writing.sizes_of.Goals as goal
 
-pub loop-left-init : goal.loop-left-init
-loop-left-init c = (c.field_len-len.ensures, omega arith, omega arith, omega arith)
+pub chunks_exact-d-items-requires : goal.chunks_exact-d-items-requires
+chunks_exact-d-items-requires c = omega (arith, field_of c.args.version _ c.layout_of.ensures, field_least c.args.version)
 
-pub bounds-fields-at : goal.bounds-fields-at
-bounds-fields-at c =
+pub loop-d-init-derived : goal.loop-d-init-derived
+loop-d-init-derived c =
+    let e = c.into_iter-d-iterator.ensures.into_iter_gives in
     let a = c.args in
-    omega (arith, one_of (field_len a.version) c.loop-left.left c.loop-left-test.true, field_least a.version)
-
-pub overflow_cast-total : goal.overflow_cast-total
-overflow_cast-total c =
-    let a = c.args in
-    let loop = c.loop-left in
-    omega (arith, c.size_of.ensures, size_most (get_or a.fields.now loop.at 0))
+    (omega (arith, ap chunks_exact_size e, c.chunks_exact-d-items.ensures.size, field_of a.version _ c.layout_of.ensures, field_least a.version), tt)
 
 pub overflow_add-total : goal.overflow_add-total
 overflow_add-total c =
     let a = c.args in
-    let loop = c.loop-left in
-    omega (arith, c.size_of.ensures, size_most (get_or a.fields.now loop.at 0))
+    let inv = c.loop-d.invariant in
+    let step = c.in-Some.ensures.steps in
+    omega (
+      arith,
+      inv.1,
+      chunk_sizes a.version _ _ _ step.1.0 (step.1.1 ∙ inv.0),
+      c.from-total.ensures,
+      c.size_of.ensures,
+      sizes_fit a.version a.fields.now,
+    )
 
-pub overflow_add-at : goal.overflow_add-at
-overflow_add-at c =
-    let a = c.args in
-    let loop = c.loop-left in
-    omega (arith, one_of (field_len a.version) loop.left c.loop-left-test.true, field_least a.version)
-
-pub loop-left-preserved : goal.loop-left-preserved
-loop-left-preserved c =
-    let a = c.args in
-    let field-len = c.field_len-len in
-    let loop = c.loop-left in
-    let loop-test = c.loop-left-test in
-    let s = sizes_first a.version a.fields.now loop.left loop.at _ _ loop-test.true field-len.ensures c.size_of.ensures in (
-      field-len.ensures,
-      omega (arith, one_of (field_len a.version) loop.left loop-test.true),
-      omega (arith, c.size_of.ensures, size_most (get_or a.fields.now loop.at 0)),
-      omega arith,
+pub loop-d-preserved : goal.loop-d-preserved
+loop-d-preserved c =
+    let inv = c.loop-d.invariant in
+    let step = c.in-Some.ensures.steps in (
+      step.0 ∙ inv.0,
+      omega (arith, inv.1, chunk_sizes c.args.version _ _ _ step.1.0 (step.1.1 ∙ inv.0), c.from-total.ensures, c.size_of.ensures),
     )
 
 pub returns : goal.returns
 returns c =
-    let a = c.args in
-    let loop = c.loop-left in
-    omega (arith, sizes_done a.version a.fields.now 0 a.fields.now loop.left loop.at c.loop-left-test.false)
+    let inv = c.loop-d.invariant in
+    let short : length (chunks_exact_rest c.loop-d.d-iterator) < field_len c.args.version = omega (arith, inv.0, c.in-None.ensures.steps.1.0) in
+    omega (arith, inv.1, chunk_no_sizes c.args.version _ short)

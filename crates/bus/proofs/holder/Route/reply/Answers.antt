@@ -1,0 +1,17 @@
+use Rattle.std.proofs.Common.{ap, ◌∙◌, arith}
+use Rattle.bus_rules.specs.Holder.{reply_to, answer_with}
+use Rattle.bus_rules.proofs.RowTheorems.{build_lawful}
+use Rattle.bus.proofs.holder.Route.reply.Goals as goal
+
+pub returns : goal.returns
+unfolding reply_to
+returns c =
+    let p = c.requires in
+    let w = c.args.self.in_rows in
+    ap (answer_with _) (c.build.ensures.value ∙ build_lawful _ _ (record {
+      offset = omega (arith, p.1);
+      kind = omega arith;
+      from = omega (arith, w.0);
+      to = omega (arith, w.1);
+      table = omega (arith, p.0);
+    }) p.2)

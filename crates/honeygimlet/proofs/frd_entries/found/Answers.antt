@@ -1,5 +1,0 @@
-use mathlib.Core.Path.{refl}
-use Rattle.honeygimlet.proofs.frd_entries.found.Goals as goal
-
-pub returns : goal.returns
-returns c = rw c.flag.ensures refl

@@ -1,0 +1,13 @@
+use Rattle.listing_rules.specs.Lines.{header_line}
+use Rattle.listing.proofs.Puts.{◌then◌}
+use Rattle.listing.proofs.text.Text.put_header_line.Goals as goal
+
+pub returns : goal.returns
+unfolding header_line
+returns c =
+    rw (← c.from.ensures, ← c.from-2.ensures)
+    (c.put_bytes.ensures
+    then c.put_decimal.ensures
+    then c.put_bytes-2.ensures
+    then c.put_decimal-2.ensures
+    then c.put_bytes-3.ensures)

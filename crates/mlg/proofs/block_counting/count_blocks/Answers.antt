@@ -1,0 +1,10 @@
+use Rattle.std.proofs.Common.{sym, ◌∙◌}
+use Rattle.mlg_rules.proofs.TallyLaws.{count_is, count_none}
+use Rattle.mlg_rules.proofs.LogPlaced.{log_placed}
+use Rattle.mlg.proofs.block_counting.count_blocks.Goals as goal
+
+pub returns-in-Ok : goal.returns-in-Ok
+returns-in-Ok c = record { value = c.count_from.ensures ∙ count_is _ _ (sym c.in-Ok.ensures.0); placed = log_placed }
+
+pub returns-in-Err : goal.returns-in-Err
+returns-in-Err c = record { value = count_none _ _ (sym c.in-Err.ensures.0); placed = log_placed }
