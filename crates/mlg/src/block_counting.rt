@@ -5,23 +5,32 @@ ghost use Rattle.mlg_rules.specs.Log.{log_of, tally_of, count_blocks_of};
 ghost use Rattle.mlg_rules.specs.RoundTrip.{LogPlaced};
 
 use crate::Block;
-use crate::block_reading::{check_block, length_of, read_block};
+use crate::block_reading::{block_at, length_of};
 use crate::header_reading::read_header;
 use wire::Blocks;
 
-// Counts the blocks from a place on; FRD's walks another list of blocks, by another definition. (No `for`: each step is as long as the block that stands there. What ends them is judged once more,
-// for a block holds the number of its refusal, and the count the refusal.)
+// Counts the blocks from a place on; FRD's walks another list of blocks, by another definition. (No `for`: each step is as long as the block
+// that stands there.)
 fn count_from(file: &[u8], size: u16, begin: usize) -> Blocks
     ensures { as_tally result ≡ tally_of size (log_of size file.now begin) }
 {
     let mut at = begin;
     let mut count: u64 = 0;
     loop {
-        let b = read_block(file, size, count, at);
+        let b = match block_at(file, size, count, at) {
+            Ok(b) => b,
+            Err(e) => {
+                return Blocks {
+                    count,
+                    ending: Err(e),
+                    place: at,
+                };
+            }
+        };
         let (Block::Data { .. } | Block::Mark { .. }) = b else {
             return Blocks {
                 count,
-                ending: check_block(file, size, at),
+                ending: Ok(()),
                 place: at,
             };
         };

@@ -1,5 +1,5 @@
 // Reading a block.
-ghost use Rattle.std.specs.Prelude.{◌≡◌, ℕ, ◌+◌, ◌<◌, ◌≤◌, ◌^◌, length, get_or};
+ghost use Rattle.std.specs.Prelude.{◌≡◌, ◌+◌, ◌<◌, ◌≤◌, ◌^◌, length, get_or, Ok};
 ghost use Rattle.wire.specs.Refusals.{number_of};
 ghost use Rattle.wire.specs.Text.{text_len};
 ghost use Rattle.mlg_rules.specs.Block.{block_len, some_len, text_in, last_of, rest_number, parts_of};
@@ -7,6 +7,7 @@ ghost use Rattle.mlg_rules.specs.Block.{read_block_of, block_answer, block_resul
 ghost use Rattle.mlg_rules.specs.Log.{length_of};
 ghost use Rattle.mlg_rules.specs.Numbers.{BlockNumber};
 ghost use Rattle.mlg_rules.specs.RoundTrip.{BlockAlone};
+ghost use Rattle.mlg_rules.specs.declared.Block.{Block};
 
 use crate::Block;
 use wire::Refusal;
@@ -98,17 +99,20 @@ fn block_parts(t: &[u8], size: u16, expected: u8, at: usize) -> Block
     }
 }
 
-// Whether what stands at a place of a file is its end, or a block that nothing refuses.
-pub(crate) fn check_block(file: &[u8], size: u16, at: usize) -> Result<(), Refusal>
-    ensures { (n : ℕ) → number_of result ≡ (block_answer size (read_block_of size n file.now at)).number }
+// The block at a place of a file, or its end, where nothing refuses what stands there.
+pub(crate) fn block_at(file: &[u8], size: u16, earlier: u64, at: usize) -> Result<Block, Refusal>
+    ensures number { number_of result ≡ (block_answer size (read_block_of size earlier file.now at)).number }
+    ensures block { (b : Block) → result ≡ Ok b → b ≡ read_block_of size earlier file.now at }
 {
     if file.len() < at {
         return Err(Refusal::Disagree);
     }
     if file.len() == at {
-        return Ok(());
+        return Ok(Block::End);
     }
-    check_rest(&file[at..], size)
+    let t = &file[at..];
+    check_rest(t, size)?;
+    Ok(block_parts(t, size, wire::counter_after(earlier), at))
 }
 
 // The block at a place of a log whose records have the given length, after the given number of earlier blocks.
@@ -118,16 +122,13 @@ pub fn read_block(file: &[u8], size: u16, earlier: u64, at: usize) -> Block
         × BlockNumber size file.now at (block_answer size result).number }
     ensures alone { BlockAlone }
 {
-    if let Err(e) = check_block(file, size, at) {
-        return Block::Refused {
+    match block_at(file, size, earlier, at) {
+        Ok(b) => b,
+        Err(e) => Block::Refused {
             number: e.number(),
             place: at,
-        };
+        },
     }
-    if file.len() == at {
-        return Block::End;
-    }
-    block_parts(&file[at..], size, wire::counter_after(earlier), at)
 }
 
 // How many bytes of the log a block takes; none for the end and for a refusal.

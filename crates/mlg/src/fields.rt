@@ -107,7 +107,8 @@ fn info_zeros(info: &[u8]) -> usize
 }
 
 // The places of the last 32 zeros of the names and info with its zero, from the end back, each counted from 1; 0 where there are fewer
-// (so has `LastZeros`).
+// (so has `LastZeros`). Out of line, so that `Area::of` is short enough to stand in its callers: else these zero an Area by memset.
+#[inline(never)]
 fn last_zeros(names: &[u8], info: &[u8]) -> [usize; 32]
     requires { length info.now ≤ text_len info.now }
     ensures { LastZeros (area_of names.now info.now) result }

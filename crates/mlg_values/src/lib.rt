@@ -111,14 +111,15 @@ impl Kind {
     }
 }
 
-// Bytes of a raw value of a type, 0 for a number that is no type, as the definition has it.
+const SIZES: [u8; 13] = [1, 1, 2, 2, 4, 4, 8, 4, 0, 0, 1, 2, 4];
+
+// Bytes of a raw value of a type, 0 for a number that is no type. The definition's table, and no match by `Kind`: a listing asks it of each
+// value, and would jump by a table of its own.
+#[tactic(auto, unfolding(mlg_rules::specs::Types::size_of))]
 pub fn size_of(kind: u8) -> u8
     ensures { result ≡ size_of kind }
 {
-    match Kind::of(kind) {
-        Some(k) => k.size(),
-        None => 0,
-    }
+    SIZES.get(usize::from(kind)).copied().unwrap_or(0)
 }
 
 // The byte at a place, 0 where there is none.
@@ -164,13 +165,13 @@ fn check_field(version: u16, field: &[u8]) -> Result<Kind, Refusal>
     checked_kind(byte_at(field, 0), byte_at(field, 51))
 }
 
-// The same, where raw bytes have the type's length.
+// The same, where raw bytes have the type's length: that of its number, which who calls has mostly looked up.
 fn check_value(version: u16, field: &[u8], raw: &[u8]) -> Result<Kind, Refusal>
     ensures number { number_of result ≡ value_number version field.now raw.now }
     ensures kind { (k : Kind) → result ≡ Ok k → kind_number k ≡ type_of field.now }
 {
     let kind = check_field(version, field)?;
-    if raw.len() != usize::from(kind.size()) {
+    if raw.len() != usize::from(size_of(byte_at(field, 0))) {
         return Err(Refusal::Disagree);
     }
     Ok(kind)

@@ -1,15 +1,14 @@
 -- Laws of bytes put into lent memory.
-use Rattle.std.proofs.Common.{◌≡◌, ℕ, ◌+◌, ◌-◌, ◌<◌, ◌≤◌, ◌⊎◌, List, ◌++◌, length, get_or, take, drop, sym, ap, drop-drop, ◌∙◌, inl, inr, append_assoc, arith, length-append, length-take-le, get_or-drop, get_or-take, get_or-append-add, le-leb}
-use borrow.Rule.Slice.PartMut.{put_mid}
+use Rattle.std.proofs.Common.{◌≡◌, ℕ, ◌+◌, ◌-◌, ◌<◌, ◌≤◌, ◌⊎◌, List, ◌++◌, length, get_or, take, drop, sym, ap, ◌∙◌, inl, inr, append_assoc, arith, length-append, length-take-le, get_or-drop, get_or-take, get_or-append-add, le-leb}
 use lib.ListN.{get_or-append}
 use lib.Seq.{paste, take-length, sets, sets-eq}
 use borrow.Author.Tests.{lt-leb}
 use Rattle.wire.specs.Put.{put_at, put_of}
 
--- bytes copied over a part of memory
-pub put_over_part : (out : List ℕ) (at n : ℕ) (bs : List ℕ) → n ≡ length bs → at + length bs ≤ length out → put_mid at n out bs ≡ put_at out at bs
+-- all of them copied, one after the other
+pub paste_all : (out : List ℕ) (at : ℕ) (bs : List ℕ) (i : ℕ) → i ≡ length bs → paste out at bs i ≡ put_at out at bs
 unfolding put_at
-put_over_part out at n bs e h = rw e (simp (drop-drop, append_assoc))
+paste_all out at bs i e = rw (e, take-length bs)
 
 -- they fit
 pub put_fits : (out : List ℕ) (at : ℕ) (bs : List ℕ) → at + length bs ≤ length out → put_of out at bs ≡ put_at out at bs

@@ -1,4 +1,4 @@
-use Rattle.std.proofs.Common.{refl, ◌∙◌}
+use Rattle.std.proofs.Common.{◌∙◌}
 use Rattle.std.proofs.lemmas.Result.{err_from_is_err_and}
 use Rattle.wire.proofs.Orders.{order}
 use Rattle.mlg_rules.specs.Raw.{value_number}
@@ -14,13 +14,11 @@ returns-in_err-kind-clause-number c =
 pub returns-then-raw-from-clause-number : goal.returns-then-raw-from-clause-number
 unfolding value_number
 returns-then-raw-from-clause-number c =
-    let kind = c.in_ok-kind.ensures in
-    let size = c.from.ensures ∙ c.size.ensures in
-    rw (← kind.kind _ refl, ← size) (search order depth 12)
+    let size = c.from.ensures ∙ c.size_of.ensures in
+    rw (← c.byte_at.ensures, ← size) (search order depth 12)
 
 pub returns-clause-number : goal.returns-clause-number
 unfolding value_number
 returns-clause-number c =
-    let kind = c.in_ok-kind.ensures in
-    let size = c.from.ensures ∙ c.size.ensures in
-    rw (← kind.kind _ refl, ← size) (search order depth 12)
+    let size = c.from.ensures ∙ c.size_of.ensures in
+    rw (← c.byte_at.ensures, ← size) (search order depth 12)

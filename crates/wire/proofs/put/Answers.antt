@@ -1,5 +1,5 @@
 use Rattle.std.proofs.Common.{sym, ◌∙◌, arith}
-use Rattle.wire.proofs.Puts.{put_fits, put_over, put_over_part}
+use Rattle.wire.proofs.Puts.{put_fits, put_over}
 use Rattle.wire.proofs.put.Goals as goal
 
 pub returns-then-out-at : goal.returns-then-out-at
@@ -9,6 +9,4 @@ pub returns-then-out-at-2 : goal.returns-then-out-at-2
 returns-then-out-at-2 c = sym (put_over _ _ _ (omega arith))
 
 pub returns : goal.returns
-returns c =
-    let a = c.args in
-    rw c.copy_from_slice.ensures.after (put_over_part a.out.now a.at _ a.bytes.now (omega arith) (omega arith) ∙ sym (put_fits _ _ _ (omega arith)))
+returns c = c.copy.ensures ∙ sym (put_fits _ _ _ (omega arith))

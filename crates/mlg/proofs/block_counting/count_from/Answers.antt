@@ -1,33 +1,40 @@
-use Rattle.std.proofs.Common.{◌+◌, ◌≤◌, ◌<◌, length, sym, ◌∙◌, arith}
+use Rattle.std.proofs.Common.{ℕ, ◌+◌, ◌≤◌, ◌<◌, length, refl, sym, ap, ◌∙◌, arith}
+use Rattle.wire.specs.declared.views.Tally.{Tally}
+use Rattle.wire.proofs.RefusalLaws.{code_ne0}
 use Rattle.mlg_rules.specs.Log.{length_of}
+use Rattle.mlg_rules.proofs.BlockNumbers.{bad_there}
 use Rattle.mlg_rules.proofs.LogLaws.{IsBlock}
 use Rattle.mlg_rules.proofs.TallyLaws.{no_block, some_block, block_takes, at_fits, tally_start, tally_more, tally_ends}
 use Rattle.mlg.proofs.block_counting.count_from.Goals as goal
 use Rattle.mlg.proofs.block_counting.count_from.Goals.{After-length_of-at}
 
-pub loop-at-init : goal.loop-at-init
-loop-at-init c = let a = c.args in (omega arith, omega arith, tally_start a.size a.file.now a.begin)
+pub loop-b-init : goal.loop-b-init
+loop-b-init c = let a = c.args in (omega arith, omega arith, tally_start a.size a.file.now a.begin)
+
+pub returns-in-Err : goal.returns-in-Err
+returns-in-Err c =
+    let l = c.loop-b in
+    let there = bad_there _ l.count _ _ _ c.in-Err.ensures.number (code_ne0 _) in
+    rw c.in-Err.ensures.number (tally_ends _ _ _ _ _ l.invariant.0 refl (λ g. rw (sym there) at g) ∙ l.invariant.2)
 
 pub returns-in_default : goal.returns-in_default
 returns-in_default c =
-    let a = c.args in
-    let l = c.loop-at in
-    let read = c.read_block-b in
-    let ends = no_block read.result c.in_default.not-Data c.in_default.not-Mark in
-    rw (c.check_block.ensures l.count, ← read.ensures.fact.0)
-    (tally_ends _ _ _ _ _ l.invariant.0 (sym read.ensures.fact.0) ends ∙ l.invariant.2)
+    let l = c.loop-b in
+    let ends = rw (c.in-Ok.ensures.block _ refl) at (no_block _ c.in_default.not-Data c.in_default.not-Mark) in
+    let tally : ℕ → Tally = λ n. record { blocks = l.count; ending = n; place = l.at } in
+    ap tally c.in-Ok.ensures.number ∙ tally_ends _ _ _ _ _ l.invariant.0 refl ends ∙ l.invariant.2
 
 -- a block that is passed over takes bytes, and lies within the file
 module _ (c : After-length_of-at) where
-  goes : IsBlock c.read_block-b.result
+  goes : IsBlock c.in-Ok.b
   goes = some_block _ c.in-Data.is
 
-  some : 0 < length_of c.args.size c.read_block-b.result
+  some : 0 < length_of c.args.size c.in-Ok.b
   some = block_takes _ _ goes
 
   inside : let a = c.args in
-      c.loop-at.at + length_of a.size c.read_block-b.result ≤ length a.file.now
-  inside = at_fits _ _ _ _ _ (sym c.read_block-b.ensures.fact.0) goes
+      c.loop-b.at + length_of a.size c.in-Ok.b ≤ length a.file.now
+  inside = at_fits _ _ _ _ _ (sym (c.in-Ok.ensures.block _ refl)) goes
 
 pub overflow_add-at : goal.overflow_add-at
 overflow_add-at c = omega (arith, c.length_of-at.ensures, inside c)
@@ -35,14 +42,14 @@ overflow_add-at c = omega (arith, c.length_of-at.ensures, inside c)
 pub overflow_add-count : goal.overflow_add-count
 overflow_add-count c = omega (arith, inside c)
 
-pub loop-at-smaller : goal.loop-at-smaller
-loop-at-smaller c = omega (arith, c.length_of-at.ensures, some c, inside c)
+pub loop-b-smaller : goal.loop-b-smaller
+loop-b-smaller c = omega (arith, c.length_of-at.ensures, some c, inside c)
 
-pub loop-at-preserved : goal.loop-at-preserved
-loop-at-preserved c =
-    let inv = c.loop-at.invariant in
+pub loop-b-preserved : goal.loop-b-preserved
+loop-b-preserved c =
+    let inv = c.loop-b.invariant in
     rw c.length_of-at.ensures (
       omega (arith, some c, inside c),
       omega (arith, some c),
-      sym (tally_more _ _ _ _ _ inv.0 (sym c.read_block-b.ensures.fact.0) (goes c)) ∙ inv.2,
+      sym (tally_more _ _ _ _ _ inv.0 (sym (c.in-Ok.ensures.block _ refl)) (goes c)) ∙ inv.2,
     )

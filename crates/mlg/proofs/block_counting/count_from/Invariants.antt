@@ -3,9 +3,9 @@ use Rattle.mlg_rules.specs.Log.{log_of, tally_of}
 use Rattle.mlg_rules.proofs.TallyLaws.{tally_from}
 use Rattle.mlg.proofs.block_counting.count_from.Given as goal
 
-abbrev pub invariant-loop-at : goal.invariant-loop-at
-invariant-loop-at l =
+abbrev pub invariant-loop-b : goal.invariant-loop-b
+invariant-loop-b l =
     (l.count ≤ length l.file) × (l.count ≤ l.at) × (tally_from l.size l.count l.file l.at ≡ tally_of l.size (log_of l.size l.file l.begin))
 
-abbrev pub decreases-loop-at : goal.decreases-loop-at
-decreases-loop-at l = length l.file - l.at
+abbrev pub decreases-loop-b : goal.decreases-loop-b
+decreases-loop-b l = length l.file - l.at
