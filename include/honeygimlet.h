@@ -13,18 +13,18 @@
  * them different memory do not meet. No call's time grows with a product of two lengths. What it grows with, and the bytes of stack
  * that a call takes at most, beside its arguments, its answer and what memcpy takes (the first row that fits):
  *
- *   hg_bus_serve                              size of a burnt or reloaded table, at most 2,056  384
+ *   hg_bus_serve                              size of a burnt or reloaded table, at most 2,056  352
  *   hg_bus_*                                  nothing                                             8
- *   hg_bridge_*                               nothing                                           957
- *   hg_mlg_read_block                         record length                                     136
- *   hg_mlg_write_data                         record length                                      80
+ *   hg_bridge_*                               nothing                                           845
+ *   hg_mlg_read_block                         record length                                      72
+ *   hg_mlg_write_data                         record length                                      56
  *   hg_mlg_write_mark, hg_mlg_*_value         nothing                                            88
- *   hg_mlg_write_header                       fields, names and info                          1,016
- *   hg_mlg_read_header, hg_mlg_*_span         data begin: the header is judged                1,272
- *   hg_mlg_count_blocks                       length of the file                              1,320
- *   hg_mlg_list                               length of the file, at most 65,536              1,544
+ *   hg_mlg_write_header                       fields, names and info                            984
+ *   hg_mlg_read_header, hg_mlg_*_span         data begin: the header is judged                1,240
+ *   hg_mlg_count_blocks                       length of the file                              1,304
+ *   hg_mlg_list                               length of the file, at most 65,536              1,512
  *   hg_frd_count_blocks                       number of blocks                                    8
- *   hg_frd_write_data                         record length                                      64
+ *   hg_frd_write_data                         record length                                      40
  *   hg_frd_*                                  nothing                                            16
  *
  * "Numbers" in the comments are the refusals in the order in which they are judged; 0, done, is left out.

@@ -112,7 +112,9 @@ fn taken(b: Bridge, k: usize, first: &mut [u8], second: &[u8], f: bus::Frame) ->
     with_slot(b, k, advanced(x))
 }
 
-// An incoming frame: 17 where no waiting slot awaits it; else that slot takes it. It yields no frame; C gets the same struct as of a turn.
+// An incoming frame: 17 where no waiting slot awaits it; else that slot takes it. It yields no frame; C gets the same struct as of a turn. (It stands in
+// its callers, for less stack.)
+#[inline(always)]
 pub fn frame(b: Bridge, first: &mut [u8], second: &[u8], f: bus::Frame) -> After<Option<bus::Frame>>
     ensures { (as_stepped result ≡ stepped_of (frame_of b (both first.old second.now) f))
         × (first.new ≡ (frame_of b (both first.old second.now) f).buffers.first) }

@@ -22,11 +22,12 @@ pub ◌then◌ : {t u v : Text} {a b : List ℕ} → Puts t a u → Puts u b v �
           let n : u.len ≡ t.len + length a = x.counted in
           both x (q.text (omega arith));
       same_output = q.same_output ∙ p.same_output;
+      no_shorter = omega (arith, p.no_shorter, q.no_shorter);
     }
 
 -- putting nothing
 pub puts_none : (t : Text) → Puts t [] t
-puts_none t = record { same_length = refl; text = λ h. puts_nothing t.out.now t.len; same_output = refl }
+puts_none t = record { same_length = refl; text = λ h. puts_nothing t.out.now t.len; same_output = refl; no_shorter = omega arith }
 
 -- the same text under another name
 pub puts_as : {t u : Text} {a : List ℕ} (b : List ℕ) → a ≡ b → Puts t a u → Puts t b u

@@ -33,7 +33,8 @@ impl<'a> Text<'a> {
         self.put_printed(&field[1..1 + len]);
     }
 
-    // `field I T NAME`
+    // `field I T NAME`. It stands alone, since within the whole listing its name is searched with too few registers.
+    #[inline(never)]
     fn put_field_line(&mut self, index: u16, field: &[u8])
         requires { 35 ≤ length field.now }
         ensures { Puts self.old (field_line index field.now) self.new }

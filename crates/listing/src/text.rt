@@ -38,13 +38,24 @@ impl<'a> Text<'a> {
         self.put_decimal(z.unsigned_abs());
     }
 
-    // Puts a text as it is printed.
+    // Puts a text as it is printed: all at once, since byte by byte each would be tested for room.
     pub(crate) fn put_printed(&mut self, text: &[u8])
         ensures { Puts self.old (printed text.now) self.new }
     {
-        for b in text {
-            self.put_bytes(&[printed_byte(*b)]);
+        let at = self.len;
+        self.put_bytes(text);
+        if self.len <= self.out.len() {
+            make_printed(&mut self.out[at..self.len]);
         }
+    }
+}
+
+// Turns a text into what is printed of it.
+fn make_printed(text: &mut [u8])
+    ensures { text.new ≡ printed text.old }
+{
+    for b in text {
+        *b = printed_byte(*b);
     }
 }
 

@@ -11,4 +11,5 @@ returns c =
       same_length = search rules;
       text = λ h. puts_bytes a.self.now.out.now a.self.now.len a.bytes.now _ _ c.put.ensures (search rules) (omega (arith, c.saturating_add-self.ensures));
       same_output = refl;
+      no_shorter = omega (arith, c.saturating_add-self.ensures);
     }

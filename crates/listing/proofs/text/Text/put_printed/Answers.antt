@@ -1,13 +1,33 @@
-use mathlib.Core.Path.{refl}
-use Rattle.listing_rules.proofs.PrintedText.{printed_next, printed_end}
-use Rattle.listing.proofs.Puts.{completes_all, completes_next, completed}
+use mathlib.Core.Path.{◌∙◌}
+use native.Mathlib.Omega.{arith}
+use Rattle.listing_rules.proofs.PrintedText.{printed_length}
+use Rattle.listing.proofs.Printed.{same_printed, puts_printed, puts_over}
 use Rattle.listing.proofs.text.Text.put_printed.Goals as goal
 
-pub loop-b-init : goal.loop-b-init
-loop-b-init c = completes_all _ _ _ refl
+pub slice_bounds-make_printed-count : goal.slice_bounds-make_printed-count
+slice_bounds-make_printed-count c = c.put_bytes.ensures.no_shorter
 
-pub loop-b-preserved : goal.loop-b-preserved
-loop-b-preserved c = completes_next c.loop-b.invariant (printed_next _ _ _ c.loop-b-test.true c.printed_byte.ensures) c.put_bytes.ensures
+pub slice_bounds-make_printed-start : goal.slice_bounds-make_printed-start
+slice_bounds-make_printed-start c = c.put_bytes.ensures.no_shorter
 
-pub returns : goal.returns
-returns c = completed c.loop-b.invariant (printed_end _ _ c.loop-b-test.false)
+pub returns-then-self : goal.returns-then-self
+returns-then-self c =
+    let put = c.put_bytes.ensures in
+    let text = c.args.text.now in
+    record {
+      same_length = same_printed _ _ _ _ c.make_printed.ensures ∙ put.same_length;
+      text = λ h. puts_printed _ _ _ _ text _ (put.text (omega (arith, printed_length text))) c.make_printed.ensures;
+      same_output = put.same_output;
+      no_shorter = put.no_shorter;
+    }
+
+pub returns-else-self : goal.returns-else-self
+returns-else-self c =
+    let put = c.put_bytes.ensures in
+    let text = c.args.text.now in
+    record {
+      same_length = put.same_length;
+      text = λ h. puts_over _ _ _ _ text (put.text (omega (arith, printed_length text))) c.if-self.false;
+      same_output = put.same_output;
+      no_shorter = put.no_shorter;
+    }
