@@ -2,6 +2,8 @@
 // the length and a sum.
 #![tactic(auto)]
 
+ghost use Rattle.std.specs.Prelude.{◌<◌};
+
 use input::read_full;
 use std::env::{Env, FillError};
 use std::fs::File;
@@ -17,7 +19,9 @@ fn decimal(rt: &impl Print, x: u64) {
 }
 
 // A number that tells texts apart.
-fn sum_of(s: &[u8]) -> u64 {
+fn sum_of(s: &[u8]) -> u64
+    ensures { result < 1000003 }
+{
     let mut sum = 0;
     for b in s {
         sum = (sum * 31 + u64::from(*b)) % 1000003;
