@@ -15,7 +15,7 @@
  *
  *   hg_bus_serve                              size of a burnt or reloaded table, at most 2,056  352
  *   hg_bus_*                                  nothing                                             8
- *   hg_bridge_*                               nothing                                           845
+ *   hg_bridge_*                               nothing                                           829
  *   hg_mlg_read_block                         record length                                      72
  *   hg_mlg_write_data                         record length                                      56
  *   hg_mlg_write_mark, hg_mlg_*_value         nothing                                            88

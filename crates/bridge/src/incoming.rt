@@ -14,7 +14,7 @@ ghost use Rattle.bridge_rules.specs.Incoming.{content_number, awaiting, reply_nu
 
 use crate::answers::{check_lent, refused};
 use crate::progress::{advanced, chunk_len};
-use crate::state::{compares, with_slot};
+use crate::state::compares;
 use crate::{After, Bridge, DIFFERENT, Refusal, Slot, WAITING};
 
 // Whether slot k waits for a frame of these parts and this length.
@@ -88,6 +88,7 @@ fn differs(k: usize, x: Slot, second: &[u8], f: bus::Frame) -> bool
 
 // Slot k takes its reply: the bytes are stored, and it is ready for the next or done. A checked write that reads back ends as different at
 // bytes that it did not send, and these are not stored.
+#[inline(always)]
 fn taken(b: Bridge, k: usize, first: &mut [u8], second: &[u8], f: bus::Frame) -> Bridge
     requires { (k < 4) × (f.len ≤ 8) × (128 * k + (slot b k).progress + f.len ≤ length second.now) }
     ensures { (result ≡ with_slots b (set b.slots k
@@ -95,21 +96,20 @@ fn taken(b: Bridge, k: usize, first: &mut [u8], second: &[u8], f: bus::Frame) ->
         × (first.new ≡ cond (differs k (slot b k) second.now f) first.old
         (put_of first.old (128 * k + (slot b k).progress) (content f))) }
 {
-    let x = b.slots[k];
+    let mut slots = b.slots;
+    let x = slots[k];
     if differs(k, x, second, f) {
-        return with_slot(
-            b,
-            k,
-            Slot {
-                phase: DIFFERENT,
-                sends: 0,
-                left: 0,
-                ..x
-            },
-        );
+        slots[k] = Slot {
+            phase: DIFFERENT,
+            sends: 0,
+            left: 0,
+            ..x
+        };
+        return Bridge { slots, ..b };
     }
     bus::frames::put_content(first, 128 * k + x.progress as usize, f);
-    with_slot(b, k, advanced(x))
+    slots[k] = advanced(x);
+    Bridge { slots, ..b }
 }
 
 // An incoming frame: 17 where no waiting slot awaits it; else that slot takes it. It yields no frame; C gets the same struct as of a turn. (It stands in

@@ -10,7 +10,7 @@ use crate::answers::{check_lent, refused};
 use crate::progress::carried;
 use crate::search::next_ready;
 use crate::sending::{Buffers, Sending};
-use crate::state::{asks, with_slot};
+use crate::state::asks;
 use crate::{After, Bridge, GAVE_UP, READY, Slot, WAITING};
 
 // A waiting slot one turn older.
@@ -96,7 +96,9 @@ fn send_for(b: Bridge, k: usize, lent: Buffers<'_>) -> After<Option<bus::Frame>>
     requires { (sound b ≡ true) × (k < 4) × (is_ready (slot b k).phase ≡ true) }
     ensures { as_stepped result ≡ stepped_of (send_for b (both lent.entry.first.now lent.entry.second.now) (some k)) }
 {
-    let x = b.slots[k];
+    let mut slots = b.slots;
+    let x = slots[k];
+    slots[k] = sent_slot(x);
     let sending = Sending {
         own: b.own,
         k,
@@ -104,9 +106,10 @@ fn send_for(b: Bridge, k: usize, lent: Buffers<'_>) -> After<Option<bus::Frame>>
     };
     After {
         bridge: Bridge {
+            slots,
             last: k as u8,
             rests: sent_rests(b.rests, k, x),
-            ..with_slot(b, k, sent_slot(x))
+            ..b
         },
         answer: Ok(Some(sending.frame(lent))),
     }

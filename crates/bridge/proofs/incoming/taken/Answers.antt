@@ -10,9 +10,9 @@ differs-requires c = c.requires
 pub returns-then-differs : goal.returns-then-differs
 unfolding slot differed
 returns-then-differs c =
-    rw (c.with_slot.ensures, sym c.differs.ensures ∙ c.if-differs.true) (refl, refl)
+    rw (sym c.differs.ensures ∙ c.if-differs.true) (refl, refl)
 
 pub returns : goal.returns
 unfolding slot
 returns c =
-    rw (c.with_slot-2.ensures, c.advanced.ensures, c.put_content.ensures, sym c.differs.ensures ∙ c.if-differs.false) (refl, refl)
+    rw (c.advanced.ensures, c.put_content.ensures, sym c.differs.ensures ∙ c.if-differs.false) (refl, refl)

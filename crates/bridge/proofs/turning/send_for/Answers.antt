@@ -27,4 +27,4 @@ sent_slot-requires c =
 pub returns : goal.returns
 unfolding send_for slot stepped_of
 returns c =
-    rw (c.frame.ensures, c.with_slot.ensures, c.sent_slot.ensures, c.sent_rests.ensures)
+    rw (c.frame.ensures, c.sent_slot.ensures, c.sent_rests.ensures)
